@@ -282,19 +282,29 @@ pub fn begin<R: Wait + Copy + Clone + Drop>(rt: R, alloc: Global) -> Result<Box<
 impl<R: Wait + Copy + Clone + Drop> Pair<R> {
     /// Makes a step.
     pub fn step(&mut self, step: &str, got: &mut Got) {
-        match (&mut self.both, step, step.split_once(' ')) {
-            (_, _, Some(("learn", call))) => self.learn(call, got),
-            (_, _, Some(("on", rest))) => match Both::on(self.rt, self.alloc, rest) {
+        match step.split_once(' ') {
+            Some(("learn", call)) => self.learn(call, got),
+            Some(("on", rest)) => match Both::on(self.rt, self.alloc, rest) {
                 Ok(both) => self.both = Some(both),
                 Err(bad) => got.bad(bad),
             },
-            (Some(both), "each", _) => both.each(&self.calls, got),
-            (Some(both), _, Some(("turn", rate))) => both.turn(rate, got),
-            (Some(both), _, Some(("random", rest))) => match times_of(rest) {
+            _ => self.tell(step, got),
+        }
+    }
+
+    /// Makes a step of both bars.
+    fn tell(&mut self, step: &str, got: &mut Got) {
+        let Some(both) = &mut self.both else {
+            return got.bad(Bad::Step);
+        };
+        match (step, step.split_once(' ')) {
+            ("each", _) => both.each(&self.calls, got),
+            (_, Some(("turn", rate))) => both.turn(rate, got),
+            (_, Some(("random", rest))) => match times_of(rest) {
                 Ok(times) => both.random(&self.calls, times, got),
                 Err(bad) => got.bad(bad),
             },
-            (Some(both), _, Some(("call", call))) => {
+            (_, Some(("call", call))) => {
                 if both.is_same(call, got) {
                     got.text("same");
                 }

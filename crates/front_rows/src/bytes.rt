@@ -180,20 +180,30 @@ fn counts<P: Moves + Drop>(over: &mut Over<P>, (name, count): (&str, usize), got
     let Some(wrapped) = &mut over.wrapped else {
         return got.bad(Bad::Step);
     };
-    match (name, over.room.get_mut(..count)) {
-        ("consume", _) => wrapped.consume(count),
-        ("drain", _) => drain(wrapped, count, got),
-        ("poll_next", _) => nexts(wrapped, &over.task, count, got),
-        ("room", Some(room)) => got.bytes(room),
-        ("read", Some(room)) => {
+    match name {
+        "consume" => wrapped.consume(count),
+        "drain" => drain(wrapped, count, got),
+        "poll_next" => nexts(wrapped, &over.task, count, got),
+        _ => reads(over, (name, count), got),
+    }
+}
+
+/// A read into the front of the room, or the room itself.
+fn reads<P: Moves + Drop>(over: &mut Over<P>, (name, count): (&str, usize), got: &mut Got) {
+    let (Some(wrapped), Some(room)) = (&mut over.wrapped, over.room.get_mut(..count)) else {
+        return got.bad(Bad::Step);
+    };
+    match name {
+        "room" => got.bytes(room),
+        "read" => {
             let read = wrapped.read(room);
             push_read(read, room, got);
         }
-        ("read_exact", Some(room)) => match wrapped.read_exact(room) {
+        "read_exact" => match wrapped.read_exact(room) {
             Ok(()) => got.bytes(room),
             Err(e) => got.text(kind_name(e.kind())),
         },
-        ("poll_read", Some(room)) => poll(wrapped, &over.task, Asked::Read(room), got),
+        "poll_read" => poll(wrapped, &over.task, Asked::Read(room), got),
         _ => got.bad(Bad::Step),
     }
 }

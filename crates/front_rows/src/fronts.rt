@@ -202,10 +202,12 @@ impl<R: Wait + Copy + Clone + Drop> Fronts<R> {
     /// The last owner goes: it is given up, or dropped.
     fn goes(&mut self, is_released: bool, got: &mut Got) {
         self.answer = Answered::Untold;
-        match (self.bars.pop(), is_released) {
-            (Some(bar), true) => bar.0.release(),
-            (Some(bar), false) => drop(bar),
-            (None, _) => got.bad(Bad::Step),
+        match self.bars.pop() {
+            Some(bar) => match is_released {
+                true => bar.0.release(),
+                false => drop(bar),
+            },
+            None => got.bad(Bad::Step),
         }
     }
 
@@ -467,7 +469,7 @@ impl<R: AllocGlobal + RandomSource + Wait + Copy + Clone + Drop> Fronts<R> {
     fn wraps(&mut self, name: &str, rest: &str, got: &mut Got) {
         let (place, script) = headed(rest);
         let wrapped = match (self.bar(place), script_of(self.maker.alloc, script)) {
-            (Some(bar), Ok(inner)) => wrapped(&self.maker, bar, (name, inner)),
+            (Some(bar), Ok(inner)) => wrap_by(&self.maker, bar, (name, inner)),
             (None, _) => Err(Bad::Step),
             (_, Err(bad)) => Err(bad),
         };
@@ -479,7 +481,7 @@ impl<R: AllocGlobal + RandomSource + Wait + Copy + Clone + Drop> Fronts<R> {
 }
 
 /// What a bar wraps by the call of a name, to be asked.
-fn wrapped<R: AllocGlobal + RandomSource + Wait + Copy + Clone + Drop>(
+fn wrap_by<R: AllocGlobal + RandomSource + Wait + Copy + Clone + Drop>(
     maker: &Maker<R>,
     bar: &Front<R>,
     (name, inner): (&str, Scripted),

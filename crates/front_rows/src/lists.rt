@@ -41,17 +41,22 @@ pub fn begin(alloc: Global, rest: &str) -> Result<Box<List>, Bad> {
 
 /// Makes a step, or looks at the bar.
 pub fn step(list: &mut List, step: &str, got: &mut Got) {
-    match (&mut list.wrapped, step) {
-        (_, "unwrap") => unwraps(list, got),
-        (Some(wrapped), "next") => push_item(wrapped.next(), got),
-        (Some(wrapped), "next_back") => push_item(wrapped.next_back(), got),
-        (Some(wrapped), "size") => push_size(wrapped, got),
-        (Some(wrapped), "last") => match wrapped.last_draw() {
+    if step == "unwrap" {
+        return unwraps(list, got);
+    }
+    let Some(wrapped) = &mut list.wrapped else {
+        return got.bad(Bad::Step);
+    };
+    match step {
+        "next" => push_item(wrapped.next(), got),
+        "next_back" => push_item(wrapped.next_back(), got),
+        "size" => push_size(wrapped, got),
+        "last" => match wrapped.last_draw() {
             Some(drawn) => got.answer(drawn),
             None => got.text("none"),
         },
-        (Some(wrapped), "finished") => got.flag(wrapped.progress.finished),
-        (Some(wrapped), "stands") => wrapped.progress.push(got),
+        "finished" => got.flag(wrapped.progress.finished),
+        "stands" => wrapped.progress.push(got),
         _ => got.bad(Bad::Step),
     }
 }

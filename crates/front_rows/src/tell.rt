@@ -161,10 +161,12 @@ fn dressed<R: Wait + Copy + Clone + Drop>(
         "template" => set_template(bar, text),
         "with_message" => build(bar, Built::Message(text)),
         "with_prefix" => build(bar, Built::Prefix(text)),
-        _ => match (name, spinner(alloc, text)) {
-            ("set_style", Ok(style)) => bar.set_style(style),
-            (_, Ok(style)) => build(bar, Built::Style(style)),
-            (_, Err(refusal)) => Err(refusal),
+        _ => match spinner(alloc, text) {
+            Ok(style) => match name {
+                "set_style" => bar.set_style(style),
+                _ => build(bar, Built::Style(style)),
+            },
+            Err(refusal) => Err(refusal),
         },
     }
 }

@@ -18,20 +18,32 @@ type Target = ProgressDrawTarget<Term<Vec<u8>>>;
 pub fn asked(rest: &str, at: At, got: &mut Got) {
     let mut words = Words::of(rest);
     let name = words.word();
-    match (name, facts(&mut words, at)) {
-        ("bar", Ok(facts)) => match ticked(facts, at) {
-            Ok(answer) => got.answer(answer),
-            Err(bad) => got.bad(bad),
+    match facts(&mut words, at) {
+        Ok(facts) => match name {
+            "bar" => push_ticked(facts, at, got),
+            _ => push_hidden(target(name, facts, (words.rest(), at)), got),
         },
-        (_, Ok(facts)) => match target(name, facts, (words.rest(), at)) {
-            Ok(target) => got.text(if target.is_hidden() {
-                "hidden"
-            } else {
-                "shown"
-            }),
-            Err(bad) => got.bad(bad),
-        },
-        (_, Err(bad)) => got.bad(bad),
+        Err(bad) => got.bad(bad),
+    }
+}
+
+/// Appends what a tick of a bar answers there.
+fn push_ticked(facts: Facts, at: At, got: &mut Got) {
+    match ticked(facts, at) {
+        Ok(answer) => got.answer(answer),
+        Err(bad) => got.bad(bad),
+    }
+}
+
+/// Appends whether a target is hidden.
+fn push_hidden(target: Result<Target, Bad>, got: &mut Got) {
+    match target {
+        Ok(target) => got.text(if target.is_hidden() {
+            "hidden"
+        } else {
+            "shown"
+        }),
+        Err(bad) => got.bad(bad),
     }
 }
 

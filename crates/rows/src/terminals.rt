@@ -62,10 +62,12 @@ fn resize<T: Resize>(term: &mut T, rest: &str, got: &mut Got) {
 }
 
 fn write<T: TermLike>(term: &mut T, (name, text): (&str, &str), at: At, got: &mut Got) {
-    match (name, unescaped(at.alloc, text)) {
-        ("line", Ok(text)) => push_done(term.write_line(text.as_str()), got),
-        (_, Ok(text)) => push_done(term.write_str(text.as_str()), got),
-        (_, Err(bad)) => got.bad(bad),
+    match unescaped(at.alloc, text) {
+        Ok(text) => match name {
+            "line" => push_done(term.write_line(text.as_str()), got),
+            _ => push_done(term.write_str(text.as_str()), got),
+        },
+        Err(bad) => got.bad(bad),
     }
 }
 
