@@ -123,21 +123,17 @@ fn small(rt: &impl Abort, alloc: Global) -> InMemoryTerm {
     InMemoryTerm::new(alloc, 5, 1).expect(rt, "granted")
 }
 
-/// A bar that says `ab` on this terminal, in a box.
-fn boxed_bar<T: TermLike + Drop + 'static>(
-    rt: &impl Abort,
-    alloc: Global,
-    term: T,
-) -> Shown<Boxed> {
-    let term: Boxed = Box::new(alloc, term).expect(rt, "granted");
-    Shown::on(alloc, "ab", term).expect(rt, "granted")
+/// A small terminal in a box.
+fn boxed(rt: &impl Abort, alloc: Global) -> Boxed {
+    Box::new(alloc, small(rt, alloc)).expect(rt, "granted")
 }
 
 #[test]
 fn a_boxed_terminal_answers_as_the_plain_one(rt: HostRuntime) {
     let plain = Shown::on(rt.alloc(), "ab", small(&rt, rt.alloc())).expect(&rt, "granted");
     draws_the_script(&rt, plain);
-    draws_the_script(&rt, boxed_bar(&rt, rt.alloc(), small(&rt, rt.alloc())));
+    let boxed = Shown::on(rt.alloc(), "ab", boxed(&rt, rt.alloc())).expect(&rt, "granted");
+    draws_the_script(&rt, boxed);
 }
 
 /// How often the bar's terminal has failed.
@@ -153,11 +149,15 @@ fn fails_at_a_line<T: TermLike + Drop>(rt: &impl Abort, mut bar: Shown<T>) {
     same!(*rt; (bar.makes(Step::Log("l")), faults(&bar)), (Ok(Drawn::Yes), Some(1)));
 }
 
-/// The fourth call of the terminal fails.
+/// A boxed terminal of which the fourth call fails.
+fn failing(rt: &impl Abort, alloc: Global) -> Boxed {
+    let inner = InMemoryTerm::new(alloc, 5, 10).expect(rt, "granted");
+    Box::new(alloc, FailsOnce::new(inner, 4)).expect(rt, "granted")
+}
+
 #[test]
 fn a_boxed_terminal_that_fails(rt: HostRuntime) {
-    let inner = InMemoryTerm::new(rt.alloc(), 5, 10).expect(&rt, "granted");
-    let bar = boxed_bar(&rt, rt.alloc(), FailsOnce::new(inner, 4));
+    let bar = Shown::on(rt.alloc(), "ab", failing(&rt, rt.alloc())).expect(&rt, "granted");
     fails_at_a_line(&rt, bar);
 }
 
