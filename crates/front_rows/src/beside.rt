@@ -187,21 +187,23 @@ impl<R: Wait + Copy + Clone + Drop> Both<R> {
         }
     }
 
-    /// Another target of this rate for both.
+    /// Another target of this rate for both; what the shared one answers.
+    fn turned(&mut self, rate: &str) -> Result<Told, Bad> {
+        let one = target(self.alloc, self.room, rate)?;
+        let other = target(self.alloc, self.room, rate)?;
+        let answer = self.shared.0.set_draw_target(one);
+        let _ = self.lone.0.set_draw_target(other);
+        Ok(answer)
+    }
+
+    /// Another target for both, and whether they show the same.
     fn turn(&mut self, rate: &str, got: &mut Got) {
-        let targets = (
-            target(self.alloc, self.room, rate),
-            target(self.alloc, self.room, rate),
-        );
-        match targets {
-            (Ok(one), Ok(other)) => {
-                let answer = self.shared.0.set_draw_target(one);
-                let _ = self.lone.0.set_draw_target(other);
+        match self.turned(rate) {
+            Ok(answer) => {
                 got.answer(answer);
                 got.text(if self.show_same() { " same" } else { " rows" });
             }
-            (Err(bad), _) => got.bad(bad),
-            (_, Err(bad)) => got.bad(bad),
+            Err(bad) => got.bad(bad),
         }
     }
 
