@@ -164,14 +164,12 @@ fn recluster(alloc: Global, numbers: &mut Numbers, style: &mut Style) -> Held {
     }
 }
 
-/// Texts of a spinner.
-const TICKS: &[&str] = &["-", "", "国", "ab"];
-
 /// The same with the texts of a spinner.
 fn respin(numbers: &mut Numbers, style: &mut Style) -> Held {
+    let strings = ["-", "", "国", "ab"];
     let count = numbers.below(5);
     let copy = style.try_clone()?;
-    match copy.tick_strings(TICKS.get(..count).unwrap_or(&[])) {
+    match copy.tick_strings(strings.get(..count).unwrap_or(&[])) {
         Ok(made) => {
             **style = made;
             Law::Builder.holds(count > 1)
