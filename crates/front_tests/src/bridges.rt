@@ -76,7 +76,7 @@ fn two_threads_log_through_a_bridge(rt: HostRuntime) {
 // ---- filters, and forms of lines
 
 fn log_each_level<L: Log>(rt: &L) {
-    warn!(rt; "w");
+    warn!(rt; "w\nx");
     info!(rt; "i");
     error!(rt; "e\nf");
 }
@@ -118,8 +118,9 @@ fn filters_and_forms(rt: HostRuntime) {
     let board = recorded(rt, rt.alloc());
     same!(rt; filtered(rt, &board), 0);
     same!(rt; counted(&board, Kind::Any), 2);
-    same!(rt; counted(&board, Kind::Log("WARN  w")), 1);
+    same!(rt; counted(&board, Kind::Log("WARN  w\nx")), 1);
     on_each_line(rt, &board);
+    same!(rt; counted(&board, Kind::Log("WARN  w\nWARN  x")), 1);
     same!(rt; counted(&board, Kind::Log("ERROR e\nERROR f")), 1);
     in_own_form(rt, &board);
     same!(rt; counted(&board, Kind::Log("e\nf")), 1);

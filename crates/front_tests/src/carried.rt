@@ -183,7 +183,7 @@ fn it_can_wrap_an_iterator(rt: HostRuntime) {
     let style = percents(alloc).expect(&rt, "granted");
     let list = three(&rt, alloc).progress_with_style(alloc, style, setup(&rt, alloc));
     owned_doubles(&rt, alloc, list);
-    let mut list = three(&rt, alloc).progress_with(led_of(rt, alloc, 3));
+    let mut list = three(&rt, alloc).progress_with(bar_of(rt, alloc, 3));
     doubles(&rt, alloc, &mut list);
 }
 

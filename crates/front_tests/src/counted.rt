@@ -5,6 +5,7 @@ use crate::fronts::{Bar, another_of, bar_shows, setup};
 use crate::gates::Open;
 use indicatif::{
     BarWorker, Done, ParallelProgressIterator, ProgressBar, ProgressStyle, run_workers,
+    run_workers_with,
 };
 use std::alloc::Global;
 use std::process::Abort;
@@ -97,6 +98,11 @@ fn pieces_over_a_shared_bar(rt: HostRuntime) {
     same!(rt; made[1].as_slice(), [6].as_slice());
     holds!(rt; made[2].is_empty());
     same!(rt; bar.position(), 3);
+    let mut owner = another_of(&rt, &bar);
+    let double = |x: &u32| x.wrapping_mul(2);
+    let made = run_workers_with(&rt, alloc, pieces.as_slice(), double, &Open, &mut owner);
+    same!(rt; made.expect(&rt, "granted").len(), 3);
+    same!(rt; bar.position(), 6);
 }
 
 #[test]
@@ -108,7 +114,11 @@ fn a_list_over_a_shared_bar(rt: HostRuntime) {
     let list = numbers.as_slice().progress_with(bar);
     let (made, bar) = list.map_collect(&rt, alloc, |x: &u32| x.wrapping_mul(2));
     same!(rt; made.expect(&rt, "granted").as_slice(), [2, 4, 6].as_slice());
-    bar.bar.release();
     same!(rt; other.position(), 3);
+    let list = numbers.as_slice().progress_with(bar);
+    let (answer, bar) = list.for_each(&rt, |_x: &u32| ());
+    same!(rt; answer, Ok(()));
+    bar.bar.release();
+    same!(rt; other.position(), 6);
     holds!(rt; !other.is_finished());
 }

@@ -6,26 +6,17 @@ use indicatif::{
     ProgressStyle, Reading, Refusal, Setup, StepClock,
 };
 use std::alloc::Global;
-use std::ops::Deref;
 use std::process::Abort;
 use std::sync::Wait;
 
 /// A bar that is shared.
 pub type Bar<R> = ProgressBar<InMemoryTerm, StepClock, R>;
 
-/// A shared bar in a type of the tests' own, which moves as the bar does. Generic code that goes along with any bar is proved in a tenth of
-/// the time with it, since the prover compares an instance of a library's type by all that it owns.
+/// A shared bar in a type of the tests' own, which moves as the bar does, but for `place_after`, which takes two steps. Generic code that
+/// goes along with any bar is proved in a tenth of the time with it: the prover compares an instance of a library's type by all that it owns.
 #[derive(Drop)]
 pub struct Led<R: Wait + Clone + Drop> {
     pub bar: Bar<R>,
-}
-
-impl<R: Wait + Clone + Drop> Deref for Led<R> {
-    type Target = Bar<R>;
-
-    fn deref(&self) -> &Bar<R> {
-        &self.bar
-    }
 }
 
 impl<R: Wait + Clone + Drop> Moves for Led<R> {

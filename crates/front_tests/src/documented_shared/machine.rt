@@ -32,7 +32,7 @@ fn unnamed() -> Facts {
     }
 }
 
-/// Two letters, and what ends their row; a terminal without a name is hidden.
+/// A terminal that is told another size; two letters, and what ends their row; and a terminal without a name, which is hidden.
 #[test]
 fn rows_of_their_own(rt: HostRuntime) {
     let mut own = OwnRows::new(Term::new(Vec::new(rt.alloc()), 24, 79));
@@ -66,9 +66,9 @@ fn a_style_for_standard_error(rt: HostRuntime) {
     same!(rt; last_spinner(&style), 1);
 }
 
-/// A bar that isn't shared, by what is told of a terminal without a name, and by what the machine tells.
+/// A setup for a terminal without a name, which is hidden; a bar that stands alone; and a list with a bar of its own.
 #[test]
-fn a_lone_bar_on_standard_error(rt: HostRuntime) {
+fn bars_of_one_owner_on_standard_error(rt: HostRuntime) {
     let facts = unnamed();
     let setup: TerminalSetup<Stderr> = told_setup(&rt, rt.stderr(), facts).expect(&rt, "granted");
     holds!(rt; setup.target.is_hidden());

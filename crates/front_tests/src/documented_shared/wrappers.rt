@@ -12,12 +12,12 @@ use std::sync::Wait;
 use std::vec::IntoIter;
 use tokio::io::{AsyncRead, AsyncWrite};
 
-/// A stream that a bar goes along with.
+/// Wraps a stream, which the bar goes along with.
 pub fn streamed<S: Stream + Drop, R: Wait + Clone + Drop + Abort>(rt: &R, bar: &Bar<R>, stream: S) {
     let mut wrapped = bar.wrap_stream(stream).expect(rt, "granted");
 }
 
-/// A reader that is polled.
+/// Wraps a reader that is polled.
 pub fn read_along<S: AsyncRead + Drop, R: Wait + Clone + Drop + Abort>(
     rt: &R,
     bar: &Bar<R>,
@@ -26,7 +26,7 @@ pub fn read_along<S: AsyncRead + Drop, R: Wait + Clone + Drop + Abort>(
     let mut wrapped = bar.wrap_async_read(socket).expect(rt, "granted");
 }
 
-/// A writer that is polled.
+/// Wraps a writer that is polled.
 pub fn written_along<S: AsyncWrite + Drop, R: Wait + Clone + Drop + Abort>(
     rt: &R,
     bar: &Bar<R>,
@@ -87,7 +87,7 @@ fn a_bar_of_its_own_is_moved(rt: HostRuntime) {
     same!(rt; bar.reading().position, 1);
     bar.make_move(Move::Advance(1)).expect(&rt, "granted");
     same!(rt; bar.reading().position, 2);
-    let (count, bar) = looped(two_items(&rt, rt.alloc()), bar);
+    let (count, bar) = looped(two_items(&rt, rt.alloc()), own_of_two(&rt, rt.alloc()));
     same!(rt; count, 2);
     same!(rt; bar.reading().position, 2);
     holds!(rt; bar.reading().finished);
