@@ -121,9 +121,9 @@ enum Taking {
     /// All that it is given.
     All,
     /// One byte.
-    Bytes,
-    /// One byte; the first call that comes when so many were taken fails with `BrokenPipe`.
-    BytesBut(usize),
+    One,
+    /// One byte. The first call that comes when so many were taken fails with `BrokenPipe`.
+    OneFailingAt(usize),
 }
 
 /// Takes bytes, and counts its calls.
@@ -138,8 +138,8 @@ impl Write for Taker {
     fn write(&mut self, buf: &[u8]) -> io::Result<usize> {
         self.calls = self.calls.saturating_add(1);
         let taken = match self.taking {
-            Taking::BytesBut(at) if self.taken.len() == at => {
-                self.taking = Taking::Bytes;
+            Taking::OneFailingAt(at) if self.taken.len() == at => {
+                self.taking = Taking::One;
                 return Err(io::Error::from(ErrorKind::BrokenPipe));
             }
             Taking::All => buf,
@@ -194,7 +194,7 @@ fn was_given_each(rt: &impl Abort, term: &Term<Taker>, bytes: &[u8]) {
 #[test]
 fn a_bar_behind_a_writer_of_one_byte_a_call(rt: HostRuntime) {
     let bytes = bytes_of_the_script(&rt, rt.alloc());
-    let mut bar = bar_behind(&rt, rt.alloc(), Taking::Bytes);
+    let mut bar = bar_behind(&rt, rt.alloc(), Taking::One);
     was_given_each(&rt, played(&rt, &mut bar), &bytes);
 }
 
@@ -263,7 +263,7 @@ fn play_broken_at(rt: &impl Abort, alloc: Global, bar: &mut Behind, at: usize) -
 /// The same behind a writer that fails once, after this many bytes: one call tells that failure, and of each other one the rows
 /// stand at the bottom, each as it was written. The terminal counts that fault, and its writer one call a byte and one a fault.
 fn is_broken_once_at(rt: &impl Abort, alloc: Global, at: usize) {
-    let mut bar = bar_behind(rt, alloc, Taking::BytesBut(at));
+    let mut bar = bar_behind(rt, alloc, Taking::OneFailingAt(at));
     let failures = play_broken_at(rt, alloc, &mut bar, at);
     same!(*rt; (at, failures), (at, 1));
     let term = bar.term().expect(rt, "a terminal");

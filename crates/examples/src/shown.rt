@@ -1,5 +1,5 @@
-//! A terminal in memory, and what stands there: the other programs have their bars on it, and print it.
-use anyhow::Result;
+//! A terminal in memory, and what stands there: some of the other programs have their bars on it, and print it.
+use anyhow::{Result, bail};
 use indicatif::{InMemoryTerm, ProgressDrawTarget, Refusal, Setup, StepClock};
 use std::alloc::Global;
 
@@ -14,10 +14,13 @@ pub fn setup(
     Ok(Setup { target, clock })
 }
 
-/// Prints what stands on the terminal, if there is one.
+/// Prints what stands on the terminal.
 pub fn print<R: Print>(rt: &R, term: Option<&InMemoryTerm>) -> Result<()> {
-    if let Some(term) = term {
-        println!(rt; "{}", term.contents()?)?;
+    match term {
+        Some(term) => {
+            println!(rt; "{}", term.contents()?)?;
+            Ok(())
+        }
+        None => bail!("no terminal"),
     }
-    Ok(())
 }

@@ -6,7 +6,7 @@ use indicatif::{InMemoryTerm, ProgressBar, ProgressStyle, StepClock};
 use std::thread::sleep;
 use std::time::Duration;
 
-fn wait<R: Shares + Print>(
+fn spin<R: Shares + Print>(
     rt: &R,
     spinner: &ProgressBar<InMemoryTerm, StepClock, R>,
 ) -> Result<()> {
@@ -26,7 +26,7 @@ pub fn main<R: Shares + Print>(rt: R) -> Result<()> {
     let style = ProgressStyle::with_template(rt.alloc(), "{spinner} {msg}")?;
     let style = style.tick_strings(&["-", "\\", "|", "/", "ok"])?;
     let setup = setup(rt.alloc(), 2, 20)?;
-    wait(
+    spin(
         &rt,
         &ProgressBar::styled(rt, rt.alloc(), style, None, setup)?,
     )

@@ -175,7 +175,7 @@ fn seek_of(to: &str) -> Result<SeekFrom, Bad> {
     }
 }
 
-/// A call with a number: a read into the front of the room, or so many.
+/// A call with a number: bytes that are consumed or drained, items, or a read into the front of the room.
 fn counts<P: Moves + Drop>(over: &mut Over<P>, (name, count): (&str, usize), got: &mut Got) {
     let Some(wrapped) = &mut over.wrapped else {
         return got.bad(Bad::Step);

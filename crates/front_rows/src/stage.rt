@@ -1,5 +1,5 @@
 //! What steps are played on, and which module plays a step. A new kind of world is a module, a variant of `On`, and a line each in
-//! `begun` and `step`; a question that needs no world is a module and a line in `asked`.
+//! `begun` and `step`; a question that needs no world is a module and a line in `play`.
 use crate::beside::Pair;
 use crate::bytes::{self, OverCounted};
 use crate::fronts::Fronts;

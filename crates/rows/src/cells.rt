@@ -104,8 +104,10 @@ fn push_cuts(size: Size, bytes: &[u8], (wanted, at): (&str, At), got: &mut Got) 
 fn push_fed(size: Size, bytes: &[u8], (cut, at): (Option<usize>, At), got: &mut Got) {
     match terminal(size, at) {
         Ok(mut cells) => {
-            got.done(feed_parts(&mut cells, bytes, cut));
-            push_reading(&cells, got);
+            match feed_parts(&mut cells, bytes, cut) {
+                Ok(()) => push_reading(&cells, got),
+                Err(refusal) => got.bad(Bad::Refused(refusal)),
+            }
         }
         Err(bad) => got.bad(bad),
     }

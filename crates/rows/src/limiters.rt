@@ -1,7 +1,7 @@
 //! What a limiter answers.
 use indicatif_term::draw_target::RateLimiter;
 use indicatif_text::columns::Moment;
-use scripts::got::Got;
+use scripts::got::{Bad, Got};
 use scripts::row::Words;
 use scripts::spelling::number;
 
@@ -11,7 +11,7 @@ pub fn answers(rest: &str, got: &mut Got) {
     let (rate, making): (u8, Moment) = (words.number(), words.number());
     match (words.done(()), RateLimiter::new(rate, making)) {
         (Err(bad), _) => got.bad(bad),
-        (_, Err(refusal)) => got.refusal(refusal),
+        (_, Err(refusal)) => got.bad(Bad::Refused(refusal)),
         (_, Ok(mut limiter)) => push_answers(&mut limiter, words.rest(), got),
     }
 }

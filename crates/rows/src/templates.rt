@@ -1,7 +1,7 @@
 //! Templates, and the words of styles.
 use indicatif_text::columns::Style;
 use indicatif_text::template::{Alignment, Part, Template};
-use scripts::got::Got;
+use scripts::got::{Bad, Got};
 use scripts::row::{At, headed};
 use scripts::spelling::unescaped;
 
@@ -11,7 +11,7 @@ pub fn parsed(rest: &str, at: At, got: &mut Got) {
     match unescaped(at.alloc, rest) {
         Ok(text) => match Template::parse(at.alloc, text.as_str()) {
             Ok(template) => push_parts(&template, at, got),
-            Err(error) => got.refusal(error.into()),
+            Err(error) => got.bad(Bad::Refused(error.into())),
         },
         Err(bad) => got.bad(bad),
     }
@@ -72,8 +72,10 @@ fn push_numbers(style: Option<Style>, at: At, got: &mut Got) {
         Some(style) => style.apply_to(true, "", &mut written),
         None => Ok(()),
     };
-    got.done(done);
-    push_sequences(written.as_str(), got);
+    match done {
+        Ok(()) => push_sequences(written.as_str(), got),
+        Err(refusal) => got.bad(Bad::Refused(refusal)),
+    }
 }
 
 fn push_sequences(written: &str, got: &mut Got) {
@@ -105,7 +107,9 @@ pub fn styled(name: &str, rest: &str, at: At, got: &mut Got) {
         ("opened", _) => open(style, got),
         ("same_style", _) => got.flag(style == Style::from_dotted_str(rest)),
         ("no_style", _) => got.flag(style == Style::new()),
-        (_, Ok(text)) => paint(style, name == "painted", text.as_str(), got),
+        ("painted", Ok(text)) => paint(style, true, text.as_str(), got),
+        ("unpainted", Ok(text)) => paint(style, false, text.as_str(), got),
+        (_, Ok(_)) => got.bad(Bad::Step),
         (_, Err(bad)) => got.bad(bad),
     }
 }
@@ -121,6 +125,6 @@ fn open(style: Style, got: &mut Got) {
             got.text(" ");
             got.flag(is_open);
         }
-        Err(refusal) => got.refusal(refusal),
+        Err(refusal) => got.bad(Bad::Refused(refusal)),
     }
 }

@@ -32,8 +32,8 @@ impl<V: Drop> From<AllocFailed<V>> for Bad {
     }
 }
 
-/// What steps gave, as one text: what each gave that gave something, parted by `; `; also why one gave nothing, and the first such fault
-/// is remembered. Want of memory is kept, and makes the row differ.
+/// What steps gave, as one text. What one step gave is parted from the next by `; `. Where a step gives nothing, the text says why, and the
+/// first such fault is remembered. Want of memory is remembered too, and makes the row differ.
 #[derive(Drop)]
 pub struct Got {
     text: String,
@@ -71,7 +71,7 @@ impl Got {
         self.text.as_str()
     }
 
-    /// Why the first step gave nothing that gave nothing.
+    /// The fault of the first step that has one.
     pub fn fault(&self) -> Option<Bad> {
         self.fault
     }

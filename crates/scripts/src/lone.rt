@@ -95,7 +95,7 @@ fn read_lines(bar: &Bar, text: &str, now: Moment, got: &mut Got) -> bool {
 pub fn push_lines(bar: &Bar, columns: u16, now: Moment, got: &mut Got) {
     match bar.lines(now, columns) {
         Ok(lines) => push_each(&lines, got),
-        Err(refusal) => got.refusal(refusal),
+        Err(refusal) => got.bad(Bad::Refused(refusal)),
     }
 }
 
@@ -116,7 +116,7 @@ fn push_state(bar: &Bar, now: Moment, got: &mut Got) {
             } else {
                 "visible"
             }),
-            Err(refusal) => got.refusal(refusal),
+            Err(refusal) => got.bad(Bad::Refused(refusal)),
         },
     }
 }

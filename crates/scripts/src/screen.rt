@@ -286,7 +286,7 @@ pub fn look_at(screen: &Screen, step: &str, at: At, got: &mut Got) -> bool {
         "writes" => got.number(screen.counts.get().writes),
         "flushes" => got.number(screen.counts.get().flushes),
         "row_count" => push_count(screen.contents(), got),
-        _ => return set(screen, headed(step), at, got),
+        _ => return named(screen, headed(step), at, got),
     }
     true
 }
@@ -295,7 +295,7 @@ pub fn look_at(screen: &Screen, step: &str, at: At, got: &mut Got) -> bool {
 fn push_count(contents: Result<String, Refusal>, got: &mut Got) {
     match contents {
         Ok(contents) => got.number(contents.as_str().split('\n').count()),
-        Err(refusal) => got.refusal(refusal),
+        Err(refusal) => got.bad(Bad::Refused(refusal)),
     }
 }
 
@@ -317,7 +317,7 @@ fn nth_row(contents: &str, number: usize) -> &str {
 pub fn push_filled(rows: Result<Vec<String>, Refusal>, got: &mut Got) {
     match rows {
         Ok(rows) => got.rows(filled(&rows)),
-        Err(refusal) => got.refusal(refusal),
+        Err(refusal) => got.bad(Bad::Refused(refusal)),
     }
 }
 
@@ -333,7 +333,7 @@ pub fn filled(rows: &[String]) -> &[String] {
 }
 
 /// Tells a row, puts bytes there, or has the writer fail; whether the step asks for that.
-fn set(screen: &Screen, (name, rest): (&str, &str), at: At, got: &mut Got) -> bool {
+fn named(screen: &Screen, (name, rest): (&str, &str), at: At, got: &mut Got) -> bool {
     match name {
         "row" => push_row(screen, rest, got),
         "feed" => feed(screen, rest, at, got),

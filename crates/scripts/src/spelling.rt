@@ -73,7 +73,7 @@ enum Place {
     Byte,
     /// Behind `\x` and this digit.
     HalfByte(u32),
-    /// Behind what is no escape, or for what there was no memory.
+    /// Behind something that is no escape, or that there was no memory for.
     Lost,
 }
 

@@ -81,7 +81,7 @@ fn command_as_a_value(rt: HostRuntime) {
     same!(rt; (bar.state().pos(), ask), (5, Ask::Unforced));
 }
 
-/// A copy of a command, which is given up.
+/// A copy of a command. The command itself is given up.
 fn copy_of(
     rt: &impl Abort,
     alloc: Global,
