@@ -29,6 +29,8 @@ pub enum BarCalls {
     DrawnSteps,
     /// A step, 20 nanoseconds after the one before.
     Steps,
+    /// A step at the moment that the machine's clock tells.
+    ClockedSteps,
     /// A tick that is held back, but for the first twenty at most.
     HeldTicks,
     /// A new message that is held back in the same way.
@@ -67,25 +69,21 @@ fn state_for(alloc: Global, calls: BarCalls, count: u64) -> Result<BarState<NoTr
             let style = ProgressStyle::with_template(alloc, "{msg}")?;
             BarState::styled(alloc, style, None, 0)
         }
-        BarCalls::DrawnSteps | BarCalls::Steps => BarState::new(alloc, Some(count), 0),
+        BarCalls::DrawnSteps | BarCalls::Steps | BarCalls::ClockedSteps => {
+            BarState::new(alloc, Some(count), 0)
+        }
         BarCalls::HeldTicks | BarCalls::HeldMessages => BarState::new(alloc, Some(1000), 0),
     }
 }
 
-/// A bar that is made for these calls. Where they are to be held back, it has at most 20 draws a second that aren't forced.
-fn bar_for(alloc: Global, calls: BarCalls, count: u64) -> Result<Bar, Refusal> {
-    let target = match calls {
-        BarCalls::HeldTicks | BarCalls::HeldMessages => {
-            ProgressDrawTarget::term_like_with_hz(terminal(alloc), 20, 0)?
-        }
-        _ => ProgressDrawTarget::term_like(terminal(alloc)),
-    };
-    let state = state_for(alloc, calls, count)?;
-    Ok(LoneBar::new(state, target))
-}
-
 /// Calls a bar so many times, with these texts in turn.
-fn call(bar: &mut Bar, calls: BarCalls, texts: &[&str; 4], count: u64) -> Result<(), Refusal> {
+fn call(
+    rt: &HostRuntime,
+    bar: &mut Bar,
+    calls: BarCalls,
+    texts: &[&str; 4],
+    count: u64,
+) -> Result<()> {
     match calls {
         BarCalls::Messages(_) => {
             for turn in 0..count {
@@ -107,6 +105,12 @@ fn call(bar: &mut Bar, calls: BarCalls, texts: &[&str; 4], count: u64) -> Result
         BarCalls::Steps => {
             for turn in 0..count {
                 bar.inc(1, turn.wrapping_mul(20))?;
+            }
+        }
+        BarCalls::ClockedSteps => {
+            let start = Instant::now(rt)?;
+            for _ in 0..count {
+                bar.inc(1, nanos_since(rt, start)?)?;
             }
         }
         BarCalls::HeldTicks => {
@@ -139,29 +143,22 @@ fn timed(rt: &HostRuntime, bar: &mut Bar, calls: BarCalls, count: u64) -> Result
         bar.set_message(texts[0], 0)?;
     }
     let start = started(rt);
-    call(bar, calls, &texts, count)?;
+    call(rt, bar, calls, &texts, count)?;
     Measured::since(rt, start, drawn_on(bar.term()))
 }
 
-/// The calls of a bar that is made for them, so many times.
+/// The calls of a bar that is made for them, so many times. Where they are to be held back, it has at most 20 draws a second that aren't
+/// forced.
 pub fn called(rt: &HostRuntime, calls: BarCalls, count: u64) -> Result<Measured> {
-    let mut bar = bar_for(rt.alloc(), calls, count)?;
-    timed(rt, &mut bar, calls, count)
-}
-
-/// So many steps, each at the moment that the machine's clock tells.
-fn steps_by_clock(rt: &HostRuntime, bar: &mut Bar, count: u64) -> Result<Measured> {
-    let start = Instant::now(rt)?;
-    for _ in 0..count {
-        bar.inc(1, nanos_since(rt, start)?)?;
-    }
-    Measured::since(rt, Some(start), drawn_on(bar.term()))
-}
-
-/// Steps of a bar of so many, each at the moment that the machine's clock tells.
-pub fn inc_clock(rt: &HostRuntime, count: u64) -> Result<Measured> {
-    let mut bar = bar_for(rt.alloc(), BarCalls::Steps, count)?;
-    steps_by_clock(rt, &mut bar, count)
+    let state = state_for(rt.alloc(), calls, count)?;
+    let term = terminal(rt.alloc());
+    let target = match calls {
+        BarCalls::HeldTicks | BarCalls::HeldMessages => {
+            ProgressDrawTarget::term_like_with_hz(term, 20, 0)?
+        }
+        _ => ProgressDrawTarget::term_like(term),
+    };
+    timed(rt, &mut LoneBar::new(state, target), calls, count)
 }
 
 /// Numbers from 0 on with a bar of their count, which is hidden and reads the machine's clock at each of them.

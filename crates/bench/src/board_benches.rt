@@ -115,28 +115,15 @@ pub fn called(rt: &HostRuntime, calls: BoardCalls, count: u64) -> Result<Measure
     timed(rt, &mut Board::new(rt.alloc(), target, 1), calls, count)
 }
 
-/// A bar of one line in a frame.
-fn segment(alloc: Global, bar: u64) -> Result<Segment, Refusal> {
-    let text = String::from_str(alloc, lines(0, 1))?;
-    let lines = vec![in alloc; LineType::Bar(text)]?;
-    Ok(Segment { bar, lines })
-}
-
 /// A frame of ten bars of one line each.
 fn frame_of_ten(alloc: Global) -> Result<Vec<Segment>, Refusal> {
     let mut frame = Vec::new(alloc);
     for bar in 0..10 {
-        frame.push(segment(alloc, bar)?)?;
+        let text = String::from_str(alloc, lines(0, 1))?;
+        let lines = vec![in alloc; LineType::Bar(text)]?;
+        frame.push(Segment { bar, lines })?;
     }
     Ok(frame)
-}
-
-/// Draws a frame so many times.
-fn draw(engine: &mut Engine<Term<Sink>>, frame: &[Segment], count: u64) -> Result<(), Refusal> {
-    for _ in 0..count {
-        engine.draw(frame, 0, MultiProgressAlignment::Top)?;
-    }
-    Ok(())
 }
 
 /// Draws a frame once, and then so many times.
@@ -146,9 +133,11 @@ fn drawn(
     frame: &[Segment],
     count: u64,
 ) -> Result<Measured> {
-    draw(engine, frame, 1)?;
+    engine.draw(frame, 0, MultiProgressAlignment::Top)?;
     let start = started(rt);
-    draw(engine, frame, count)?;
+    for _ in 0..count {
+        engine.draw(frame, 0, MultiProgressAlignment::Top)?;
+    }
     Measured::since(rt, start, drawn_on(Some(engine.term())))
 }
 

@@ -20,6 +20,7 @@ mod thread_benches;
 use crate::bar_benches::BarCalls;
 use crate::board_benches::BoardCalls;
 use crate::measured::Measured;
+use crate::thread_benches::SharedCalls;
 use anyhow::{Result, bail};
 use indicatif_text::format::{HumanBytes, HumanCount, HumanDuration};
 use std::env;
@@ -34,10 +35,10 @@ fn main(rt: HostRuntime) -> Result<()> {
     let count: u64 = count.as_str().parse()?;
     let name = name.as_str();
     let measured = match name {
-        "inc_front" => thread_benches::inc_front(&rt, count),
-        "inc_threads" => thread_benches::inc_threads(&rt, count),
+        "inc_front" => thread_benches::called(&rt, SharedCalls::Steps, count),
+        "inc_threads" => thread_benches::called(&rt, SharedCalls::StepsInFour, count),
+        "parallel_map" => thread_benches::called(&rt, SharedCalls::Mapped, count),
         "worker_add" => thread_benches::worker_add(&rt, count),
-        "parallel_map" => thread_benches::parallel_map(&rt, count),
         _ => measured_by(&rt, name, count),
     };
     tell(&rt, (name, count), measured)
@@ -68,30 +69,52 @@ fn measured_by(rt: &HostRuntime, name: &str, count: u64) -> Result<Measured> {
         "wrapped_wide" => text_benches::wrapped_line(rt, count, &[("国", 60)]),
         "wrapped_colours" => text_benches::wrapped_line(rt, count, &[("\x1b[32ma", 60)]),
         "term_feed" => text_benches::term_feed(rt, count),
+        "wrap_iter" => bar_benches::wrap_iter(rt, count),
+        "board_frame" => board_benches::board_frame(rt, count),
         _ => drawn_by(rt, name, count),
     }
 }
 
+/// What bars are called, by the names of the measurements.
+const OF_BARS: &[(&str, BarCalls)] = &[
+    ("message_draw", BarCalls::Messages(1)),
+    ("message_draw_10", BarCalls::Messages(10)),
+    ("log_draw", BarCalls::Logs),
+    ("tick_draw", BarCalls::DrawnSteps),
+    ("inc_limited", BarCalls::Steps),
+    ("inc_clock", BarCalls::ClockedSteps),
+    ("tick_held", BarCalls::HeldTicks),
+    ("message_held", BarCalls::HeldMessages),
+];
+
+/// What boards are called.
+const OF_BOARDS: &[(&str, BoardCalls)] = &[
+    ("board_draw", BoardCalls::Draws),
+    ("board_step", BoardCalls::Steps),
+    ("insert_10", BoardCalls::Insertions(10)),
+    ("insert_1000", BoardCalls::Insertions(1000)),
+    ("insert_10000", BoardCalls::Insertions(10_000)),
+    ("call_10", BoardCalls::HiddenTicks(10)),
+    ("call_10000", BoardCalls::HiddenTicks(10_000)),
+];
+
+/// What stands beside a name.
+fn of_name<C: Copy>(table: &[(&str, C)], name: &str) -> Option<C> {
+    for (known, calls) in table {
+        if *known == name {
+            return Some(*calls);
+        }
+    }
+    None
+}
+
 /// That of a bar's or a board's calls.
 fn drawn_by(rt: &HostRuntime, name: &str, count: u64) -> Result<Measured> {
-    match name {
-        "message_draw" => bar_benches::called(rt, BarCalls::Messages(1), count),
-        "message_draw_10" => bar_benches::called(rt, BarCalls::Messages(10), count),
-        "log_draw" => bar_benches::called(rt, BarCalls::Logs, count),
-        "tick_draw" => bar_benches::called(rt, BarCalls::DrawnSteps, count),
-        "inc_limited" => bar_benches::called(rt, BarCalls::Steps, count),
-        "inc_clock" => bar_benches::inc_clock(rt, count),
-        "tick_held" => bar_benches::called(rt, BarCalls::HeldTicks, count),
-        "message_held" => bar_benches::called(rt, BarCalls::HeldMessages, count),
-        "wrap_iter" => bar_benches::wrap_iter(rt, count),
-        "board_frame" => board_benches::board_frame(rt, count),
-        "board_draw" => board_benches::called(rt, BoardCalls::Draws, count),
-        "board_step" => board_benches::called(rt, BoardCalls::Steps, count),
-        "insert_10" => board_benches::called(rt, BoardCalls::Insertions(10), count),
-        "insert_1000" => board_benches::called(rt, BoardCalls::Insertions(1000), count),
-        "insert_10000" => board_benches::called(rt, BoardCalls::Insertions(10_000), count),
-        "call_10" => board_benches::called(rt, BoardCalls::HiddenTicks(10), count),
-        "call_10000" => board_benches::called(rt, BoardCalls::HiddenTicks(10_000), count),
-        _ => bail!("no measurement of this name"),
+    if let Some(calls) = of_name(OF_BARS, name) {
+        return bar_benches::called(rt, calls, count);
+    }
+    match of_name(OF_BOARDS, name) {
+        Some(calls) => board_benches::called(rt, calls, count),
+        None => bail!("no measurement of this name"),
     }
 }

@@ -52,16 +52,12 @@ pub fn nanos_since<R: Clock>(rt: &R, start: Instant) -> io::Result<u64> {
 
 impl fmt::Display for Made {
     fn fmt<W: fmt::Write>(&self, f: &mut fmt::Formatter<W>) -> fmt::Result {
-        let (word, number) = match *self {
-            Made::Bytes(bytes) | Made::Drawn { bytes, .. } => ("bytes", bytes),
-            Made::Parts(parts) => ("parts", parts),
-            Made::Rows(rows) => ("rows", rows),
-            Made::Sum(sum) => ("sum", sum),
-        };
-        write!(f, "{word}={number}")?;
         match *self {
-            Made::Drawn { draws, .. } => write!(f, " draws={draws}"),
-            _ => Ok(()),
+            Made::Bytes(bytes) => write!(f, "bytes={bytes}"),
+            Made::Parts(parts) => write!(f, "parts={parts}"),
+            Made::Rows(rows) => write!(f, "rows={rows}"),
+            Made::Drawn { bytes, draws } => write!(f, "bytes={bytes} draws={draws}"),
+            Made::Sum(sum) => write!(f, "sum={sum}"),
         }
     }
 }

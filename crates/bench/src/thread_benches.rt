@@ -14,14 +14,15 @@ use std::thread::{Threads, join, map_indices};
 /// A bar under a lock, by the machine's clock.
 type Bar<R> = ProgressBar<Term<Sink>, MachineClock<R>, R>;
 
-/// A bar of this length on this target.
-fn bar_on<R: Shares>(
-    rt: &R,
-    target: ProgressDrawTarget<Term<Sink>>,
-    len: u64,
-) -> Result<Bar<R>, Refusal> {
-    let clock = MachineClock::new(*rt);
-    ProgressBar::new(*rt, rt.alloc(), len, Setup { target, clock })
+/// What is done with a bar that is shared.
+#[derive(Clone, Copy)]
+pub enum SharedCalls {
+    /// A step, though nobody else steps it. It draws 20 times a second.
+    Steps,
+    /// A step in each of four threads; it is hidden.
+    StepsInFour,
+    /// A number made of each of those below the count, in several threads; it is hidden.
+    Mapped,
 }
 
 /// So many steps.
@@ -39,13 +40,6 @@ fn in_front<R: Shares>(rt: &R, bar: &Bar<R>, count: u64) -> Result<Measured> {
     Measured::since(rt, start, bar.with_term(drawn_on))
 }
 
-/// Steps of a bar of so many that is shared, though nobody else steps it. It draws 20 times a second.
-pub fn inc_front<R: Shares>(rt: &R, count: u64) -> Result<Measured> {
-    let target = ProgressDrawTarget::term_like_with_hz(terminal(rt.alloc()), 20, 0)?;
-    let bar = bar_on(rt, target, count)?;
-    in_front(rt, &bar, count)
-}
-
 /// So many steps of a bar in each of four threads.
 fn in_four<R: Shares>(rt: &R, bar: &Bar<R>, count: u64) -> Result<Measured> {
     let start = started(rt);
@@ -53,12 +47,6 @@ fn in_four<R: Shares>(rt: &R, bar: &Bar<R>, count: u64) -> Result<Measured> {
         stepped?;
     }
     Measured::since(rt, start, Made::Sum(bar.position()))
-}
-
-/// So many steps of one hidden bar in each of four threads.
-pub fn inc_threads<R: Shares>(rt: &R, count: u64) -> Result<Measured> {
-    let bar = bar_on(rt, ProgressDrawTarget::hidden(), count)?;
-    in_four(rt, &bar, count)
 }
 
 /// Adds 1 so many times.
@@ -108,10 +96,11 @@ pub fn worker_add<R: Shares>(rt: &R, count: u64) -> Result<Measured> {
     Measured::since(rt, start, Made::Sum(done.close(whole)))
 }
 
-/// A number made of each of these, with a bar.
-fn mapped<R: Shares>(rt: &R, items: &[u64], bar: Bar<R>) -> Result<Measured> {
+/// A number made of each of those below the count, with a bar.
+fn mapped<R: Shares>(rt: &R, bar: Bar<R>, count: u64) -> Result<Measured> {
+    let items: Vec<u64> = (0..count).collect(rt.alloc())?;
     let start = started(rt);
-    let list = items.progress_with(bar);
+    let list = items.as_slice().progress_with(bar);
     let (made, _bar) = list.map_collect(
         rt,
         rt.alloc(),
@@ -128,9 +117,17 @@ fn mapped<R: Shares>(rt: &R, items: &[u64], bar: Bar<R>) -> Result<Measured> {
     })
 }
 
-/// A number made of each of those below `count`, with a hidden bar.
-pub fn parallel_map<R: Shares>(rt: &R, count: u64) -> Result<Measured> {
-    let items: Vec<u64> = (0..count).collect(rt.alloc())?;
-    let bar = bar_on(rt, ProgressDrawTarget::hidden(), count)?;
-    mapped(rt, items.as_slice(), bar)
+/// What is done with a bar that is made for it, so many times.
+pub fn called<R: Shares>(rt: &R, calls: SharedCalls, count: u64) -> Result<Measured> {
+    let target = match calls {
+        SharedCalls::Steps => ProgressDrawTarget::term_like_with_hz(terminal(rt.alloc()), 20, 0)?,
+        _ => ProgressDrawTarget::hidden(),
+    };
+    let clock = MachineClock::new(*rt);
+    let bar = ProgressBar::new(*rt, rt.alloc(), count, Setup { target, clock })?;
+    match calls {
+        SharedCalls::Steps => in_front(rt, &bar, count),
+        SharedCalls::StepsInFour => in_four(rt, &bar, count),
+        SharedCalls::Mapped => mapped(rt, bar, count),
+    }
 }
