@@ -26,8 +26,8 @@ fn log_fifty<R: Wait + Copy + Clone + Drop>(board: &Shared<R>, text: &str) -> u6
 
 /// How often a board has logged each of the two texts.
 fn logged<R: Wait + Copy + Clone + Drop>(board: &Shared<R>) -> (u64, u64) {
-    let of = |text| counted(board, Kind::Log(text));
-    (of("mine"), of("theirs"))
+    let mine = counted(board, Kind::Log("mine"));
+    (mine, counted(board, Kind::Log("theirs")))
 }
 
 #[test]
@@ -255,11 +255,10 @@ fn a_thousand_calls(rt: HostRuntime) {
 
 /// How often the bars' tickers ticked, and how often one was set and told off.
 fn of_tickers<R: Wait + Copy + Clone + Drop>(board: &Shared<R>) -> (u64, u64, u64) {
-    let of = |kind| counted(board, kind);
     (
-        of(Kind::TickerTick),
-        of(Kind::Ticker(true)),
-        of(Kind::Ticker(false)),
+        counted(board, Kind::TickerTick),
+        counted(board, Kind::Ticker(true)),
+        counted(board, Kind::Ticker(false)),
     )
 }
 

@@ -1,7 +1,7 @@
 //! Lists in threads: the blocks that a bar goes on by, and what a bar that is shared shows within one.
 use crate::fronts::{Bar, another_of};
 use crate::gates::counts;
-use crate::stepped::bar_at;
+use crate::stepped::{Stepped, bar_at};
 use indicatif::{
     Drawn, Move, Moves, ParallelProgressIterator, ProgressBar, ProgressDrawTarget, Reading,
     Refusal, Setup, StepClock,
@@ -21,8 +21,21 @@ fn numbers<R: Abort>(rt: &R, alloc: Global, count: u32) -> Vec<u32> {
     items
 }
 
-/// Each item is twice its place.
-fn are_doubled<R: Abort>(rt: &R, made: &[u32]) {
+/// The items of a list doubled in threads, and the bar that went along from this position.
+fn doubled<R: Threads + Sync + Abort>(
+    rt: &R,
+    alloc: Global,
+    items: &[u32],
+    position: u64,
+) -> (Vec<u32>, Stepped) {
+    let list = items.progress_with(bar_at(alloc, position));
+    let (made, bar) = list.map_collect(rt, alloc, |x: &u32| x.wrapping_mul(2));
+    (made.expect(rt, "granted"), bar)
+}
+
+/// There are so many items, each of which is twice its place.
+fn are_doubled<R: Abort>(rt: &R, made: &[u32], count: usize) {
+    same!(rt; made.len(), count);
     for (k, x) in made.iter().enumerate() {
         same!(rt; *x as usize, k.wrapping_mul(2));
     }
@@ -31,11 +44,8 @@ fn are_doubled<R: Abort>(rt: &R, made: &[u32]) {
 #[test]
 fn ten_thousand_items_are_three_blocks(rt: HostRuntime) {
     let items = numbers(&rt, rt.alloc(), 10_000);
-    let list = items.as_slice().progress_with(bar_at(rt.alloc(), 0));
-    let (made, bar) = list.map_collect(&rt, rt.alloc(), |x: &u32| x.wrapping_mul(2));
-    let made = made.expect(&rt, "granted");
-    same!(rt; made.len(), 10_000);
-    are_doubled(&rt, made.as_slice());
+    let (made, bar) = doubled(&rt, rt.alloc(), items.as_slice(), 0);
+    are_doubled(&rt, made.as_slice(), 10_000);
     same!(rt; bar.steps.as_slice(), [4096, 4096, 1808].as_slice());
     same!(rt; bar.position, 10_000);
     holds!(rt; !bar.finished);
@@ -45,9 +55,8 @@ fn ten_thousand_items_are_three_blocks(rt: HostRuntime) {
 #[test]
 fn a_shorter_list_moves_by_tenths(rt: HostRuntime) {
     let items = numbers(&rt, rt.alloc(), 2000);
-    let list = items.as_slice().progress_with(bar_at(rt.alloc(), 0));
-    let (made, bar) = list.map_collect(&rt, rt.alloc(), |x: &u32| *x);
-    same!(rt; made.expect(&rt, "granted"), items);
+    let (made, bar) = doubled(&rt, rt.alloc(), items.as_slice(), 0);
+    are_doubled(&rt, made.as_slice(), 2000);
     same!(rt; bar.steps.as_slice(), [200; 10].as_slice());
 }
 
@@ -92,9 +101,8 @@ fn has_processors<R: Threads>(rt: &R) -> bool {
 #[test]
 fn no_item_advances_nothing(rt: HostRuntime) {
     let none = numbers(&rt, rt.alloc(), 0);
-    let list = none.as_slice().progress_with(bar_at(rt.alloc(), 7));
-    let (made, bar) = list.map_collect(&rt, rt.alloc(), |x: &u32| x.wrapping_mul(2));
-    holds!(rt; made.expect(&rt, "granted").is_empty());
+    let (made, bar) = doubled(&rt, rt.alloc(), none.as_slice(), 7);
+    holds!(rt; made.is_empty());
     holds!(rt; bar.steps.is_empty());
     same!(rt; bar.position, 7);
     let list = none.as_slice().progress_with(bar);
@@ -105,19 +113,16 @@ fn no_item_advances_nothing(rt: HostRuntime) {
 
 #[test]
 fn one_item_is_a_block(rt: HostRuntime) {
-    let one = [21u32];
-    let list = one.as_slice().progress_with(bar_at(rt.alloc(), 0));
-    let (made, bar) = list.map_collect(&rt, rt.alloc(), |x: &u32| x.wrapping_mul(2));
-    same!(rt; made.expect(&rt, "granted").as_slice(), [42].as_slice());
+    let (made, bar) = doubled(&rt, rt.alloc(), &[21], 0);
+    same!(rt; made.as_slice(), [42].as_slice());
     same!(rt; bar.steps.as_slice(), [1].as_slice());
 }
 
 #[test]
 fn a_whole_block_and_one_item_more(rt: HostRuntime) {
     let items = numbers(&rt, rt.alloc(), 4097);
-    let list = items.as_slice().progress_with(bar_at(rt.alloc(), 0));
-    let (made, bar) = list.map_collect(&rt, rt.alloc(), |x: &u32| *x);
-    same!(rt; made.expect(&rt, "granted"), items);
+    let (made, bar) = doubled(&rt, rt.alloc(), items.as_slice(), 0);
+    are_doubled(&rt, made.as_slice(), 4097);
     same!(rt; bar.steps.as_slice(), [4096, 1].as_slice());
 }
 
@@ -125,11 +130,8 @@ fn a_whole_block_and_one_item_more(rt: HostRuntime) {
 #[test]
 fn a_million_items(rt: HostRuntime) {
     let items = numbers(&rt, rt.alloc(), 1_000_000);
-    let list = items.as_slice().progress_with(bar_at(rt.alloc(), 0));
-    let (made, bar) = list.map_collect(&rt, rt.alloc(), |x: &u32| x.wrapping_mul(2));
-    let made = made.expect(&rt, "granted");
-    same!(rt; made.len(), 1_000_000);
-    are_doubled(&rt, made.as_slice());
+    let (made, bar) = doubled(&rt, rt.alloc(), items.as_slice(), 0);
+    are_doubled(&rt, made.as_slice(), 1_000_000);
     same!(rt; bar.steps.len(), 245);
     same!(rt; bar.steps.get(0), Some(&4096));
     same!(rt; bar.steps.get(243), Some(&4096));

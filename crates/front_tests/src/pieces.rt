@@ -1,7 +1,7 @@
 //! Pieces in threads of their own.
 use crate::gates::{Open, Roll, Together, Turnstile, Waves};
-use crate::stepped::bar_at;
-use indicatif::{Refusal, run_workers_with};
+use crate::stepped::{Stepped, bar_at};
+use indicatif::{Gate, Refusal, run_workers_with};
 use std::alloc::Global;
 use std::process::Abort;
 use std::sync::atomic::{AtomicU64, Ordering};
@@ -25,6 +25,18 @@ fn ones<R: Abort>(rt: &R, alloc: Global, items: u32) -> Vec<u32> {
     piece
 }
 
+/// The items of these pieces doubled in threads, behind a gate, while a bar goes along.
+fn doubled<R: Threads + Sync + Abort, G: Gate>(
+    rt: &R,
+    alloc: Global,
+    pieces: &[Vec<u32>],
+    gate: &G,
+    bar: &mut Stepped,
+) -> Vec<Vec<u32>> {
+    let made = run_workers_with(rt, alloc, pieces, |x: &u32| x.wrapping_mul(2), gate, bar);
+    made.expect(rt, "granted")
+}
+
 #[test]
 fn answers_stand_in_the_order_of_the_pieces(rt: HostRuntime) {
     let alloc = rt.alloc();
@@ -38,15 +50,7 @@ fn answers_stand_in_the_order_of_the_pieces(rt: HostRuntime) {
     let gate = Turnstile {
         passed: AtomicU64::new(0),
     };
-    let made = run_workers_with(
-        &rt,
-        alloc,
-        pieces.as_slice(),
-        |x: &u32| x.wrapping_mul(2),
-        &gate,
-        &mut bar,
-    )
-    .expect(&rt, "granted");
+    let made = doubled(&rt, alloc, pieces.as_slice(), &gate, &mut bar);
     same!(rt; made.len(), 3);
     same!(rt; made[0].as_slice(), [2, 4].as_slice());
     same!(rt; made[1].as_slice(), [6].as_slice());
@@ -82,15 +86,7 @@ fn pieces_run_at_the_same_time(rt: HostRuntime) {
         second_came: AtomicU64::new(0),
         first_saw_it: AtomicU64::new(0),
     };
-    let made = run_workers_with(
-        &rt,
-        rt.alloc(),
-        pieces.as_slice(),
-        |x: &u32| *x,
-        &gate,
-        &mut bar,
-    )
-    .expect(&rt, "granted");
+    let made = doubled(&rt, rt.alloc(), pieces.as_slice(), &gate, &mut bar);
     same!(rt; gate.first_saw_it.load(Ordering::SeqCst), 1);
     same!(rt; made.len(), 2);
     same!(rt; bar.position, 2);
@@ -113,15 +109,7 @@ fn all_are_answered<R: Copy + Threads + Sync + Abort>(
 ) {
     let pieces = pieces_of_ones(&rt, alloc, count, items);
     let mut bar = bar_at(alloc, 5);
-    let made = run_workers_with(
-        &rt,
-        alloc,
-        pieces.as_slice(),
-        |x: &u32| x.wrapping_mul(2),
-        &Open,
-        &mut bar,
-    )
-    .expect(&rt, "granted");
+    let made = doubled(&rt, alloc, pieces.as_slice(), &Open, &mut bar);
     let all = u64::from(count).wrapping_mul(u64::from(items));
     same!(rt; answers_in(made.as_slice()) as u64, all);
     same!(rt; bar.steps.as_slice(), [all].as_slice());
@@ -145,15 +133,7 @@ fn six_hundred_pieces(rt: HostRuntime) {
         passed: AtomicU64::new(0),
         early: AtomicU64::new(0),
     };
-    let made = run_workers_with(
-        &rt,
-        rt.alloc(),
-        pieces.as_slice(),
-        |x: &u32| x.wrapping_add(1),
-        &gate,
-        &mut bar,
-    )
-    .expect(&rt, "granted");
+    let made = doubled(&rt, rt.alloc(), pieces.as_slice(), &gate, &mut bar);
     same!(rt; made.len(), 600);
     for answers in made.iter() {
         same!(rt; answers.as_slice(), [2, 2].as_slice());
