@@ -53,7 +53,6 @@ use indicatif_term::term_like::TermLike;
 use indicatif_text::columns::{Clock, Drawn, Refusal};
 use std::alloc::{AllocError, Global};
 use std::fmt::{self, Debug, Formatter};
-use std::marker::Model;
 use std::sync::{Arc, Mutex, Wait};
 
 /// One owner of a bar that others may own too, in this thread or in others: a clone is another owner of the same bar.
@@ -85,16 +84,6 @@ pub struct ProgressBar<
     pub(crate) state: Arc<SharedBar<K, T, C>, Global>,
     pub(crate) alloc: Global,
     pub(crate) rt: R,
-}
-
-/// What clauses see of it: where its owners find what they share, and its runtime.
-impl<T: TermLike + Drop, C: Clock + Drop, R: Wait + Clone + Drop, K: Tracks> Model
-    for ProgressBar<T, C, R, K> {
-    ghost use denote.RawPtr.{Ptr};
-
-    ghost Value = { Ptr × R };
-
-    ghost view = { λ bar. (bar.state.ptr, bar.rt) };
 }
 
 impl<T: TermLike + Drop, C: Clock + Drop, R: Wait + Clone + Drop, K: Tracks> ProgressBar<

@@ -12,7 +12,6 @@ use indicatif_term::term_like::TermLike;
 use indicatif_text::columns::{Clock, Drawn, Refusal};
 use std::alloc::{AllocError, Global};
 use std::fmt::{self, Debug, Formatter};
-use std::marker::Model;
 use std::sync::{Arc, Mutex, Wait};
 
 /// A board that threads share: several bars on one target, in an order. A clone is the same board.
@@ -43,16 +42,6 @@ pub struct MultiProgress<
     board: SharedBoard<K, T, C>,
     alloc: Global,
     rt: R,
-}
-
-/// What clauses see of it: where its owners find what they share, and its runtime.
-impl<T: TermLike + Drop, C: Clock + Drop, R: Wait + Clone + Drop, K: Tracks> Model
-    for MultiProgress<T, C, R, K> {
-    ghost use denote.RawPtr.{Ptr};
-
-    ghost Value = { Ptr × R };
-
-    ghost view = { λ board. (board.board.ptr, board.rt) };
 }
 
 impl<T: TermLike + Drop, C: Clock + Drop, R: Wait + Clone + Drop, K: Tracks> Drop
