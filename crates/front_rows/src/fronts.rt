@@ -137,17 +137,25 @@ impl<R: Wait + Copy + Clone + Drop> Fronts<R> {
 
     /// Makes a step that asks neither for a wrapper nor for a bar's ticker.
     fn play(&mut self, step: &str, got: &mut Got) {
-        match (step, step.split_once(' ')) {
-            ("board" | "recorded", _) => self.begins(step == "recorded", got),
-            ("release" | "drop", _) => self.goes(step == "release", got),
-            ("adds", _) => self.push_added(got),
-            ("never", _) => self.weak = Weak::never(),
-            ("upgrades", _) => match self.weak.upgrade() {
+        match step {
+            "board" | "recorded" => self.begins(step == "recorded", got),
+            "release" | "drop" => self.goes(step == "release", got),
+            "adds" => self.push_added(got),
+            "never" => self.weak = Weak::never(),
+            "upgrades" => match self.weak.upgrade() {
                 Ok(bar) => got.flag(bar.is_some()),
                 Err(bad) => got.bad(bad),
             },
-            (_, Some(("rate" | "moments" | "on", _))) => self.sets(step, got),
-            (_, Some(("weak", place))) => match self.weak_of(place) {
+            _ => self.play_words(step, got),
+        }
+    }
+
+    /// Makes one of several words.
+    fn play_words(&mut self, step: &str, got: &mut Got) {
+        let (name, place) = headed(step);
+        match name {
+            "rate" | "moments" | "on" => self.sets(step, got),
+            "weak" => match self.weak_of(place) {
                 Ok(weak) => self.weak = weak,
                 Err(bad) => got.bad(bad),
             },
@@ -302,20 +310,35 @@ impl<R: Wait + Copy + Clone + Drop> Fronts<R> {
 
     /// A call of the board that neither draws nor lends.
     fn settles(&mut self, step: &str, got: &mut Got) {
-        let answer = match (self.board(), step, step.split_once(' ')) {
-            (Some(board), "top", _) => board.set_alignment(MultiProgressAlignment::Top),
-            (Some(board), "bottom", _) => board.set_alignment(MultiProgressAlignment::Bottom),
-            (Some(board), _, Some(("move", word))) => match flag(word) {
+        let Some(board) = self.board() else {
+            return got.bad(Bad::Step);
+        };
+        let answer = match step {
+            "top" => board.set_alignment(MultiProgressAlignment::Top),
+            "bottom" => board.set_alignment(MultiProgressAlignment::Bottom),
+            "turn" | "hide" => match self.turned_to(step == "hide") {
+                Ok(target) => turn(board, target),
+                Err(refusal) => return got.bad(Bad::Refused(refusal)),
+            },
+            _ => return self.settles_words(step, got),
+        };
+        self.settled(answer, got);
+    }
+
+    /// One of several words.
+    fn settles_words(&mut self, step: &str, got: &mut Got) {
+        let Some(board) = self.board() else {
+            return got.bad(Bad::Step);
+        };
+        let (name, word) = headed(step);
+        let answer = match name {
+            "move" => match flag(word) {
                 Ok(on) => board.set_move_cursor(on),
                 Err(bad) => return got.bad(bad),
             },
-            (Some(board), _, Some(("remove", place))) => match self.bar(place) {
+            "remove" => match self.bar(word) {
                 Some(bar) => board.remove(bar),
                 None => return got.bad(Bad::Step),
-            },
-            (Some(board), "turn" | "hide", _) => match self.turned_to(step == "hide") {
-                Ok(target) => turn(board, target),
-                Err(refusal) => return got.bad(Bad::Refused(refusal)),
             },
             _ => return self.draws(step, got),
         };
@@ -345,10 +368,13 @@ impl<R: Wait + Copy + Clone + Drop> Fronts<R> {
 
     /// Shows something of the board, or makes a call of it that draws.
     fn draws(&mut self, step: &str, got: &mut Got) {
-        match (self.board(), step) {
-            (Some(board), "shows") => push_board(board, got),
-            (Some(board), "hidden") => got.flag(board.is_hidden()),
-            (Some(board), "order") => {
+        let Some(board) = self.board() else {
+            return got.bad(Bad::Step);
+        };
+        match step {
+            "shows" => push_board(board, got),
+            "hidden" => got.flag(board.is_hidden()),
+            "order" => {
                 shown(board, self.look(Question::Order), got);
             }
             _ => {
@@ -371,30 +397,35 @@ impl<R: Wait + Copy + Clone + Drop> Fronts<R> {
 
     /// What a call of the board that draws answers.
     fn board_told(&self, step: &str) -> Result<Told, Bad> {
-        match (self.board(), step, step.split_once(' ')) {
-            (Some(board), "clear", _) => Ok(board.clear()),
-            (Some(board), "suspend", _) => Ok(board.suspend(|| ()).1),
-            (Some(board), _, Some(("log", text))) => match unescaped(self.maker.alloc, text) {
+        let Some(board) = self.board() else {
+            return Err(Bad::Step);
+        };
+        match (step, step.strip_prefix("log ")) {
+            ("clear", _) => Ok(board.clear()),
+            ("suspend", _) => Ok(board.suspend(|| ()).1),
+            (_, Some(text)) => match unescaped(self.maker.alloc, text) {
                 Ok(text) => Ok(board.println(text.as_str())),
                 Err(bad) => Err(bad),
             },
-            _ => Err(Bad::Step),
+            (_, None) => Err(Bad::Step),
         }
     }
 
     /// What a call of a bar answers.
     fn bar_told(&self, place: &str, rest: &str) -> Result<Told, Bad> {
-        match (self.bar(place), rest, rest.split_once(' ')) {
-            (None, _, _) => Err(Bad::Step),
-            (Some(bar), "target", _) => match self.turned_to(false) {
+        let Some(bar) = self.bar(place) else {
+            return Err(Bad::Step);
+        };
+        match (rest, rest.strip_prefix("as ")) {
+            ("target", _) => match self.turned_to(false) {
                 Ok(target) => Ok(bar.set_draw_target(target)),
                 Err(refusal) => Err(Bad::Refused(refusal)),
             },
-            (Some(bar), _, Some(("as", other))) => match self.bar(other) {
+            (_, Some(other)) => match self.bar(other) {
                 Some(other) => Ok(dressed(bar, other)),
                 None => Err(Bad::Step),
             },
-            (Some(bar), _, _) => tell(bar, self.maker.alloc, rest),
+            (_, None) => tell(bar, self.maker.alloc, rest),
         }
     }
 
@@ -523,22 +554,38 @@ impl<
 
     /// Has to do with a bar's ticker, reads something of the bar, or makes a call of it.
     fn of_bar(&mut self, place: &str, rest: &str, got: &mut Got) {
+        let Some(bar) = self.bar(place) else {
+            return got.bad(Bad::Step);
+        };
         let rt = &self.maker.rt;
-        match (self.bar(place), rest, rest.split_once(' ')) {
-            (None, _, _) => got.bad(Bad::Step),
-            (Some(bar), "note", _) => self.noted = bar.ticks(),
-            (Some(bar), "ticks_since", _) => got.number(bar.ticks().wrapping_sub(self.noted)),
-            (Some(bar), "rests", _) => got.flag(rests(rt, bar)),
-            (Some(bar), "comes_to_rest", _) => got.flag(comes_to_rest(rt, bar)),
-            (Some(bar), _, Some(("ticks_past", ticks))) => match number::<u64>(ticks) {
-                Ok(ticks) => got.flag(ticks_past(rt, bar, ticks.saturating_add(self.noted))),
+        match rest {
+            "note" => self.noted = bar.ticks(),
+            "ticks_since" => got.number(bar.ticks().wrapping_sub(self.noted)),
+            "rests" => got.flag(rests(rt, bar)),
+            "comes_to_rest" => got.flag(comes_to_rest(rt, bar)),
+            _ => self.of_bar_words(place, rest, got),
+        }
+    }
+
+    /// The same by several words, or a reading or a call of the bar.
+    fn of_bar_words(&mut self, place: &str, rest: &str, got: &mut Got) {
+        let Some(bar) = self.bar(place) else {
+            return got.bad(Bad::Step);
+        };
+        let (name, word) = headed(rest);
+        match name {
+            "ticks_past" => match number::<u64>(word) {
+                Ok(ticks) => {
+                    let ticks = ticks.saturating_add(self.noted);
+                    got.flag(ticks_past(&self.maker.rt, bar, ticks));
+                }
                 Err(bad) => got.bad(bad),
             },
-            (Some(bar), _, Some(("ticker", nanos))) => match set_ticker(bar, nanos) {
+            "ticker" => match set_ticker(bar, word) {
                 Ok(()) => self.answer = Answered::Untold,
                 Err(bad) => got.bad(bad),
             },
-            (Some(bar), _, _) => {
+            _ => {
                 if !read(bar, rest, got) {
                     let told = self.bar_told(place, rest);
                     self.answered(told, got);

@@ -28,11 +28,28 @@ pub fn play_file<
         + 'static,
 >(rt: &R, path: &str) -> io::Result<Tally> {
     let lines = BufReader::new(rt.alloc(), fs::open(rt, path)?)?;
-    let mut stage = Stage::new(*rt, rt.alloc());
-    let tally = play_lines(rt, path, lines, &mut stage)?;
+    let tally = play_on_new_stage(rt, path, lines)?;
     let Tally { passed, failed } = tally;
     println!(rt; "{path}: {passed} passed, {failed} failed")?;
     Ok(tally)
+}
+
+fn play_on_new_stage<
+    R: AllocGlobal
+        + Print
+        + RandomSource
+        + Wait
+        + Threads
+        + Clock
+        + Copy
+        + Clone
+        + Drop
+        + Send
+        + 'static,
+    L: BufRead + Drop,
+>(rt: &R, path: &str, lines: L) -> io::Result<Tally> {
+    let mut stage = Stage::new(*rt, rt.alloc());
+    play_lines(rt, path, lines, &mut stage)
 }
 
 fn play_lines<
