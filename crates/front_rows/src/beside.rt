@@ -16,7 +16,7 @@ use indicatif::{
 };
 use scripts::got::{Bad, Got};
 use scripts::lone::lone_call;
-use scripts::row::Words;
+use scripts::row::{Words, headed};
 use scripts::spelling::number;
 use std::alloc::Global;
 use std::sync::Wait;
@@ -299,15 +299,18 @@ impl<R: Wait + Copy + Clone + Drop> Pair<R> {
         let Some(both) = &mut self.both else {
             return got.bad(Bad::Step);
         };
-        match (step, step.split_once(' ')) {
-            ("each", _) => both.each(&self.calls, got),
-            (_, Some(("turn", rate))) => both.turn(rate, got),
-            (_, Some(("random", rest))) => match times_of(rest) {
+        if step == "each" {
+            return both.each(&self.calls, got);
+        }
+        let (name, rest) = headed(step);
+        match name {
+            "turn" => both.turn(rest, got),
+            "random" => match times_of(rest) {
                 Ok(times) => both.random(&self.calls, times, got),
                 Err(bad) => got.bad(bad),
             },
-            (_, Some(("call", call))) => {
-                if both.is_same(call, got) {
+            "call" => {
+                if both.is_same(rest, got) {
                     got.text("same");
                 }
             }
@@ -353,15 +356,16 @@ fn tell_alone(bar: &mut Lone, alloc: Global, text: &str, now: Moment) -> Result<
 
 /// The call that a text spells. What wraps something, and what answers with the bar, comes to a command.
 fn call_of(alloc: Global, text: &str) -> Result<LoneCall<NoTracker>, Bad> {
-    let command = match (text, text.split_once(' ')) {
-        ("at_end", _) => BarCommand::FinishUsingStyle,
-        (_, Some(("set_style" | "with_style", last))) => {
-            BarCommand::SetStyle(spinner(alloc, last)?)
-        }
-        (_, Some(("advance", n))) => BarCommand::Inc(number(n)?),
-        (_, Some(("place", n))) => BarCommand::SetPosition(number(n)?),
-        (_, Some(("with_elapsed", n))) => BarCommand::SetElapsed(number(n)?),
-        _ => return lone_call(alloc, text),
-    };
-    Ok(LoneCall::Bar(command))
+    let (name, rest) = headed(text);
+    match (name, number(rest)) {
+        ("at_end", _) => Ok(LoneCall::Bar(BarCommand::FinishUsingStyle)),
+        ("set_style" | "with_style", _) => match spinner(alloc, rest) {
+            Ok(style) => Ok(LoneCall::Bar(BarCommand::SetStyle(style))),
+            Err(refusal) => Err(Bad::Refused(refusal)),
+        },
+        ("advance", Ok(n)) => Ok(LoneCall::Bar(BarCommand::Inc(n))),
+        ("place", Ok(n)) => Ok(LoneCall::Bar(BarCommand::SetPosition(n))),
+        ("with_elapsed", Ok(n)) => Ok(LoneCall::Bar(BarCommand::SetElapsed(n))),
+        _ => lone_call(alloc, text),
+    }
 }
