@@ -109,7 +109,15 @@ fn all_are_answered<R: Copy + Threads + Sync + Abort>(
 ) {
     let pieces = pieces_of_ones(&rt, alloc, count, items);
     let mut bar = bar_at(alloc, 5);
-    let made = doubled(&rt, alloc, pieces.as_slice(), &Open, &mut bar);
+    let made = run_workers_with(
+        &rt,
+        alloc,
+        pieces.as_slice(),
+        |x: &u32| x.wrapping_mul(2),
+        &Open,
+        &mut bar,
+    )
+    .expect(&rt, "granted");
     let all = u64::from(count).wrapping_mul(u64::from(items));
     same!(rt; answers_in(made.as_slice()) as u64, all);
     same!(rt; bar.steps.as_slice(), [all].as_slice());
