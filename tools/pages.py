@@ -454,13 +454,10 @@ def said_options(page):
 
 
 def known_options(source):
-    """The options of the program, in the same way."""
-    for name, short in re.findall(r'valued\(alloc, "([\w-]+)", \'(\w)\'', source):
-        yield short, name, True
-    for name, short in re.findall(r'flag\(alloc, "([\w-]+)", \'(\w)\'', source):
-        yield short, name, False
-    for name in re.findall(r'\.long\("([\w-]+)"\)\.value_name', source):
-        yield "", name, True
+    """The options of the program, in the same way: the choices that aren't given as words."""
+    for name, given, short in re.findall(r'name: "([\w-]+)",\s+given: Given::(\w+)(?:\(\'(\w)\')?', source):
+        if given != "Words":
+            yield short, name, given != "Flag"
 
 
 def faults_of_meter():

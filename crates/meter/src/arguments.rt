@@ -37,7 +37,7 @@ pub struct Look<'a> {
 }
 
 /// Where it is shown.
-#[derive(Clone, Copy, Drop, PartialEq, Eq)]
+#[derive(Clone, Copy, Drop)]
 pub enum Manner {
     /// As a bar, where standard error is a terminal.
     Bar,
@@ -50,7 +50,7 @@ pub enum Manner {
 }
 
 /// What is counted.
-#[derive(Clone, Copy, Drop, PartialEq, Eq)]
+#[derive(Clone, Copy, Drop)]
 pub enum Unit {
     /// Bytes.
     Bytes,
@@ -70,7 +70,7 @@ pub struct Timing {
 }
 
 /// When the time begins.
-#[derive(Clone, Copy, Drop, PartialEq, Eq)]
+#[derive(Clone, Copy, Drop)]
 pub enum Begins {
     /// At once.
     AtOnce,
@@ -115,6 +115,101 @@ impl From<Error> for Unasked {
 /// A tenth of a second.
 const INTERVAL: u64 = 100_000_000;
 
+/// The inputs, or an option.
+#[derive(Clone, Copy, Drop)]
+struct Choice {
+    /// Its name, which is that of the long option.
+    name: &'static str,
+    /// How it is given.
+    given: Given,
+    /// What the help says of it.
+    help: &'static str,
+}
+
+/// How a choice is given.
+#[derive(Clone, Copy, Drop)]
+enum Given {
+    /// As words that are no options.
+    Words,
+    /// By its letter or its name.
+    Flag(char),
+    /// By its letter or its name, and a value that the help names so.
+    Valued(char, &'static str),
+    /// By its letter or its name, and a number of columns.
+    Columns(char),
+    /// By its name, and one of several rows.
+    Row,
+}
+
+/// What can be asked for, in the order of the help.
+const CHOICES: &[Choice] = &[
+    Choice {
+        name: "file",
+        given: Given::Words,
+        help: "The inputs, copied in turn; - or no file is standard input",
+    },
+    Choice {
+        name: "size",
+        given: Given::Valued('s', "N"),
+        help: "How many bytes will come: 700, 10M or 10MiB (1024 x 1024 bytes each), 10MB (a million each)",
+    },
+    Choice {
+        name: "rate-limit",
+        given: Given::Valued('L', "N"),
+        help: "Copies at most N bytes a second",
+    },
+    Choice {
+        name: "name",
+        given: Given::Valued('N', "TEXT"),
+        help: "A text before the numbers",
+    },
+    Choice {
+        name: "format",
+        given: Given::Valued('F', "TEMPLATE"),
+        help: "The look, as a template of indicatif",
+    },
+    Choice {
+        name: "interval",
+        given: Given::Valued('i', "SEC"),
+        help: "The seconds between two drawings (0.1)",
+    },
+    Choice {
+        name: "columns",
+        given: Given::Columns('w'),
+        help: "The terminal's columns, if COLUMNS isn't exported",
+    },
+    Choice {
+        name: "row",
+        given: Given::Row,
+        help: "Draws on row K of N; other meters of the pipeline draw on the other rows",
+    },
+    Choice {
+        name: "lines",
+        given: Given::Flag('l'),
+        help: "Counts lines, not bytes",
+    },
+    Choice {
+        name: "numeric",
+        given: Given::Flag('n'),
+        help: "Prints numbers, one on a line: the percent, or the count if no size is known",
+    },
+    Choice {
+        name: "quiet",
+        given: Given::Flag('q'),
+        help: "Shows nothing",
+    },
+    Choice {
+        name: "wait",
+        given: Given::Flag('W'),
+        help: "Counts the time from the first byte",
+    },
+    Choice {
+        name: "force",
+        given: Given::Flag('f'),
+        help: "Shows the bar even if standard error isn't a terminal",
+    },
+];
+
 /// The program's arguments, the first of which is its name.
 pub fn words_of<R: Env + AllocGlobal>(rt: &R) -> Result<Vec<String>, Unasked> {
     match env::args(rt) {
@@ -124,30 +219,70 @@ pub fn words_of<R: Env + AllocGlobal>(rt: &R) -> Result<Vec<String>, Unasked> {
     }
 }
 
+/// What is found in these words.
+fn found<'a>(alloc: Global, words: &'a [String]) -> Result<ArgMatches<'a>, Error> {
+    let mut command = Command::new(alloc, "meter").about(
+        "Copies files or standard input to standard output, and shows the progress on standard error",
+    );
+    for choice in CHOICES {
+        command = command.arg(argument(alloc, choice))?;
+    }
+    command.try_get_matches_from(words)
+}
+
+/// A choice as an argument.
+fn argument<'a>(alloc: Global, choice: &Choice) -> Arg<'a> {
+    let name = choice.name;
+    let named = Arg::new(alloc, name).help(choice.help);
+    match choice.given {
+        Given::Words => named.value_name("FILE").num_args(0..),
+        Given::Flag(letter) => named.long(name).short(letter).action(ArgAction::SetTrue),
+        Given::Valued(letter, value) => named.long(name).short(letter).value_name(value),
+        Given::Columns(letter) => named
+            .long(name)
+            .short(letter)
+            .value_name("N")
+            .value_parser(value_parser!(u16).range(1..)),
+        Given::Row => named.long(name).value_name("K/N"),
+    }
+}
+
 /// What these words ask for, the first of which is the program's name.
 pub fn asked_by<'a>(alloc: Global, words: &'a [String]) -> Result<Asked<'a>, Unasked> {
     let matches = found(alloc, words)?;
+    asked_in(alloc, &matches)
+}
+
+/// What is asked for by what was found.
+fn asked_in<'a>(alloc: Global, matches: &ArgMatches<'a>) -> Result<Asked<'a>, Unasked> {
     let mut files = Vec::new(alloc);
     for name in matches.get_strs("file").unwrap_or(&[]) {
         files.push(*name)?;
     }
     Ok(Asked {
         files,
-        size: wanted(
-            matches.get_str("size").map(bytes_said),
+        size: bytes_in(
+            matches,
+            "size",
             "a size is a number as 700, 10M, 10MB or 1GiB",
         )?,
-        look: look_in(&matches)?,
-        timing: timing_in(&matches)?,
+        look: look_in(matches)?,
+        timing: timing_in(matches)?,
     })
 }
 
-/// What an option says, where it is given.
-fn wanted<T>(said: Option<Option<T>>, wanted: &'static str) -> Result<Option<T>, Unasked> {
-    match said {
-        Some(None) => Err(Unasked::Value(wanted)),
-        Some(Some(value)) => Ok(Some(value)),
-        None => Ok(None),
+/// The bytes that an option says, where it is given.
+fn bytes_in(
+    matches: &ArgMatches<'_>,
+    name: &str,
+    wanted: &'static str,
+) -> Result<Option<u64>, Unasked> {
+    let Some(text) = matches.get_str(name) else {
+        return Ok(None);
+    };
+    match bytes_said(text) {
+        Some(bytes) => Ok(Some(bytes)),
+        None => Err(Unasked::Value(wanted)),
     }
 }
 
@@ -163,10 +298,7 @@ fn look_in<'a>(matches: &ArgMatches<'a>) -> Result<Look<'a>, Unasked> {
         name: matches.get_str("name"),
         format: matches.get_str("format"),
         columns: matches.get_one::<u16>("columns"),
-        row: wanted(
-            matches.get_str("row").map(row_said),
-            "a row is one of several, as 2/3",
-        )?,
+        row: row_in(matches)?,
     })
 }
 
@@ -183,21 +315,30 @@ fn manner_in(matches: &ArgMatches<'_>) -> Manner {
     }
 }
 
+/// The row on which it is to be shown, if it is one.
+fn row_in(matches: &ArgMatches<'_>) -> Result<Option<Row>, Unasked> {
+    let Some(text) = matches.get_str("row") else {
+        return Ok(None);
+    };
+    match row_said(text) {
+        Some(row) => Ok(Some(row)),
+        None => Err(Unasked::Value("a row is one of several, as 2/3")),
+    }
+}
+
 /// When it is to be shown.
 fn timing_in(matches: &ArgMatches<'_>) -> Result<Timing, Unasked> {
-    let interval = wanted(
-        matches.get_str("interval").map(|text| nanos_said(text)),
-        "an interval is a number of seconds as 2 or 0.5",
-    )?;
-    let limit = wanted(
-        matches.get_str("rate-limit").map(bytes_said),
+    let interval = interval_in(matches)?;
+    let limit = bytes_in(
+        matches,
+        "rate-limit",
         "a rate is a number of bytes a second as 700, 10M, 10MB or 1GiB",
     )?;
     if limit == Some(0) {
         return Err(Unasked::Value("a rate of 0 lets nothing go"));
     }
     Ok(Timing {
-        interval: interval.unwrap_or(INTERVAL),
+        interval,
         begins: if matches.get_flag("wait") {
             Begins::WithFirstByte
         } else {
@@ -207,88 +348,13 @@ fn timing_in(matches: &ArgMatches<'_>) -> Result<Timing, Unasked> {
     })
 }
 
-/// What is found in these words.
-fn found<'a>(alloc: Global, words: &'a [String]) -> Result<ArgMatches<'a>, Error> {
-    let command = Command::new(alloc, "meter").about(
-        "Copies files or standard input to standard output, and shows the progress on standard error",
-    );
-    let command = with_inputs(alloc, command)?;
-    let command = with_looks(alloc, command)?;
-    let command = with_flags(alloc, command)?;
-    command.try_get_matches_from(words)
-}
-
-/// An option with a value.
-fn valued<'a>(alloc: Global, name: &'a str, short: char, value: &'a str) -> Arg<'a> {
-    Arg::new(alloc, name)
-        .long(name)
-        .short(short)
-        .value_name(value)
-}
-
-/// An option without one.
-fn flag<'a>(alloc: Global, name: &'a str, short: char) -> Arg<'a> {
-    Arg::new(alloc, name)
-        .long(name)
-        .short(short)
-        .action(ArgAction::SetTrue)
-}
-
-/// With the options of the inputs.
-fn with_inputs<'a>(alloc: Global, command: Command<'a>) -> Result<Command<'a>, Error> {
-    let files = Arg::new(alloc, "file")
-        .value_name("FILE")
-        .num_args(0..)
-        .help("The inputs, copied in turn; - or no file is standard input");
-    let size = valued(alloc, "size", 's', "N").help(
-        "How many bytes will come: 700, 10M or 10MiB (1024 x 1024 bytes each), 10MB (a million each)",
-    );
-    let limit = valued(alloc, "rate-limit", 'L', "N").help("Copies at most N bytes a second");
-    Ok(command.arg(files)?.arg(size)?.arg(limit)?)
-}
-
-/// With the options of the look.
-fn with_looks<'a>(alloc: Global, command: Command<'a>) -> Result<Command<'a>, Error> {
-    let name = valued(alloc, "name", 'N', "TEXT").help("A text before the numbers");
-    let format = valued(alloc, "format", 'F', "TEMPLATE").help(
-        "The look, as a template of indicatif",
-    );
-    let interval = valued(alloc, "interval", 'i', "SEC").help(
-        "The seconds between two drawings (0.1)",
-    );
-    let columns = valued(alloc, "columns", 'w', "N")
-        .value_parser(value_parser!(u16).range(1..))
-        .help("The terminal's columns, if COLUMNS isn't exported");
-    let row = Arg::new(alloc, "row").long("row").value_name("K/N").help(
-        "Draws on row K of N; other meters of the pipeline draw on the other rows",
-    );
-    Ok(
-        command
-            .arg(name)?
-            .arg(format)?
-            .arg(interval)?
-            .arg(columns)?
-            .arg(row)?,
-    )
-}
-
-/// With the options that have no value.
-fn with_flags<'a>(alloc: Global, command: Command<'a>) -> Result<Command<'a>, Error> {
-    let lines = flag(alloc, "lines", 'l').help("Counts lines, not bytes");
-    let numeric = flag(alloc, "numeric", 'n').help(
-        "Prints numbers, one on a line: the percent, or the count if no size is known",
-    );
-    let quiet = flag(alloc, "quiet", 'q').help("Shows nothing");
-    let wait = flag(alloc, "wait", 'W').help("Counts the time from the first byte");
-    let force = flag(alloc, "force", 'f').help(
-        "Shows the bar even if standard error isn't a terminal",
-    );
-    Ok(
-        command
-            .arg(lines)?
-            .arg(numeric)?
-            .arg(quiet)?
-            .arg(wait)?
-            .arg(force)?,
-    )
+/// The nanoseconds from one drawing to the next.
+fn interval_in(matches: &ArgMatches<'_>) -> Result<u64, Unasked> {
+    let Some(text) = matches.get_str("interval") else {
+        return Ok(INTERVAL);
+    };
+    match nanos_said(text) {
+        Some(nanos) => Ok(nanos),
+        None => Err(Unasked::Value("an interval is a number of seconds as 2 or 0.5")),
+    }
 }

@@ -6,7 +6,7 @@ use indicatif::machine::MachineClock;
 use indicatif::{Clock, Refusal};
 use meter_parts::{Broken, Gauge, Pace, lines_in, pass_on};
 use std::fs::File;
-use std::io::{Error, Stdin, Stdout};
+use std::io::{Error, Stderr, Stdin, Stdout};
 use std::rt::Files;
 use std::sync::Wait;
 use std::time::Duration;
@@ -37,13 +37,15 @@ pub struct Copied {
     pub output: Option<Error>,
 }
 
-/// The standard streams between which bytes go.
+/// The standard streams: bytes go from the first to the second, and the bar stands on the third.
 #[derive(Clone, Copy, Drop)]
 pub struct Streams {
     /// Standard input.
     pub input: Stdin,
     /// Standard output.
     pub output: Stdout,
+    /// Standard error.
+    pub errors: Stderr,
 }
 
 /// What the bytes are told to as they go on.
@@ -72,7 +74,9 @@ impl<R: Eprint + Wait + time::Clock + Copy + Drop> Gauge for Watch<'_, R> {
     }
 
     fn went(&mut self, bytes: &[u8]) {
-        self.begin();
+        if !self.has_begun {
+            self.begin();
+        }
         let count = match self.unit {
             Unit::Bytes => bytes.len() as u64,
             Unit::Lines => lines_in(bytes),
@@ -94,11 +98,8 @@ impl<R: Eprint + Wait + time::Clock + Copy + Drop> Gauge for Watch<'_, R> {
 impl<R: Wait + time::Clock + Copy + Drop> Watch<'_, R> {
     /// Lets the time begin where the first byte does; from then on the thread that tells the bar its rate draws it each interval.
     fn begin(&mut self) {
-        if self.has_begun {
-            return;
-        }
         self.has_begun = true;
-        if self.timing.begins == Begins::WithFirstByte {
+        if matches!(self.timing.begins, Begins::WithFirstByte) {
             let _ = self.bar.reset_elapsed();
         }
     }
@@ -127,7 +128,7 @@ impl<'a, R: AllocGlobal + Wait + time::Clock + Copy + Drop> Watch<'a, R> {
     }
 }
 
-/// Hands all inputs on to standard output. The bar, and numbers, are told of each piece.
+/// Hands all inputs on to standard output, and finishes the bar where it stands. The bar, and numbers, are told of each piece.
 ///
 /// Refused: `Memory`.
 pub fn copy_all<R: Files + AllocGlobal + Eprint + Wait + time::Clock + Copy + Drop>(
@@ -137,21 +138,22 @@ pub fn copy_all<R: Files + AllocGlobal + Eprint + Wait + time::Clock + Copy + Dr
     size: Option<u64>,
     bar: &Bar<R>,
 ) -> Result<Copied, Refusal> {
-    let mut watch = Watch::new(rt, bar, asked, size);
     let mut block = vec![in rt.alloc(); 0u8; FRONT + BUFFER]?;
-    let copied = copy_files(rt, streams, &asked.files, &mut watch, &mut block[FRONT..])?;
-    if let Some(numbers) = &mut watch.numbers {
+    let mut watch = Watch::new(rt, bar, asked, size);
+    let copied = copy_files(rt, streams, &asked.files, &mut watch, &mut block[FRONT..]);
+    if let (Ok(_), Some(numbers)) = (&copied, &mut watch.numbers) {
         numbers.end(rt);
     }
-    Ok(copied)
+    let _ = bar.abandon();
+    copied
 }
 
 /// Hands these files on, or standard input where there is none, until the output fails.
-fn copy_files<R: Files + AllocGlobal + Eprint + Wait + time::Clock + Copy + Drop>(
+fn copy_files<R: Files + AllocGlobal, G: Gauge>(
     rt: &R,
     streams: Streams,
     files: &[&str],
-    watch: &mut Watch<'_, R>,
+    gauge: &mut G,
     buffer: &mut [u8],
 ) -> Result<Copied, Refusal> {
     let mut copied = Copied {
@@ -160,48 +162,36 @@ fn copy_files<R: Files + AllocGlobal + Eprint + Wait + time::Clock + Copy + Drop
     };
     let files = if files.is_empty() { &["-"] } else { files };
     for (input, name) in files.iter().enumerate() {
-        let came = copy_named(rt, streams, name, watch, buffer);
-        if copied.note(input, came)? {
-            break;
+        match copy_named(rt, streams, name, gauge, buffer) {
+            Ok(()) => {}
+            Err(Broken::Input(error)) => copied.faults.push(Fault { input, error })?,
+            Err(Broken::Output(error)) => {
+                copied.output = Some(error);
+                break;
+            }
         }
     }
     Ok(copied)
 }
 
-impl Copied {
-    /// Keeps what an input came to; whether the output failed.
-    fn note(&mut self, input: usize, came: Result<(), Broken>) -> Result<bool, Refusal> {
-        match came {
-            Ok(()) => Ok(false),
-            Err(Broken::Input(error)) => {
-                self.faults.push(Fault { input, error })?;
-                Ok(false)
-            }
-            Err(Broken::Output(error)) => {
-                self.output = Some(error);
-                Ok(true)
-            }
-        }
-    }
-}
-
 /// Hands on the file of this name.
-fn copy_named<R: Files + Eprint + Wait + time::Clock + Copy + Drop>(
+fn copy_named<R: Files, G: Gauge>(
     rt: &R,
     streams: Streams,
     name: &str,
-    watch: &mut Watch<'_, R>,
+    gauge: &mut G,
     buffer: &mut [u8],
 ) -> Result<(), Broken> {
     let Streams {
         mut input,
         mut output,
+        ..
     } = streams;
     if name == "-" {
-        return pass_on(&mut input, &mut output, watch, buffer);
+        return pass_on(&mut input, &mut output, gauge, buffer);
     }
     match File::open(rt, name) {
-        Ok(mut file) => pass_on(&mut file, &mut output, watch, buffer),
+        Ok(mut file) => pass_on(&mut file, &mut output, gauge, buffer),
         Err(error) => Err(Broken::Input(error)),
     }
 }

@@ -25,17 +25,18 @@ mod telling;
 use arguments::{Asked, Begins, Unasked, Unit};
 use copying::{Copied, Streams, copy_all};
 use indicatif::Refusal;
+use indicatif::machine::Shares;
 use meter_parts::plain_text;
 use shown::{Bar, bar_for};
 use sizes::size_of_all;
 use std::env::Env;
-use std::io::{ErrorKind, Stderr};
+use std::io::{Error, ErrorKind};
 use std::process::ExitCode;
 use std::rt::Files;
 use std::sync::Wait;
-use std::thread::{Threads, join};
+use std::thread::join;
 use std::time::Clock;
-use telling::{Tale, tell_end, tell_until_finished};
+use telling::{tell_end, tell_until_finished};
 
 fn main(rt: HostRuntime) -> ExitCode {
     let words = match arguments::words_of(&rt) {
@@ -46,20 +47,22 @@ fn main(rt: HostRuntime) -> ExitCode {
         Ok(asked) => asked,
         Err(unasked) => return unanswered(&rt, &unasked),
     };
-    let Begun { bar, size } = match begun_by(&rt, rt.stderr(), &asked) {
-        Ok(shown) => shown,
-        Err(refusal) => return refused(&rt, &refusal),
-    };
     let streams = Streams {
         input: rt.stdin(),
         output: rt.stdout(),
+        errors: rt.stderr(),
+    };
+    let size = size_for(&rt, &asked);
+    let bar = match begun(&rt, streams, &asked, size) {
+        Ok(bar) => bar,
+        Err(refusal) => return refused(&rt, &refusal),
     };
     let copied = if bar.is_hidden() {
         copy_all(&rt, streams, &asked, size, &bar)
     } else {
         make_room(&rt, &asked);
-        let copy = || copied_and_finished(&rt, streams, &asked, size, &bar);
-        let tell = || tell_until_finished(&rt, &bar, tale_of(&asked, size));
+        let copy = || copy_all(&rt, streams, &asked, size, &bar);
+        let tell = || tell_until_finished(&rt, &bar, &asked, size);
         let (copied, ()) = join(&rt, copy, tell);
         last_look(&rt, &asked, &bar);
         copied
@@ -70,52 +73,29 @@ fn main(rt: HostRuntime) -> ExitCode {
     }
 }
 
-/// A bar, and how much will come, if it is known.
-#[derive(Drop)]
-struct Begun<R: Wait + Clock + Copy + Drop> {
-    bar: Bar<R>,
-    size: Option<u64>,
+/// How much will come, if it is known.
+fn size_for<R: Files>(rt: &R, asked: &Asked<'_>) -> Option<u64> {
+    match (asked.size, asked.look.unit) {
+        (Some(size), _) => Some(size),
+        (None, Unit::Bytes) => size_of_all(rt, &asked.files),
+        (None, Unit::Lines) => None,
+    }
 }
 
 /// The bar that is asked for; it ticks where the time begins at once.
 ///
 /// Refused: `Memory`, and what a template is refused with.
-fn begun_by<
-    R: AllocGlobal + Env + Files + Wait + Threads + Clock + Sync + Copy + Drop + Send + 'static,
->(rt: &R, errors: Stderr, asked: &Asked<'_>) -> Result<Begun<R>, Refusal> {
-    let size = match (asked.size, asked.look.unit) {
-        (Some(size), _) => Some(size),
-        (None, Unit::Bytes) => size_of_all(rt, &asked.files),
-        (None, Unit::Lines) => None,
-    };
-    let bar = bar_for(rt, errors, asked, size)?;
-    if asked.timing.begins == Begins::AtOnce && !bar.is_hidden() {
-        bar.enable_steady_tick(asked.timing.interval)?;
-    }
-    Ok(Begun { bar, size })
-}
-
-/// What the bar is told beside the count.
-fn tale_of(asked: &Asked<'_>, size: Option<u64>) -> Tale {
-    Tale {
-        unit: asked.look.unit,
-        size,
-        interval: asked.timing.interval,
-        begins: asked.timing.begins,
-    }
-}
-
-/// Hands everything on, and finishes the bar where it stands.
-fn copied_and_finished<R: AllocGlobal + Files + Eprint + Wait + Clock + Copy + Drop>(
+fn begun<R: Shares + Env>(
     rt: &R,
     streams: Streams,
     asked: &Asked<'_>,
     size: Option<u64>,
-    bar: &Bar<R>,
-) -> Result<Copied, Refusal> {
-    let copied = copy_all(rt, streams, asked, size, bar);
-    let _ = bar.abandon();
-    copied
+) -> Result<Bar<R>, Refusal> {
+    let bar = bar_for(rt, streams.errors, asked, size)?;
+    if matches!(asked.timing.begins, Begins::AtOnce) && !bar.is_hidden() {
+        bar.enable_steady_tick(asked.timing.interval)?;
+    }
+    Ok(bar)
 }
 
 /// Rows for all meters that draw beside one another, below the cursor.
@@ -149,15 +129,8 @@ fn last_look<R: AllocGlobal + Env + Files + Eprint + Wait + Clock + Copy + Drop>
 fn answered<R: AllocGlobal + Eprint>(rt: &R, asked: &Asked<'_>, copied: &Copied) -> ExitCode {
     for fault in &copied.faults {
         let name = asked.files.get(fault.input).copied().unwrap_or("-");
-        let error = fault.error;
-        match plain_text(
-            rt.alloc(),
-            if name == "-" { "standard input" } else { name },
-        ) {
-            Ok(name) => {
-                let _ = eprintln!(rt; "meter: {name}: {error}");
-            }
-            Err(_) => return refused(rt, &Refusal::Memory),
+        if let Err(refusal) = say_fault(rt, name, fault.error) {
+            return refused(rt, &refusal);
         }
     }
     match copied.output {
@@ -169,6 +142,18 @@ fn answered<R: AllocGlobal + Eprint>(rt: &R, asked: &Asked<'_>, copied: &Copied)
         None if copied.faults.is_empty() => ExitCode::SUCCESS,
         None => ExitCode::from(1),
     }
+}
+
+/// Says why the input of this name failed.
+///
+/// Refused: `Memory`.
+fn say_fault<R: AllocGlobal + Eprint>(rt: &R, name: &str, error: Error) -> Result<(), Refusal> {
+    let name = plain_text(
+        rt.alloc(),
+        if name == "-" { "standard input" } else { name },
+    )?;
+    let _ = eprintln!(rt; "meter: {name}: {error}");
+    Ok(())
 }
 
 /// The status where a bar was refused, and what is to be said of it: but for want of memory it was the template.

@@ -2,7 +2,7 @@
 use crate::arguments::{Asked, Look, Manner, Unit};
 use indicatif::machine::{MachineClock, facts_of, wants_colors};
 use indicatif::{
-    Clock, Facts, NoTracker, ProgressBar, ProgressDrawTarget, ProgressStyle, Refusal, Term,
+    Clock, Facts, NoTracker, ProgressBar, ProgressDrawTarget, ProgressStyle, Refusal, Setup, Term,
 };
 use meter_parts::{Screen, cut, plain_text};
 use std::alloc::Global;
@@ -38,9 +38,9 @@ pub fn bar_for<R: AllocGlobal + Env + Wait + time::Clock + Copy + Drop>(
     };
     let screen = Screen::new(Term::new(writer, facts.rows, facts.cols), asked.look.row);
     let target = ProgressDrawTarget::term(screen, facts, HZ, clock.now())?;
-    ProgressBar::with_draw_target(*rt, rt.alloc(), size, target, clock)?
-        .with_style(style)?
-        .with_prefix(no_rate(asked.look.unit))
+    let setup = Setup { target, clock };
+    let bar = ProgressBar::styled(*rt, rt.alloc(), style, size, setup)?;
+    bar.with_prefix(no_rate(asked.look.unit))
 }
 
 /// What stands for the rate before there is one.
@@ -82,40 +82,58 @@ fn style_for(
     if let Some(format) = look.format {
         return ProgressStyle::with_template(alloc, format);
     }
-    let end = if columns < WIDE && look.row.is_none() {
-        "\n"
-    } else {
-        " "
-    };
-    let room = if columns < WIDE { columns } else { columns / 8 };
     let mut text = String::new(alloc);
-    if let Some(name) = look.name {
-        push_name(alloc, &mut text, name, room)?;
-        text.push_str(end)?;
-    }
-    push_numbers(&mut text, look.unit, end)?;
-    if size.is_some() {
-        text.push_str(end)?;
-        text.push_str("[{wide_bar}] {percent}%")?;
-        text.push_str(end)?;
-        text.push_str("{msg}")?;
-    }
+    push_template(alloc, &mut text, look, size, columns)?;
     ProgressStyle::with_template(alloc, text.as_str())
 }
 
-/// The numbers: what went, for how long, how fast lately and on the whole.
-fn push_numbers(text: &mut String, unit: Unit, end: &str) -> Result<(), Refusal> {
-    let (count, rate) = match unit {
+/// The template of a bar of this length or of none: the name, what went, for how long, how fast lately and on the whole, and where
+/// there is a length how far it is.
+fn push_template(
+    alloc: Global,
+    text: &mut String,
+    look: &Look<'_>,
+    size: Option<u64>,
+    columns: u16,
+) -> Result<(), Refusal> {
+    let is_wide = columns >= WIDE;
+    let end = if is_wide || look.row.is_some() {
+        " "
+    } else {
+        "\n"
+    };
+    if let Some(name) = look.name {
+        let room = if is_wide { columns / 8 } else { columns };
+        push_name(alloc, text, name, room)?;
+        text.push_str(end)?;
+    }
+    let (count, rate) = match look.unit {
         Unit::Bytes => ("{bytes}", "{bytes_per_sec}"),
         Unit::Lines => ("{human_pos}", "{per_sec}"),
     };
-    text.push_str(count)?;
-    text.push_str(" {elapsed_precise}")?;
-    text.push_str(end)?;
-    text.push_str("{prefix}")?;
-    text.push_str(end)?;
-    text.push_str("mean ")?;
-    text.push_str(rate)?;
+    push_all(
+        text,
+        &[
+            count,
+            " {elapsed_precise}",
+            end,
+            "{prefix}",
+            end,
+            "mean ",
+            rate,
+        ],
+    )?;
+    match size {
+        Some(_) => push_all(text, &[end, "[{wide_bar}] {percent}%", end, "{msg}"]),
+        None => Ok(()),
+    }
+}
+
+/// These texts, one behind another.
+fn push_all(text: &mut String, parts: &[&str]) -> Result<(), Refusal> {
+    for part in parts {
+        text.push_str(part)?;
+    }
     Ok(())
 }
 
@@ -123,7 +141,12 @@ fn push_numbers(text: &mut String, unit: Unit, end: &str) -> Result<(), Refusal>
 fn push_name(alloc: Global, text: &mut String, name: &str, room: u16) -> Result<(), Refusal> {
     let plain = plain_text(alloc, name)?;
     let cut = cut(alloc, plain.as_str(), room as usize)?;
-    for c in cut.as_str().chars() {
+    push_literal(text, cut.as_str())
+}
+
+/// A text as a literal of a template.
+fn push_literal(text: &mut String, literal: &str) -> Result<(), Refusal> {
+    for c in literal.chars() {
         if c == '{' || c == '}' {
             text.push(c)?;
         }

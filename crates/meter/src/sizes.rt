@@ -20,12 +20,22 @@ pub fn size_of_all<R: Files>(rt: &R, files: &[&str]) -> Option<u64> {
 /// How many bytes the file of this name has.
 fn size_of<R: Files>(rt: &R, name: &str) -> Option<u64> {
     let path = if name == "-" { "/dev/stdin" } else { name };
-    let told = fs::metadata(rt, path).ok()?;
+    let Ok(told) = fs::metadata(rt, path) else {
+        return None;
+    };
     if told.file_type().is_block_device() {
-        return File::open(rt, path).ok()?.seek(SeekFrom::End(0)).ok();
+        device_size(rt, path)
+    } else if told.is_file() && told.len() > 0 {
+        Some(told.len())
+    } else {
+        None
     }
-    if told.is_file() && told.len() > 0 {
-        return Some(told.len());
+}
+
+/// How many bytes the device at this path has.
+fn device_size<R: Files>(rt: &R, path: &str) -> Option<u64> {
+    match File::open(rt, path) {
+        Ok(mut device) => device.seek(SeekFrom::End(0)).ok(),
+        Err(_) => None,
     }
-    None
 }

@@ -1,8 +1,8 @@
 //! What the bar is told each interval beside the count: how fast it went lately, when it will be over.
-use crate::arguments::{Begins, Unit};
+use crate::arguments::{Asked, Begins, Timing, Unit};
 use crate::shown::Bar;
 use indicatif::machine::MachineClock;
-use indicatif::{Clock as Tells, HumanBytes, HumanCount, HumanDuration, Refusal};
+use indicatif::{Clock as Tells, Drawn, HumanBytes, HumanCount, HumanDuration, Refusal};
 use jiff_core::Timestamp;
 use jiff_tz::{SystemTimeZone, TimeZoneDatabase};
 use meter_parts::{Done, Recent, TimeOfDay};
@@ -19,40 +19,38 @@ const SLICE: u64 = 5_000_000;
 /// A second.
 const SECOND: u64 = 1_000_000_000;
 
-/// What is told of a bar.
-#[derive(Clone, Copy, Drop)]
-pub struct Tale {
-    /// What is counted.
-    pub unit: Unit,
-    /// How much is to come, if it is known.
-    pub size: Option<u64>,
-    /// How often it is told.
-    pub interval: u64,
-    /// When the time begins.
-    pub begins: Begins,
-}
-
 /// Tells the bar of its rate and its end each interval, until it is finished.
 pub fn tell_until_finished<R: AllocGlobal + Env + Files + Wait + Clock + Copy + Drop>(
     rt: &R,
     bar: &Bar<R>,
-    tale: Tale,
+    asked: &Asked<'_>,
+    size: Option<u64>,
 ) {
     let teller = Teller {
         rt,
         bar,
-        tale,
+        unit: asked.look.unit,
+        timing: asked.timing,
+        size,
         zone: zone_seconds(rt),
     };
     let mut clock = MachineClock::new(*rt);
-    let mut recent = Recent::new(teller.done(clock.now()));
+    let mut recent = Recent::new(done_by(bar, clock.now()));
     for _ in rt.forever() {
         if teller.is_over() {
             break;
         }
-        let now = teller.done(clock.now());
+        let now = done_by(bar, clock.now());
         recent.went_on(now);
         let _ = teller.tell(&recent, now);
+    }
+}
+
+/// What is done by this moment.
+fn done_by<R: Wait + Clock + Copy + Drop>(bar: &Bar<R>, moment: u64) -> Done {
+    Done {
+        count: bar.position(),
+        moment,
     }
 }
 
@@ -61,22 +59,16 @@ pub fn tell_until_finished<R: AllocGlobal + Env + Files + Wait + Clock + Copy + 
 struct Teller<'a, R: Wait + Clock + Copy + Drop> {
     rt: &'a R,
     bar: &'a Bar<R>,
-    tale: Tale,
+    unit: Unit,
+    timing: Timing,
+    size: Option<u64>,
     zone: u64,
 }
 
 impl<R: AllocGlobal + Wait + Clock + Copy + Drop> Teller<'_, R> {
-    /// What is done by now.
-    fn done(&self, now: u64) -> Done {
-        Done {
-            count: self.bar.position(),
-            moment: now,
-        }
-    }
-
     /// Waits for an interval, at most until the bar is finished; whether it is.
     fn is_over(&self) -> bool {
-        let mut left = self.tale.interval;
+        let mut left = self.timing.interval;
         for _ in 0..u64::MAX {
             if self.bar.is_finished() {
                 return true;
@@ -93,22 +85,15 @@ impl<R: AllocGlobal + Wait + Clock + Copy + Drop> Teller<'_, R> {
 
     /// Tells the bar: its prefix is the rate, its message the time that is left and the time of day of the end.
     fn tell(&self, recent: &Recent, now: Done) -> Result<(), Refusal> {
-        if self.tale.begins == Begins::WithFirstByte && now.count == 0 {
+        if matches!(self.timing.begins, Begins::WithFirstByte) && now.count == 0 {
             return Ok(());
         }
-        let rate = rate_text(self.rt.alloc(), self.tale.unit, recent.rate(now))?;
+        let rate = rate_text(self.rt.alloc(), self.unit, recent.rate(now))?;
         self.bar.set_prefix(rate.as_str())?;
-        let Some(size) = self.tale.size else {
-            return Ok(());
-        };
-        match recent.time_for(size.saturating_sub(now.count), now) {
-            Some(left) => {
-                let end = end_text(self.rt, left, self.zone)?;
-                self.bar.set_message(end.as_str())?;
-            }
-            None => {
-                self.bar.set_message("stalled")?;
-            }
+        if let Some(size) = self.size {
+            let left = recent.time_for(size.saturating_sub(now.count), now);
+            let left = left_text(self.rt, left, self.zone)?;
+            self.bar.set_message(left.as_str())?;
         }
         Ok(())
     }
@@ -116,21 +101,30 @@ impl<R: AllocGlobal + Wait + Clock + Copy + Drop> Teller<'_, R> {
 
 /// A rate as text.
 fn rate_text(alloc: Global, unit: Unit, rate: u64) -> Result<String, Refusal> {
-    let text = match unit {
+    let mut text = match unit {
         Unit::Bytes => HumanBytes(rate).to_string(alloc)?,
         Unit::Lines => HumanCount(rate).to_string(alloc)?,
     };
-    Ok(format!(in alloc; "{text}/s")?)
+    text.push_str("/s")?;
+    Ok(text)
 }
 
-/// The time that is left and the time of day of the end.
-fn end_text<R: AllocGlobal + Clock>(rt: &R, left: u64, zone: u64) -> Result<String, Refusal> {
+/// The time that is left, if there is a rate, and the time of day of the end.
+fn left_text<R: AllocGlobal + Clock>(
+    rt: &R,
+    left: Option<u64>,
+    zone: u64,
+) -> Result<String, Refusal> {
     let mut text = String::new(rt.alloc());
-    HumanDuration(left).write_short(&mut text)?;
-    let end = day_seconds(rt, zone).saturating_add(left / SECOND);
-    let time = TimeOfDay(end).to_string(rt.alloc())?;
-    text.push(' ')?;
-    text.push_str(time.as_str())?;
+    match left {
+        Some(left) => {
+            let end = day_seconds(rt, zone).saturating_add(left / SECOND);
+            HumanDuration(left).write_short(&mut text)?;
+            text.push(' ')?;
+            text.write(TimeOfDay(end))?;
+        }
+        None => text.push_str("stalled")?,
+    }
     Ok(text)
 }
 
@@ -138,10 +132,9 @@ fn end_text<R: AllocGlobal + Clock>(rt: &R, left: u64, zone: u64) -> Result<Stri
 pub fn tell_end<R: AllocGlobal + Env + Files + Wait + Clock + Copy + Drop>(
     rt: &R,
     bar: &Bar<R>,
-) -> Result<(), Refusal> {
+) -> Result<Drawn, Refusal> {
     let time = TimeOfDay(day_seconds(rt, zone_seconds(rt))).to_string(rt.alloc())?;
-    bar.set_message(time.as_str())?;
-    Ok(())
+    bar.set_message(time.as_str())
 }
 
 /// The seconds of today, and of the days before it, where the zone is so many seconds ahead.
@@ -163,10 +156,27 @@ fn zone_seconds<R: AllocGlobal + Env + Files + Clock>(rt: &R) -> u64 {
 
 /// The same in the zone's own sign, where it is known.
 fn zone_now<R: AllocGlobal + Env + Files + Clock>(rt: &R) -> Option<i32> {
-    let zone = SystemTimeZone::read(rt).ok()?;
-    let database = TimeZoneDatabase::new(rt.alloc());
-    let told = zone.time_zone(&database).ok()?;
-    let nanos = rt.since_1970().ok()?.as_nanos();
-    let now = Timestamp::from_nanosecond(i128::try_from(nanos).ok()?).ok()?;
-    Some(told.to_offset(now).seconds)
+    let now = now_told(rt)?;
+    match SystemTimeZone::read(rt) {
+        Ok(zone) => seconds_in(&zone, rt.alloc(), now),
+        Err(_) => None,
+    }
+}
+
+/// How many seconds a zone is ahead of UTC at this moment, where it is known.
+fn seconds_in(zone: &SystemTimeZone, alloc: Global, now: Timestamp) -> Option<i32> {
+    let database = TimeZoneDatabase::new(alloc);
+    match zone.time_zone(&database) {
+        Ok(told) => Some(told.to_offset(now).seconds),
+        Err(_) => None,
+    }
+}
+
+/// The moment, where it is known.
+fn now_told<R: Clock>(rt: &R) -> Option<Timestamp> {
+    let Ok(time) = rt.since_1970() else {
+        return None;
+    };
+    let nanos = i128::try_from(time.as_nanos()).ok()?;
+    Timestamp::from_nanosecond(nanos).ok()
 }
