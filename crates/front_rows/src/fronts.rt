@@ -554,38 +554,22 @@ impl<
 
     /// Has to do with a bar's ticker, reads something of the bar, or makes a call of it.
     fn of_bar(&mut self, place: &str, rest: &str, got: &mut Got) {
-        let Some(bar) = self.bar(place) else {
-            return got.bad(Bad::Step);
-        };
         let rt = &self.maker.rt;
-        match rest {
-            "note" => self.noted = bar.ticks(),
-            "ticks_since" => got.number(bar.ticks().wrapping_sub(self.noted)),
-            "rests" => got.flag(rests(rt, bar)),
-            "comes_to_rest" => got.flag(comes_to_rest(rt, bar)),
-            _ => self.of_bar_words(place, rest, got),
-        }
-    }
-
-    /// The same by several words, or a reading or a call of the bar.
-    fn of_bar_words(&mut self, place: &str, rest: &str, got: &mut Got) {
-        let Some(bar) = self.bar(place) else {
-            return got.bad(Bad::Step);
-        };
-        let (name, word) = headed(rest);
-        match name {
-            "ticks_past" => match number::<u64>(word) {
-                Ok(ticks) => {
-                    let ticks = ticks.saturating_add(self.noted);
-                    got.flag(ticks_past(&self.maker.rt, bar, ticks));
-                }
+        match (self.bar(place), rest, rest.split_once(' ')) {
+            (None, _, _) => got.bad(Bad::Step),
+            (Some(bar), "note", _) => self.noted = bar.ticks(),
+            (Some(bar), "ticks_since", _) => got.number(bar.ticks().wrapping_sub(self.noted)),
+            (Some(bar), "rests", _) => got.flag(rests(rt, bar)),
+            (Some(bar), "comes_to_rest", _) => got.flag(comes_to_rest(rt, bar)),
+            (Some(bar), _, Some(("ticks_past", ticks))) => match number::<u64>(ticks) {
+                Ok(ticks) => got.flag(ticks_past(rt, bar, ticks.saturating_add(self.noted))),
                 Err(bad) => got.bad(bad),
             },
-            "ticker" => match set_ticker(bar, word) {
+            (Some(bar), _, Some(("ticker", nanos))) => match set_ticker(bar, nanos) {
                 Ok(()) => self.answer = Answered::Untold,
                 Err(bad) => got.bad(bad),
             },
-            _ => {
+            (Some(bar), _, _) => {
                 if !read(bar, rest, got) {
                     let told = self.bar_told(place, rest);
                     self.answered(told, got);
