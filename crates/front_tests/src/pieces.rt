@@ -50,7 +50,15 @@ fn answers_stand_in_the_order_of_the_pieces(rt: HostRuntime) {
     let gate = Turnstile {
         passed: AtomicU64::new(0),
     };
-    let made = doubled(&rt, alloc, pieces.as_slice(), &gate, &mut bar);
+    let made = run_workers_with(
+        &rt,
+        alloc,
+        pieces.as_slice(),
+        |x: &u32| x.wrapping_mul(2),
+        &gate,
+        &mut bar,
+    )
+    .expect(&rt, "granted");
     same!(rt; made.len(), 3);
     same!(rt; made[0].as_slice(), [2, 4].as_slice());
     same!(rt; made[1].as_slice(), [6].as_slice());
