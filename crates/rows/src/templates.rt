@@ -103,14 +103,15 @@ fn push_sequences(written: &str, got: &mut Got) {
 pub fn styled(name: &str, rest: &str, at: At, got: &mut Got) {
     let (words, rest) = headed(rest);
     let style = Style::from_dotted_str(words);
-    match (name, unescaped(at.alloc, rest)) {
-        ("opened", _) => open(style, got),
-        ("same_style", _) => got.flag(style == Style::from_dotted_str(rest)),
-        ("no_style", _) => got.flag(style == Style::new()),
-        ("painted", Ok(text)) => paint(style, true, text.as_str(), got),
-        ("unpainted", Ok(text)) => paint(style, false, text.as_str(), got),
-        (_, Ok(_)) => got.bad(Bad::Step),
-        (_, Err(bad)) => got.bad(bad),
+    match name {
+        "opened" => open(style, got),
+        "same_style" => got.flag(style == Style::from_dotted_str(rest)),
+        "no_style" => got.flag(style == Style::new()),
+        "painted" | "unpainted" => match unescaped(at.alloc, rest) {
+            Ok(text) => paint(style, name == "painted", text.as_str(), got),
+            Err(bad) => got.bad(bad),
+        },
+        _ => got.bad(Bad::Step),
     }
 }
 
