@@ -76,14 +76,8 @@ fn state_for(alloc: Global, calls: BarCalls, count: u64) -> Result<BarState<NoTr
     }
 }
 
-/// Calls a bar so many times, with these texts in turn.
-fn call(
-    rt: &HostRuntime,
-    bar: &mut Bar,
-    calls: BarCalls,
-    texts: &[&str; 4],
-    count: u64,
-) -> Result<()> {
+/// Tells a bar these texts in turn, so many times; nothing by other calls.
+fn say(bar: &mut Bar, calls: BarCalls, texts: &[&str; 4], count: u64) -> Result<(), Refusal> {
     match calls {
         BarCalls::Messages(_) => {
             for turn in 0..count {
@@ -96,6 +90,35 @@ fn call(
                 bar.println(texts[(turn % 4) as usize], 0)?;
             }
         }
+        BarCalls::HeldMessages => {
+            for _ in 0..count {
+                bar.set_message(texts[0], 0)?;
+            }
+        }
+        _ => {}
+    }
+    Ok(())
+}
+
+/// Steps of a bar, each at the moment that the machine's clock tells.
+fn step_by_clock(rt: &HostRuntime, bar: &mut Bar, count: u64) -> Result<()> {
+    let start = Instant::now(rt)?;
+    for _ in 0..count {
+        bar.inc(1, nanos_since(rt, start)?)?;
+    }
+    Ok(())
+}
+
+/// Calls a bar so many times, with these texts in turn.
+fn call(
+    rt: &HostRuntime,
+    bar: &mut Bar,
+    calls: BarCalls,
+    texts: &[&str; 4],
+    count: u64,
+) -> Result<()> {
+    match calls {
+        BarCalls::ClockedSteps => step_by_clock(rt, bar, count)?,
         BarCalls::DrawnSteps => {
             for _ in 0..count {
                 bar.inc(1, 0)?;
@@ -107,22 +130,12 @@ fn call(
                 bar.inc(1, turn.wrapping_mul(20))?;
             }
         }
-        BarCalls::ClockedSteps => {
-            let start = Instant::now(rt)?;
-            for _ in 0..count {
-                bar.inc(1, nanos_since(rt, start)?)?;
-            }
-        }
         BarCalls::HeldTicks => {
             for _ in 0..count {
                 bar.tick(0)?;
             }
         }
-        BarCalls::HeldMessages => {
-            for _ in 0..count {
-                bar.set_message(texts[0], 0)?;
-            }
-        }
+        _ => say(bar, calls, texts, count)?,
     }
     Ok(())
 }

@@ -17,11 +17,11 @@ type Bar<R> = ProgressBar<Term<Sink>, MachineClock<R>, R>;
 /// What is done with a bar that is shared.
 #[derive(Clone, Copy)]
 pub enum SharedCalls {
-    /// A step, though nobody else steps it. It draws 20 times a second.
+    /// A step of a bar that nobody else steps, with 20 draws a second.
     Steps,
-    /// A step in each of four threads; it is hidden.
+    /// A step of a hidden bar in each of four threads.
     StepsInFour,
-    /// A number made of each of those below the count, in several threads; it is hidden.
+    /// A number made of each of those below the count, in several threads, with a hidden bar.
     Mapped,
 }
 

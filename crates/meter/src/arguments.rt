@@ -133,7 +133,7 @@ enum Given {
     Words,
     /// By its letter or its name.
     Flag(char),
-    /// By its letter or its name, and a value that the help names so.
+    /// By its letter or its name, with a value, and what the help calls that.
     Valued(char, &'static str),
     /// By its letter or its name, and a number of columns.
     Columns(char),

@@ -6,7 +6,7 @@ use indicatif::machine::MachineClock;
 use indicatif::{Clock, Refusal};
 use meter_parts::{Broken, Gauge, Pace, lines_in, pass_on};
 use std::fs::File;
-use std::io::{Error, Stderr, Stdin, Stdout};
+use std::io::{Error, Stdin, Stdout};
 use std::rt::Files;
 use std::sync::Wait;
 use std::time::Duration;
@@ -37,15 +37,13 @@ pub struct Copied {
     pub output: Option<Error>,
 }
 
-/// The standard streams: bytes go from the first to the second, and the bar stands on the third.
+/// The standard streams: bytes go from the first to the second.
 #[derive(Clone, Copy, Drop)]
 pub struct Streams {
     /// Standard input.
     pub input: Stdin,
     /// Standard output.
     pub output: Stdout,
-    /// Standard error.
-    pub errors: Stderr,
 }
 
 /// What the bytes are told to as they go on.
@@ -130,8 +128,21 @@ impl<'a, R: AllocGlobal + Wait + time::Clock + Copy + Drop> Watch<'a, R> {
 
 /// Hands all inputs on to standard output, and finishes the bar where it stands. The bar, and numbers, are told of each piece.
 ///
-/// Refused: `Memory`.
+/// Refused: `Memory`; the bar is finished all the same.
 pub fn copy_all<R: Files + AllocGlobal + Eprint + Wait + time::Clock + Copy + Drop>(
+    rt: &R,
+    streams: Streams,
+    asked: &Asked<'_>,
+    size: Option<u64>,
+    bar: &Bar<R>,
+) -> Result<Copied, Refusal> {
+    let copied = handed_on(rt, streams, asked, size, bar);
+    let _ = bar.abandon();
+    copied
+}
+
+/// Hands them on, and tells numbers of the end.
+fn handed_on<R: Files + AllocGlobal + Eprint + Wait + time::Clock + Copy + Drop>(
     rt: &R,
     streams: Streams,
     asked: &Asked<'_>,
@@ -140,12 +151,11 @@ pub fn copy_all<R: Files + AllocGlobal + Eprint + Wait + time::Clock + Copy + Dr
 ) -> Result<Copied, Refusal> {
     let mut block = vec![in rt.alloc(); 0u8; FRONT + BUFFER]?;
     let mut watch = Watch::new(rt, bar, asked, size);
-    let copied = copy_files(rt, streams, &asked.files, &mut watch, &mut block[FRONT..]);
-    if let (Ok(_), Some(numbers)) = (&copied, &mut watch.numbers) {
+    let copied = copy_files(rt, streams, &asked.files, &mut watch, &mut block[FRONT..])?;
+    if let Some(numbers) = &mut watch.numbers {
         numbers.end(rt);
     }
-    let _ = bar.abandon();
-    copied
+    Ok(copied)
 }
 
 /// Hands these files on, or standard input where there is none, until the output fails.
@@ -185,7 +195,6 @@ fn copy_named<R: Files, G: Gauge>(
     let Streams {
         mut input,
         mut output,
-        ..
     } = streams;
     if name == "-" {
         return pass_on(&mut input, &mut output, gauge, buffer);

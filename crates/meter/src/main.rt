@@ -30,7 +30,7 @@ use meter_parts::plain_text;
 use shown::{Bar, bar_for};
 use sizes::size_of_all;
 use std::env::Env;
-use std::io::{Error, ErrorKind};
+use std::io::{Error, ErrorKind, Stderr};
 use std::process::ExitCode;
 use std::rt::Files;
 use std::sync::Wait;
@@ -50,10 +50,9 @@ fn main(rt: HostRuntime) -> ExitCode {
     let streams = Streams {
         input: rt.stdin(),
         output: rt.stdout(),
-        errors: rt.stderr(),
     };
     let size = size_for(&rt, &asked);
-    let bar = match begun(&rt, streams, &asked, size) {
+    let bar = match begun(&rt, rt.stderr(), &asked, size) {
         Ok(bar) => bar,
         Err(refusal) => return refused(&rt, &refusal),
     };
@@ -87,11 +86,11 @@ fn size_for<R: Files>(rt: &R, asked: &Asked<'_>) -> Option<u64> {
 /// Refused: `Memory`, and what a template is refused with.
 fn begun<R: Shares + Env>(
     rt: &R,
-    streams: Streams,
+    errors: Stderr,
     asked: &Asked<'_>,
     size: Option<u64>,
 ) -> Result<Bar<R>, Refusal> {
-    let bar = bar_for(rt, streams.errors, asked, size)?;
+    let bar = bar_for(rt, errors, asked, size)?;
     if matches!(asked.timing.begins, Begins::AtOnce) && !bar.is_hidden() {
         bar.enable_steady_tick(asked.timing.interval)?;
     }

@@ -109,7 +109,7 @@ fn rate_text(alloc: Global, unit: Unit, rate: u64) -> Result<String, Refusal> {
     Ok(text)
 }
 
-/// The time that is left, if there is a rate, and the time of day of the end.
+/// The time that is left and the time of day of the end; `stalled` where there is no rate.
 fn left_text<R: AllocGlobal + Clock>(
     rt: &R,
     left: Option<u64>,
