@@ -3,13 +3,12 @@
 use anyhow::Result;
 use indicatif::MultiProgress;
 use indicatif::bridge::LogBridge;
-use indicatif::machine::{MachineClock, Shares, StderrBar, StreamTerm, on_stderr};
+use indicatif::machine::{MachineClock, Shares, StderrBar, StderrTerm, on_stderr};
 use log::{Level, Logged, info, warn};
-use std::io::Stderr;
 use std::thread::sleep;
 use std::time::Duration;
 
-type Logger<R> = Logged<R, LogBridge<StreamTerm<Stderr>, MachineClock<HostRuntime>, R>>;
+type Logger<R> = Logged<R, LogBridge<StderrTerm, MachineClock<HostRuntime>, R>>;
 
 fn copy<R: Shares>(
     rt: &R,

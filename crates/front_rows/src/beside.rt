@@ -358,7 +358,7 @@ fn tell_alone(bar: &mut Lone, alloc: Global, text: &str, now: Moment) -> Result<
 fn call_of(alloc: Global, text: &str) -> Result<LoneCall<NoTracker>, Bad> {
     let (name, rest) = headed(text);
     match (name, number(rest)) {
-        ("at_end", _) => Ok(LoneCall::Bar(BarCommand::FinishUsingStyle)),
+        ("at_end", _) if rest.is_empty() => Ok(LoneCall::Bar(BarCommand::FinishUsingStyle)),
         ("set_style" | "with_style", _) => match spinner(alloc, rest) {
             Ok(style) => Ok(LoneCall::Bar(BarCommand::SetStyle(style))),
             Err(refusal) => Err(Bad::Refused(refusal)),

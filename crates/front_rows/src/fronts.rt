@@ -150,11 +150,11 @@ impl<R: Wait + Copy + Clone + Drop> Fronts<R> {
         }
     }
 
-    /// Makes one of several words.
+    /// Makes a step that has words behind its name.
     fn play_words(&mut self, step: &str, got: &mut Got) {
         let (name, place) = headed(step);
         match name {
-            "rate" | "moments" | "on" => self.sets(step, got),
+            "rate" | "moments" | "on" if !place.is_empty() => self.sets(step, got),
             "weak" => match self.weak_of(place) {
                 Ok(weak) => self.weak = weak,
                 Err(bad) => got.bad(bad),
@@ -325,7 +325,7 @@ impl<R: Wait + Copy + Clone + Drop> Fronts<R> {
         self.settled(answer, got);
     }
 
-    /// One of several words.
+    /// A call of the board that has a word behind its name.
     fn settles_words(&mut self, step: &str, got: &mut Got) {
         let Some(board) = self.board() else {
             return got.bad(Bad::Step);

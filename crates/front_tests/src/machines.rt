@@ -1,7 +1,7 @@
 //! What is asked of the machine: its clock, and the terminals behind the program's own streams or behind a writer.
 use indicatif::machine::{
-    MachineClock, Shares, StderrBoard, StreamSetup, TerminalSetup, facts_of, on_stderr, on_stdout,
-    on_stream, style_on_stderr, told_setup, wants_colors,
+    MachineClock, Shares, StderrBoard, StderrSetup, StreamSetup, TerminalSetup, facts_of,
+    on_stderr, on_stdout, on_stream, style_on_stderr, told_setup, wants_colors,
 };
 use indicatif::{
     BarState, Clock, Drawn, Facts, InMemoryTerm, LoneBar, Moment, MultiProgress, NoTracker,
@@ -9,7 +9,7 @@ use indicatif::{
 };
 use std::alloc::Global;
 use std::cell::Cell;
-use std::io::{self, BufWriter, ErrorKind, Stderr};
+use std::io::{self, BufWriter, ErrorKind, Stdout};
 use std::process::Abort;
 use std::time::{self, Duration};
 
@@ -76,17 +76,18 @@ fn is_hidden_by(facts: &Facts) -> bool {
 #[test]
 fn the_programs_own_streams(rt: HostRuntime) {
     let out = is_hidden_by(&facts_of(&rt, &rt.stdout()).expect(&rt, "granted"));
-    same!(rt; on_stdout(&rt).expect(&rt, "granted").target.is_hidden(), out);
+    let setup: StreamSetup<Stdout> = on_stdout(&rt).expect(&rt, "granted");
+    same!(rt; setup.target.is_hidden(), out);
+    let setup = on_stream(&rt, rt.stdout()).expect(&rt, "granted");
+    same!(rt; setup.target.is_hidden(), out);
     let err = is_hidden_by(&facts_of(&rt, &rt.stderr()).expect(&rt, "granted"));
     same!(rt; on_stderr(&rt).expect(&rt, "granted").target.is_hidden(), err);
-    let setup = on_stream(&rt, rt.stderr()).expect(&rt, "granted");
-    same!(rt; setup.target.is_hidden(), err);
     let board = board_on(rt, on_stderr(&rt).expect(&rt, "granted")).expect(&rt, "granted");
     same!(rt; board.is_hidden(), err);
 }
 
 /// A board on standard error.
-fn board_on<R: Shares>(rt: R, setup: StreamSetup<Stderr>) -> Result<StderrBoard<R>, Refusal> {
+fn board_on<R: Shares>(rt: R, setup: StderrSetup) -> Result<StderrBoard<R>, Refusal> {
     MultiProgress::new(rt, rt.alloc(), setup, 1)
 }
 

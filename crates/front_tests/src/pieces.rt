@@ -50,6 +50,7 @@ fn answers_stand_in_the_order_of_the_pieces(rt: HostRuntime) {
     let gate = Turnstile {
         passed: AtomicU64::new(0),
     };
+    // (not by `doubled`: that an answer stands at each index is what the contract of the call tells)
     let made = run_workers_with(
         &rt,
         alloc,

@@ -6,6 +6,7 @@ pub mod Owned
 pub mod Parallel
 pub mod Ring
 pub mod Seek
+pub mod StderrTerm
 pub mod Workers
 pub mod Wrap
 pub mod Inside

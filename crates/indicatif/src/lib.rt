@@ -11,7 +11,7 @@
 //! - Looks: `ProgressStyle` from a template, `style::ProgressTracker` for keys of your own, `ProgressFinish` for a bar's end.
 //! - Wrappers: `ProgressBar::wrap_iter`, `wrap_read`, `wrap_write` and the polled ones move a bar. `ProgressIterator` also makes the bar.
 //!   `ParallelProgressIterator` is for slices, and `run_workers` for pieces in threads. Your own type of bar has to implement `Moves`.
-//! - Targets, where a bar draws: `machine::on_stderr` and `machine::on_stdout`; `machine::sized_target` for another size. You can also make
+//! - Targets, where a bar draws: `machine::on_stderr` and `machine::on_stdout`; `machine::sized_stderr` for another size. You can also make
 //!   a `ProgressDrawTarget` over a `Term` behind any writer, over an `InMemoryTerm` in tests, or over your own `TermLike`.
 //! - Numbers as texts: `HumanBytes`, `DecimalBytes`, `BinaryBytes`, `HumanDuration`, `FormattedDuration`, `HumanCount`, `HumanFloatCount`.
 //! - Logs: `bridge::LogBridge`, a sink of the crate `log` that writes above the bars.

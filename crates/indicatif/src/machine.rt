@@ -4,9 +4,12 @@ ghost use Rattle.std.specs.Prelude.{◌≡◌, ◌⊎◌, ◌↔◌, ◌≤◌, 
 ghost use Rattle.indicatif_text.specs.declared.template.TemplateError.{TemplateError};
 ghost use Rattle.indicatif_text.specs.Template.{Parses, IsRefused, refusal_of};
 ghost use Rattle.indicatif_bar.specs.Builders.{first_style};
-ghost use Rattle.indicatif.specs.Machine.{IsBehind, IsOnStream, columns_by, ends_by};
+ghost use Rattle.indicatif.specs.Machine.{IsBehind, IsOnStream, IsOnStderr, columns_by, ends_by};
 ghost use Rattle.indicatif.specs.OwnRows.{new_rows};
 
+mod stderr_term;
+
+pub use crate::machine::stderr_term::StderrTerm;
 use crate::own_rows::OwnRows;
 use crate::progress_bar::{MultiProgress, ProgressBar};
 use indicatif_bar::style::{NoTracker, ProgressStyle, TICKS, Tracks};
@@ -199,10 +202,17 @@ pub type StreamTerm<W> = OwnRows<Term<BufWriter<W>>>;
 /// What a bar is made with there; `R` is the runtime that tells the time.
 ///
 /// ```
-/// let setup: StreamSetup<Stderr> = on_stderr(&rt)?;
-/// let bar = LoneBar::new(bar, setup.target);
+/// let setup: StreamSetup<Stdout> = on_stdout(&rt)?;
 /// ```
 pub type StreamSetup<W, R = HostRuntime> = Setup<StreamTerm<W>, MachineClock<R>>;
+
+/// What a bar is made with on standard error.
+///
+/// ```
+/// let setup: StderrSetup = on_stderr(&rt)?;
+/// let bar = LoneBar::new(bar, setup.target);
+/// ```
+pub type StderrSetup = Setup<StderrTerm, MachineClock<HostRuntime>>;
 
 /// A shared bar on standard error, as `on_stderr` sets it up; `R` is the runtime of the function that has it.
 ///
@@ -211,26 +221,16 @@ pub type StreamSetup<W, R = HostRuntime> = Setup<StreamTerm<W>, MachineClock<R>>
 ///     bar.inc(1)
 /// }
 /// ```
-pub type StderrBar<R, K = NoTracker> = ProgressBar<
-    StreamTerm<Stderr>,
-    MachineClock<HostRuntime>,
-    R,
-    K,
->;
+pub type StderrBar<R, K = NoTracker> = ProgressBar<StderrTerm, MachineClock<HostRuntime>, R, K>;
 
 /// A shared board there.
 ///
 /// ```
-/// fn board_on<R: Shares>(rt: R, setup: StreamSetup<Stderr>) -> Result<StderrBoard<R>, Refusal> {
+/// fn board_on<R: Shares>(rt: R, setup: StderrSetup) -> Result<StderrBoard<R>, Refusal> {
 ///     MultiProgress::new(rt, rt.alloc(), setup, 1)
 /// }
 /// ```
-pub type StderrBoard<R, K = NoTracker> = MultiProgress<
-    StreamTerm<Stderr>,
-    MachineClock<HostRuntime>,
-    R,
-    K,
->;
+pub type StderrBoard<R, K = NoTracker> = MultiProgress<StderrTerm, MachineClock<HostRuntime>, R, K>;
 
 /// What functions over shared bars ask of the runtime, in one word: memory, locks, threads and the time. The one that `main` is
 /// given has it.
@@ -262,11 +262,15 @@ impl<R: AllocGlobal + Wait + Threads + time::Clock + Sync + Send + Copy + Drop +
 /// ```
 ///
 /// Refused: `Memory`.
-pub fn on_stderr(rt: &HostRuntime) -> Result<StreamSetup<Stderr>, Refusal>
-    ensures target { IfOk result (λ setup. (told : Option ℕ) × (facts : Facts) × IsOnStream setup.target told facts) }
+pub fn on_stderr(rt: &HostRuntime) -> Result<StderrSetup, Refusal>
+    ensures target { IfOk result (λ setup. (told : Option ℕ) × (facts : Facts) × IsOnStderr setup.target told facts) }
     ensures memory { IfErr result (λ e. e ≡ Refusal.Memory) }
 {
-    on_stream(rt, rt.stderr())
+    let Setup { target, clock } = on_stream(rt, rt.stderr())?;
+    Ok(Setup {
+        target: StderrTerm::target(target),
+        clock,
+    })
 }
 
 /// The same on standard output.
@@ -282,7 +286,7 @@ pub fn on_stdout(rt: &HostRuntime) -> Result<StreamSetup<Stdout>, Refusal>
 /// The same on any stream that says whether it is a terminal, by the variables and the clock of any runtime.
 ///
 /// ```
-/// let setup = on_stream(&rt, rt.stderr())?; // what `on_stderr(&rt)?` makes
+/// let setup = on_stream(&rt, rt.stdout())?; // what `on_stdout(&rt)?` makes
 /// ```
 ///
 /// Refused: `Memory`; the stream is given up.
@@ -300,7 +304,7 @@ pub fn on_stream<R: Env + AllocGlobal + time::Clock + Copy, W: Write + IsTermina
     Ok(Setup { target, clock })
 }
 
-/// A target on a stream of which it is told now that its terminal has this size. So a program that hears of another size passes it on to
+/// A target on standard error of which it is told now that its terminal has this size. So a program that hears of another size passes it on to
 /// a shared bar or board: nothing here asks the terminal, and `LINES` and `COLUMNS` say what they said when the program began.
 ///
 /// The size is believed: bars have all `cols` columns. The target is hidden where that of `on_stream` is, and is drawn as often. Bars
@@ -309,7 +313,27 @@ pub fn on_stream<R: Env + AllocGlobal + time::Clock + Copy, W: Write + IsTermina
 ///
 /// ```
 /// board.clear()?; // its rows are taken back
-/// board.set_draw_target(sized_target(&rt, rt.stderr(), 50, 132)?)?; // and stand on 132 columns from the next draw on
+/// board.set_draw_target(sized_stderr(&rt, 50, 132)?)?; // and stand on 132 columns from the next draw on
+/// ```
+///
+/// Refused: `ZeroSize` where `rows` or `cols` is 0; `Memory`.
+pub fn sized_stderr(
+    rt: &HostRuntime,
+    rows: u16,
+    cols: u16,
+) -> Result<ProgressDrawTarget<StderrTerm>, Refusal>
+    ensures target { IfOk result (λ target. (facts : Facts) × (facts.rows ≡ rows) × IsOnStderr target (Some cols) facts) }
+    ensures zero_size { (result ≡ Err Refusal.ZeroSize) ↔ ((rows ≡ 0) ⊎ (cols ≡ 0)) }
+    ensures no_other { IfErr result (λ e. (e ≡ Refusal.ZeroSize) ⊎ (e ≡ Refusal.Memory)) }
+{
+    let target = sized_target(rt, rt.stderr(), rows, cols)?;
+    Ok(StderrTerm::target(target))
+}
+
+/// The same of any stream.
+///
+/// ```
+/// let target = sized_target(&rt, rt.stdout(), 50, 132)?;
 /// ```
 ///
 /// Refused: `ZeroSize` where `rows` or `cols` is 0; `Memory`. The stream is given up.

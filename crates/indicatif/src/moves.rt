@@ -60,13 +60,14 @@ pub trait Moves {
         ensures led { leads self.old step result self.new }
         ensures goes { Goes (stands self.old) step result (stands self.new) };
 
-    /// The position becomes the place after `n` more from it, as `seeks` says, in one step: of a bar that others move meanwhile
-    /// nothing is lost. A bar that is one's own needs no other than this.
-    fn place_after(&mut self, seeks: &mut SeekMax<5, 10>, n: u64) -> Result<Drawn, Refusal>
-        ensures { PlacedAfter stands leads self.old seeks.old n result self.new seeks.new }
+    /// The position becomes the place after `n` more from it, as `seeks` says, in one step, and the answer is that of its draw: so of a bar
+    /// that others move meanwhile nothing is lost. `None` of a bar that is one's own: nothing is done, and who has it reads where it
+    /// stands and places it.
+    fn place_after(&self, seeks: &mut SeekMax<5, 10>, n: u64) -> Option<Result<Drawn, Refusal>>
+        ensures placed { IfSome result (λ answer. PlacedAfter stands leads self.now seeks.old n answer self.now seeks.new) }
+        ensures none { result ≡ None → seeks.new ≡ seeks.old }
     {
-        let place = seeks.update_seq(self.reading().position, n);
-        self.make_move(Move::PlaceAt(place))
+        None
     }
 
     /// Whether threads that work on a list (`map_collect`, `for_each`) may move it within a block, by smaller steps; how many these are

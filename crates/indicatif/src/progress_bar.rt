@@ -422,11 +422,9 @@ impl<T: TermLike + Drop, C: Clock + Drop, R: Wait + Clone + Drop, K: Tracks> Mov
     }
 
     #[tactic(auto, using(crate::proofs::PlacedLemmas::untold_placed))]
-    fn place_after(&mut self, seeks: &mut SeekMax<5, 10>, n: u64) -> Result<Drawn, Refusal> {
-        self.state
-            .lock
-            .lock(&self.rt)
-            .place_after(&self.rt, seeks, n)
+    fn place_after(&self, seeks: &mut SeekMax<5, 10>, n: u64) -> Option<Result<Drawn, Refusal>> {
+        let mut locked = self.state.lock.lock(&self.rt);
+        Some(locked.place_after(&self.rt, seeks, n))
     }
 
     /// Its position isn't one that a contract could tell.

@@ -1,9 +1,10 @@
 //! The wrapper.
 ghost use Rattle.std.specs.Prelude.{◌≡◌, None};
 ghost use Rattle.indicatif.specs.Seek.{no_seeks};
+ghost use Rattle.indicatif.specs.Moves.{PlacedAfter};
 ghost use Rattle.indicatif.specs.Wrap.{inner_of, wrapped_seeks, last_draw_of, Placed};
 
-use crate::moves::Moves;
+use crate::moves::{Move, Moves};
 use crate::seek::SeekMax;
 use indicatif_text::columns::{Drawn, Refusal};
 
@@ -71,7 +72,18 @@ impl<T, P: Moves> ProgressBarIter<T, P> {
         ensures it { inner_of self.new ≡ inner_of self.old }
         ensures placed { Placed P.stands P.leads self.old n self.new }
     {
-        let answer = self.progress.place_after(&mut self.seeks, n);
+        let answer = match self.progress.place_after(&mut self.seeks, n) {
+            Some(answer) => answer,
+            None => place(&mut self.progress, &mut self.seeks, n),
+        };
         self.last = Some(answer);
     }
+}
+
+/// Reads where a bar stands, and places it after `n` more.
+fn place<P: Moves>(bar: &mut P, seeks: &mut SeekMax<5, 10>, n: u64) -> Result<Drawn, Refusal>
+    ensures { PlacedAfter P.stands P.leads bar.old seeks.old n result bar.new seeks.new }
+{
+    let place = seeks.update_seq(bar.reading().position, n);
+    bar.make_move(Move::PlaceAt(place))
 }

@@ -62,7 +62,8 @@ fn main(rt: HostRuntime) -> ExitCode {
         make_room(&rt, &asked);
         let copy = || copy_all(&rt, streams, &asked, size, &bar);
         let tell = || tell_until_finished(&rt, &bar, &asked, size);
-        let (copied, ()) = join(&rt, copy, tell);
+        // (where no thread can be made, `join` calls its second closure first, and `tell` waits for the end of `copy`)
+        let ((), copied) = join(&rt, tell, copy);
         last_look(&rt, &asked, &bar);
         copied
     };

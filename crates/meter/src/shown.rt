@@ -4,7 +4,7 @@ use indicatif::machine::{MachineClock, facts_of, wants_colors};
 use indicatif::{
     Clock, Facts, NoTracker, ProgressBar, ProgressDrawTarget, ProgressStyle, Refusal, Setup, Term,
 };
-use meter_parts::{Screen, cut, plain_text};
+use meter_parts::{Screen, StderrScreen, cut, plain_text};
 use std::alloc::Global;
 use std::env::Env;
 use std::io::{BufWriter, Stderr};
@@ -12,7 +12,7 @@ use std::sync::Wait;
 use std::time;
 
 /// A bar on standard error, which the thread that copies and the one that shows have in common.
-pub type Bar<R> = ProgressBar<Screen<Term<BufWriter<Stderr>>>, MachineClock<R>, R>;
+pub type Bar<R> = ProgressBar<StderrScreen, MachineClock<R>, R>;
 
 /// Terminals of fewer columns have a row for each number.
 const WIDE: u16 = 72;
@@ -37,7 +37,7 @@ pub fn bar_for<R: AllocGlobal + Env + Wait + time::Clock + Copy + Drop>(
         return Err(Refusal::Memory);
     };
     let screen = Screen::new(Term::new(writer, facts.rows, facts.cols), asked.look.row);
-    let target = ProgressDrawTarget::term(screen, facts, HZ, clock.now())?;
+    let target = ProgressDrawTarget::term(StderrScreen::new(screen), facts, HZ, clock.now())?;
     let setup = Setup { target, clock };
     let bar = ProgressBar::styled(*rt, rt.alloc(), style, size, setup)?;
     bar.with_prefix(no_rate(asked.look.unit))

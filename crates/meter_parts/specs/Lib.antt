@@ -4,3 +4,4 @@ pub mod Passing
 pub mod Plain
 pub mod Recent
 pub mod Screen
+pub mod StderrScreen

@@ -84,6 +84,9 @@ pub fn shown(rest: &str, at: At, got: &mut Got) {
 fn push_all(size: Size, bytes: &[u8], at: At, got: &mut Got) {
     let mut reading = Got::new(at.alloc);
     push_fed(size, bytes, (None, at), &mut reading);
+    if let Some(bad) = reading.fault() {
+        return got.bad(bad);
+    }
     got.text(reading.as_str());
     push_cuts(size, bytes, (reading.as_str(), at), got);
 }
@@ -103,12 +106,10 @@ fn push_cuts(size: Size, bytes: &[u8], (wanted, at): (&str, At), got: &mut Got) 
 /// Appends what a terminal shows that was fed with bytes: with two parts of them, or one by one.
 fn push_fed(size: Size, bytes: &[u8], (cut, at): (Option<usize>, At), got: &mut Got) {
     match terminal(size, at) {
-        Ok(mut cells) => {
-            match feed_parts(&mut cells, bytes, cut) {
-                Ok(()) => push_reading(&cells, got),
-                Err(refusal) => got.bad(Bad::Refused(refusal)),
-            }
-        }
+        Ok(mut cells) => match feed_parts(&mut cells, bytes, cut) {
+            Ok(()) => push_reading(&cells, got),
+            Err(refusal) => got.bad(Bad::Refused(refusal)),
+        },
         Err(bad) => got.bad(bad),
     }
 }

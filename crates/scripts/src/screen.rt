@@ -304,7 +304,7 @@ fn push_row(screen: &Screen, number_of_row: &str, got: &mut Got) {
     match (number(number_of_row), screen.contents()) {
         (Ok(row), Ok(contents)) => got.text(nth_row(contents.as_str(), row)),
         (Err(bad), _) => got.bad(bad),
-        (_, Err(refusal)) => got.refusal(refusal),
+        (_, Err(refusal)) => got.bad(Bad::Refused(refusal)),
     }
 }
 

@@ -1,7 +1,7 @@
 //! What is asked of the machine.
 use indicatif::machine::{
-    MachineClock, Shares, StderrBar, StreamSetup, StreamTerm, TerminalSetup, facts_of, on_stderr,
-    sized_target, style_on_stderr, told_setup, wants_colors,
+    MachineClock, Shares, StderrBar, StderrSetup, StreamTerm, TerminalSetup, facts_of, on_stderr,
+    sized_stderr, sized_target, style_on_stderr, told_setup, wants_colors,
 };
 use indicatif::{
     BarState, Clock, Drawn, Facts, LoneBar, MultiProgress, NoTracker, OwnRows, ProgressBar,
@@ -73,9 +73,11 @@ fn bars_of_one_owner_on_standard_error(rt: HostRuntime) {
     let setup: TerminalSetup<Stderr> = told_setup(&rt, rt.stderr(), facts).expect(&rt, "granted");
     holds!(rt; setup.target.is_hidden());
     let bar = BarState::<NoTracker>::new(rt.alloc(), Some(3), 0).expect(&rt, "granted");
-    let setup: StreamSetup<Stderr> = on_stderr(&rt).expect(&rt, "granted");
+    let setup: StderrSetup = on_stderr(&rt).expect(&rt, "granted");
     let bar = LoneBar::new(bar, setup.target);
     same!(rt; bar.bar().state().pos(), 0);
+    let target = sized_target(&rt, rt.stdout(), 50, 132).expect(&rt, "granted");
+    holds!(rt; target.is_hidden());
     let list = vec![in rt.alloc(); 7u64].expect(&rt, "granted");
     let mut wrapped = list
         .into_iter()
@@ -117,7 +119,7 @@ fn shared_bars_on_standard_error(rt: HostRuntime) {
     let board = MultiProgress::new(rt, rt.alloc(), setup, 1).expect(&rt, "granted");
     board.clear().expect(&rt, "granted");
     board
-        .set_draw_target(sized_target(&rt, rt.stderr(), 50, 132).expect(&rt, "granted"))
+        .set_draw_target(sized_stderr(&rt, 50, 132).expect(&rt, "granted"))
         .expect(&rt, "granted");
     holds!(rt; board.is_hidden());
 }
