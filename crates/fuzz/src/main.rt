@@ -5,8 +5,8 @@
 //! makes so many calls, 8 where none are said. It prints how many runs of each kind there were and how many broke a law; of the first of
 //! these its number and the law. The same seed gives the same bytes, templates and lists. The exit status is 1 where a law was broken.
 //!
-//! `fuzz sweeps ..` and `fuzz whole_frames ..` do what the modules of these names say. `fuzz SEED BYTES ..`, with the numbers alone, does
-//! all three, one after another.
+//! `fuzz sweeps ..`, `fuzz whole_frames ..` and `fuzz measure ..` do what the modules of these names say. `fuzz SEED BYTES ..`, with the
+//! numbers alone, makes random input, then the sweeps, then the whole frames.
 //!
 //! - `numbers`: random numbers. `law`: what has to hold. `texts`, `calls`: random texts and calls.
 //! - `cells`: bytes. `templates`: templates and styles.
@@ -14,6 +14,7 @@
 //! - `threads`: a shared board that keeps its history. `player`, `deed`: what a thread does.
 //! - `tickers`: one bar's ticker, told on by one thread and off by another, 200 times each; both have to end.
 //! - `sweeps`: terminals that fail, at each place where they can. `whole_frames`: engines beside one that writes whole frames.
+//! - `measure`: how long calls take.
 #![tactic(auto)]
 
 mod board_lists;
@@ -22,6 +23,7 @@ mod cells;
 mod deed;
 mod law;
 mod lone_lists;
+mod measure;
 mod numbers;
 mod player;
 mod setting;
@@ -67,6 +69,8 @@ enum Asked {
     Laws(Counts),
     Sweeps(sweeps::Asked),
     WholeFrames(whole_frames::Asked),
+    /// A measurement, of the name and the count behind.
+    Measurement,
 }
 
 impl Asked {
@@ -74,7 +78,7 @@ impl Asked {
     fn counts(self) -> Option<Counts> {
         match self {
             Asked::All(counts) | Asked::Laws(counts) => Some(counts),
-            Asked::Sweeps(_) | Asked::WholeFrames(_) => None,
+            Asked::Sweeps(_) | Asked::WholeFrames(_) | Asked::Measurement => None,
         }
     }
 }
@@ -96,7 +100,7 @@ fn counts_behind<R: AllocGlobal + Env>(rt: &R, passed: usize) -> Result<Counts> 
             steps: rest.first().copied().unwrap_or(STEPS),
         }),
         _ => Err(anyhow!(
-            "usage: fuzz [laws] SEED BYTES TEMPLATES LONE BOARD THREADS [STEPS] | sweeps .. | whole_frames .."
+            "usage: fuzz [laws] SEED BYTES TEMPLATES LONE BOARD THREADS [STEPS] | sweeps .. | whole_frames .. | measure NAME N"
         )),
     }
 }
@@ -119,6 +123,7 @@ fn request<R: AllocGlobal + Env>(rt: &R) -> Result<Asked> {
         "laws" => Asked::Laws(counts_behind(rt, 2)?),
         "sweeps" => Asked::Sweeps(sweeps::request(words)),
         "whole_frames" => Asked::WholeFrames(whole_frames::request(words)),
+        "measure" => Asked::Measurement,
         _ => Asked::All(counts_behind(rt, 1)?),
     })
 }
@@ -211,7 +216,7 @@ fn make_random<R: Plays + Print>(rt: R, counts: Counts) -> Result<bool> {
 /// What is asked for but random input.
 fn others<R: Runs + Print>(rt: &R, asked: Asked) -> Result<()> {
     match asked {
-        Asked::Laws(_) => Ok(()),
+        Asked::Laws(_) | Asked::Measurement => Ok(()),
         Asked::Sweeps(asked) => sweeps::run(rt, asked),
         Asked::WholeFrames(asked) => whole_frames::run(rt, asked),
         Asked::All(_) => {
@@ -228,5 +233,8 @@ fn main(rt: HostRuntime) -> Result<ExitCode> {
         None => true,
     };
     others(&rt, asked)?;
+    if matches!(asked, Asked::Measurement) {
+        measure::main(&rt, &rt)?;
+    }
     Ok(ExitCode::from(u8::from(!is_kept)))
 }

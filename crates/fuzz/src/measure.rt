@@ -1,6 +1,6 @@
-//! Measurements: `bench NAME N` does a piece of work N times and prints `NAME N seconds ns_per_op` and what was made in all:
+//! Measurements: `fuzz measure NAME N` does a piece of work N times and prints `NAME N seconds ns_per_op` and what was made in all:
 //! `bytes=..` that were written or read, `draws=..` behind them where they were drawn, `parts=..` of templates, `rows=..` of
-//! lines, or the `sum=..` of the numbers of a loop. `bench` alone says so much.
+//! lines, or the `sum=..` of the numbers of a loop.
 //!
 //! - `measured`: what a measurement tells.
 //! - `sink`: the terminal that is drawn on.
@@ -8,8 +8,6 @@
 //! - `bar_benches`: calls of a bar, and a loop with one.
 //! - `board_benches`: calls of a board, and drawings of a frame.
 //! - `thread_benches`: bars that are shared, and work in several threads.
-#![tactic(auto)]
-
 mod bar_benches;
 mod board_benches;
 mod measured;
@@ -17,31 +15,31 @@ mod sink;
 mod text_benches;
 mod thread_benches;
 
-use crate::bar_benches::BarCalls;
-use crate::board_benches::BoardCalls;
-use crate::measured::Measured;
-use crate::thread_benches::SharedCalls;
+use crate::measure::bar_benches::BarCalls;
+use crate::measure::board_benches::BoardCalls;
+use crate::measure::measured::Measured;
+use crate::measure::thread_benches::SharedCalls;
 use anyhow::{Result, bail};
+use indicatif::machine::Shares;
 use indicatif_text::format::{HumanBytes, HumanCount, HumanDuration};
 use std::env;
 
-fn main(rt: HostRuntime) -> Result<()> {
-    let mut words = env::args(&rt)?;
-    words.next();
+/// Makes and prints the measurement that the words behind `measure` ask for.
+pub fn main<R: Shares>(rt: &R, host: &HostRuntime) -> Result<()> {
+    let mut words = env::args(host)?.skip(2);
     let (Some(name), Some(count)) = (words.next(), words.next()) else {
-        println!(rt; "usage: bench NAME N")?;
-        return Ok(());
+        bail!("usage: fuzz measure NAME N");
     };
     let count: u64 = count.as_str().parse()?;
     let name = name.as_str();
     let measured = match name {
-        "inc_front" => thread_benches::called(&rt, SharedCalls::Steps, count),
-        "inc_threads" => thread_benches::called(&rt, SharedCalls::StepsInFour, count),
-        "parallel_map" => thread_benches::called(&rt, SharedCalls::Mapped, count),
-        "worker_add" => thread_benches::worker_add(&rt, count),
-        _ => measured_by(&rt, name, count),
+        "inc_front" => thread_benches::called(rt, SharedCalls::Steps, count),
+        "inc_threads" => thread_benches::called(rt, SharedCalls::StepsInFour, count),
+        "parallel_map" => thread_benches::called(rt, SharedCalls::Mapped, count),
+        "worker_add" => thread_benches::worker_add(rt, count),
+        _ => measured_by(host, name, count),
     };
-    tell(&rt, (name, count), measured)
+    tell(host, (name, count), measured)
 }
 
 /// Prints what was measured of so many.

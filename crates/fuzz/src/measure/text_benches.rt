@@ -1,5 +1,5 @@
 //! Formatters, templates, lines measured, and the cell terminal.
-use crate::measured::{Made, Measured, started};
+use crate::measure::measured::{Made, Measured, started};
 use anyhow::Result;
 use indicatif_bar::style::{NoTracker, ProgressStyle};
 use indicatif_term::in_memory::Cells;

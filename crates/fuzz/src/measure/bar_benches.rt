@@ -1,6 +1,6 @@
 //! Calls of a bar on a terminal of 24 rows and 80 columns, and a loop over a wrapped iterator.
-use crate::measured::{Made, Measured, nanos_since, started};
-use crate::sink::{Sink, drawn_on, terminal};
+use crate::measure::measured::{Made, Measured, nanos_since, started};
+use crate::measure::sink::{Sink, drawn_on, terminal};
 use anyhow::Result;
 use indicatif::machine::MachineClock;
 use indicatif::{OwnedBar, ProgressBarIter, Setup};

@@ -1,8 +1,8 @@
 //! Bars that are shared, and work in several threads.
 ghost use Rattle.std.specs.Prelude.{◌≡◌, IfOk};
 
-use crate::measured::{Made, Measured, started};
-use crate::sink::{Sink, drawn_on, terminal};
+use crate::measure::measured::{Made, Measured, started};
+use crate::measure::sink::{Sink, drawn_on, terminal};
 use anyhow::Result;
 use indicatif::machine::{MachineClock, Shares};
 use indicatif::{

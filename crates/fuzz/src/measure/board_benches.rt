@@ -1,7 +1,7 @@
 //! Drawings of bars on a board, on a terminal of 24 rows and 80 columns; bars taken in; calls on a board that shows nothing; and a frame.
-use crate::bar_benches::lines;
-use crate::measured::{Measured, started};
-use crate::sink::{Sink, drawn_on, terminal};
+use crate::measure::bar_benches::lines;
+use crate::measure::measured::{Measured, started};
+use crate::measure::sink::{Sink, drawn_on, terminal};
 use anyhow::Result;
 use indicatif_bar::state::{BarCommand, BarState};
 use indicatif_bar::style::NoTracker;

@@ -1,5 +1,5 @@
 use Rattle.std.proofs.Common.{◌≡◌}
-use Rattle.bench.proofs.thread_benches.adds.Given as goal
+use Rattle.fuzz.proofs.measure.thread_benches.adds.Given as goal
 
 abbrev pub invariant-loop : goal.invariant-loop
 invariant-loop l = (l.worker.adds_to ≡ l.done) × (l.worker.account.parts ≡ l.fn.worker.account.parts)

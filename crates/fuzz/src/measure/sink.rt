@@ -1,5 +1,5 @@
 //! The terminal that is drawn on.
-use crate::measured::Made;
+use crate::measure::measured::Made;
 use indicatif_term::term_like::Term;
 use std::alloc::Global;
 use std::io;
