@@ -120,6 +120,7 @@ SOURCES = {
         "Machine": (OWN, {}),
         "Moves": (OWN, {}),
         "OwnRows": (OWN, {}),
+        "StderrTerm": (OWN, {}),
         "Owned": (OWN, {}),
         "Parallel": (OWN, {}),
         "Ring": (CRATE, {}),
