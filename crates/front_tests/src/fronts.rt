@@ -12,8 +12,9 @@ use std::sync::Wait;
 /// A bar that is shared.
 pub type Bar<R> = ProgressBar<InMemoryTerm, StepClock, R>;
 
-/// A shared bar in a type of the tests' own, which moves as the bar does, but for `place_after`, which takes two steps. Generic code that
-/// goes along with any bar is proved in a tenth of the time with it: the prover compares an instance of a library's type by all that it owns.
+/// A shared bar in a type of the tests' own, which moves as the bar does, but keeps the default `place_after`. So a wrapper reads its
+/// place and sets it in two steps. Generic code that goes along with any bar is proved in a tenth of the time with it: the prover
+/// compares an instance of a library's type by all that it owns.
 #[derive(Drop)]
 pub struct Led<R: Wait + Clone + Drop> {
     pub bar: Bar<R>,

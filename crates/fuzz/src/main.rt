@@ -1,4 +1,5 @@
-//! Random input, and laws that have to hold whatever it is; terminals that fail; and the engine beside one that writes whole frames.
+//! Random input, and laws that have to hold whatever it is; terminals that fail; the engine beside one that writes whole frames; and
+//! measurements.
 //!
 //! `fuzz laws SEED BYTES TEMPLATES LONE BOARD THREADS [STEPS]` feeds so many random bytes to cell terminals, reads so many random templates,
 //! and plays so many random lists of calls: of a lone bar, of a board, and of a board in four threads with random delays, each of which
@@ -6,7 +7,7 @@
 //! these its number and the law. The same seed gives the same bytes, templates and lists. The exit status is 1 where a law was broken.
 //!
 //! `fuzz sweeps ..`, `fuzz whole_frames ..` and `fuzz measure ..` do what the modules of these names say. `fuzz SEED BYTES ..`, with the
-//! numbers alone, makes random input, then the sweeps, then the whole frames.
+//! numbers alone, plays random input, then the sweeps, and compares the engines last.
 //!
 //! - `numbers`: random numbers. `law`: what has to hold. `texts`, `calls`: random texts and calls.
 //! - `cells`: bytes. `templates`: templates and styles.
@@ -69,7 +70,7 @@ enum Asked {
     Laws(Counts),
     Sweeps(sweeps::Asked),
     WholeFrames(whole_frames::Asked),
-    /// A measurement, of the name and the count behind.
+    /// The measurement that the words behind `measure` name.
     Measurement,
 }
 
@@ -213,7 +214,7 @@ fn make_random<R: Plays + Print>(rt: R, counts: Counts) -> Result<bool> {
     Ok(is_kept)
 }
 
-/// What is asked for but random input.
+/// The sweeps and the whole frames that are asked for.
 fn others<R: Runs + Print>(rt: &R, asked: Asked) -> Result<()> {
     match asked {
         Asked::Laws(_) | Asked::Measurement => Ok(()),
@@ -234,7 +235,7 @@ fn main(rt: HostRuntime) -> Result<ExitCode> {
     };
     others(&rt, asked)?;
     if matches!(asked, Asked::Measurement) {
-        measure::main(&rt, &rt)?;
+        measure::run(&rt, &rt)?;
     }
     Ok(ExitCode::from(u8::from(!is_kept)))
 }

@@ -25,7 +25,7 @@ use indicatif_text::format::{HumanBytes, HumanCount, HumanDuration};
 use std::env;
 
 /// Makes and prints the measurement that the words behind `measure` ask for.
-pub fn main<R: Shares>(rt: &R, host: &HostRuntime) -> Result<()> {
+pub fn run<R: Shares>(rt: &R, host: &HostRuntime) -> Result<()> {
     let mut words = env::args(host)?.skip(2);
     let (Some(name), Some(count)) = (words.next(), words.next()) else {
         bail!("usage: fuzz measure NAME N");

@@ -190,7 +190,7 @@ pub fn style_on_stderr<K: Tracks>(
 /// ```
 pub type TerminalSetup<W> = Setup<Term<BufWriter<W>>, MachineClock<HostRuntime>>;
 
-/// The terminal behind one of the program's own streams.
+/// The terminal behind standard output or another stream, as `on_stdout` and `on_stream` make it. `on_stderr` makes a `StderrTerm`.
 ///
 /// ```
 /// fn shown<R: Shares>(bar: &ProgressBar<StreamTerm<Stdout>, MachineClock<HostRuntime>, R>) -> bool {
@@ -289,6 +289,8 @@ pub fn on_stdout(rt: &HostRuntime) -> Result<StreamSetup<Stdout>, Refusal>
 /// let setup = on_stream(&rt, rt.stdout())?; // what `on_stdout(&rt)?` makes
 /// ```
 ///
+/// A `StderrBar` takes a setup of `on_stderr`: one that this call makes on standard error has another type.
+///
 /// Refused: `Memory`; the stream is given up.
 pub fn on_stream<R: Env + AllocGlobal + time::Clock + Copy, W: Write + IsTerminal + Drop>(
     rt: &R,
@@ -304,10 +306,10 @@ pub fn on_stream<R: Env + AllocGlobal + time::Clock + Copy, W: Write + IsTermina
     Ok(Setup { target, clock })
 }
 
-/// A target on standard error of which it is told now that its terminal has this size. So a program that hears of another size passes it on to
-/// a shared bar or board: nothing here asks the terminal, and `LINES` and `COLUMNS` say what they said when the program began.
+/// A target on standard error that is told now which size its terminal has. So a program that hears of another size passes it on to a
+/// shared bar or board: nothing here asks the terminal, and `LINES` and `COLUMNS` say what they said when the program began.
 ///
-/// The size is believed: bars have all `cols` columns. The target is hidden where that of `on_stream` is, and is drawn as often. Bars
+/// The size is believed: bars have all `cols` columns. The target is hidden where that of `on_stderr` is, and is drawn as often. Bars
 /// begin there with their next draw, and that has to be at the front of an empty row. If bars have rows, `clear` takes them back and leaves
 /// the cursor there. If only logged lines stand, or nothing is to be taken back, end the line instead.
 ///
@@ -335,6 +337,8 @@ pub fn sized_stderr(
 /// ```
 /// let target = sized_target(&rt, rt.stdout(), 50, 132)?;
 /// ```
+///
+/// Bars that `on_stderr` made take a target of `sized_stderr`: one that this call makes on standard error has another type.
 ///
 /// Refused: `ZeroSize` where `rows` or `cols` is 0; `Memory`. The stream is given up.
 pub fn sized_target<R: Env + AllocGlobal + time::Clock + Copy, W: Write + IsTerminal + Drop>(

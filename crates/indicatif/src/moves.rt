@@ -60,12 +60,17 @@ pub trait Moves {
         ensures led { leads self.old step result self.new }
         ensures goes { Goes (stands self.old) step result (stands self.new) };
 
-    /// The position becomes the place after `n` more from it, as `seeks` says, in one step, and the answer is that of its draw: so of a bar
-    /// that others move meanwhile nothing is lost. `None` of a bar that is one's own: nothing is done, and who has it reads where it
-    /// stands and places it.
+    /// Places the bar after `n` more from its position, as `seeks` says, in one step, and returns what the draw answered. So nothing is
+    /// lost if others move the bar meanwhile.
+    ///
+    /// `None` comes from a bar of one owner. Nothing is done then: the caller reads where the bar stands, and places it. A type around a
+    /// shared bar has to hand this call on, since two wrappers would else lose bytes.
+    ///
+    /// Refused: as a draw is.
     fn place_after(&self, seeks: &mut SeekMax<5, 10>, n: u64) -> Option<Result<Drawn, Refusal>>
         ensures placed { IfSome result (λ answer. PlacedAfter stands leads self.now seeks.old n answer self.now seeks.new) }
         ensures none { result ≡ None → seeks.new ≡ seeks.old }
+        ensures own { IfSome (stands self.now) (λ _. result ≡ None) }
     {
         None
     }

@@ -446,7 +446,7 @@ impl<T: TermLike> TermLike for OwnRows<T> {
 /// than there are now, as at first.
 ///
 /// What stands is then counted as rows that these columns cut. A terminal that cut it at others, or not at all, may have fewer: the
-/// next drawing takes back rows above then. `machine::sized_stderr` behind a clear counts what was drawn.
+/// next drawing takes back rows above then. A new target (`machine::sized_target`) behind a clear counts what was drawn.
 ///
 /// ```
 /// own.resize(50, 131)?; // for a terminal that has 132 columns now

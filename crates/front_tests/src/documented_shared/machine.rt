@@ -66,7 +66,8 @@ fn a_style_for_standard_error(rt: HostRuntime) {
     same!(rt; last_spinner(&style), 1);
 }
 
-/// A setup for a terminal without a name, which is hidden; a bar that stands alone; and a list with a bar of its own.
+/// A setup for a terminal without a name, which is hidden; a bar that stands alone; a target of another size on standard output, which is
+/// hidden too; and a list with a bar of its own.
 #[test]
 fn bars_of_one_owner_on_standard_error(rt: HostRuntime) {
     let facts = unnamed();

@@ -20,7 +20,7 @@ pub struct StderrTerm {
 }
 
 impl StderrTerm {
-    /// A target on standard error, as one on a terminal in this type.
+    /// A target on an `OwnRows` over standard error, as one on a `StderrTerm`.
     pub(crate) fn target(
         target: ProgressDrawTarget<OwnRows<Term<BufWriter<Stderr>>>>,
     ) -> ProgressDrawTarget<StderrTerm>
@@ -83,7 +83,7 @@ impl TermLike for StderrTerm {
     }
 }
 
-/// As an `OwnRows` takes it: no byte is written, and rows are cut at the new columns from then on.
+/// As an `OwnRows` takes it: no byte is written. Where `COLUMNS` said no number, tell it one column less than there are.
 impl Resize for StderrTerm {
     ghost takes_memory = { false };
 
