@@ -1,4 +1,5 @@
 //! What a lone bar answers where each call of its terminal fails in turn, or where memory is refused; and boxed terminals.
+use crate::checks::Granted;
 use crate::failing_term::FailsOnce;
 use crate::shown::{SCRIPT, STILL, Shown, Step};
 use indicatif_term::in_memory::{Cells, InMemoryTerm};
@@ -15,16 +16,16 @@ type Boxed = Box<dyn TermLike + Drop>;
 
 /// A bar that says `ab` on a terminal of which the call of this number fails; none where it is 0.
 fn bar_failing_at(rt: &impl Abort, alloc: Global, failing: u64) -> Shown<FailsOnce> {
-    let term = InMemoryTerm::new(alloc, 20, 10).expect(rt, "granted");
-    Shown::on(alloc, "ab", FailsOnce::new(term, failing)).expect(rt, "granted")
+    let term = InMemoryTerm::new(alloc, 20, 10).granted(rt);
+    Shown::on(alloc, "ab", FailsOnce::new(term, failing)).granted(rt)
 }
 
 /// The rows down to the cursor's, each ended by a newline.
 fn rows_to_the_cursor(rt: &impl Abort, alloc: Global, bar: &Shown<FailsOnce>) -> String {
-    let term = bar.term().expect(rt, "a terminal").inner();
+    let term = bar.term().granted(rt).inner();
     let (row, _) = term.cursor();
     let mut text = String::new(alloc);
-    let picture = term.picture().expect(rt, "granted");
+    let picture = term.picture().granted(rt);
     push_rows(rt, &mut text, &picture, usize::from(row));
     text
 }
@@ -32,17 +33,17 @@ fn rows_to_the_cursor(rt: &impl Abort, alloc: Global, bar: &Shown<FailsOnce>) ->
 /// Appends the rows down to the last of these numbers, each ended by a newline.
 fn push_rows(rt: &impl Abort, text: &mut String, rows: &[String], last: usize) {
     for row in rows.get(..=last).unwrap_or(rows) {
-        text.push_str(row.as_str()).expect(rt, "granted");
-        text.push('\n').expect(rt, "granted");
+        text.push_str(row.as_str()).granted(rt);
+        text.push('\n').granted(rt);
     }
 }
 
 /// The screen shows what a failure left, and these rows below it.
 fn stands_below(rt: &impl Abort, bar: &Shown<FailsOnce>, left: String, rows: &str) {
     let mut wanted = left;
-    wanted.push_str(rows).expect(rt, "granted");
-    let term = bar.term().expect(rt, "a terminal").inner();
-    same!(*rt; term.contents().expect(rt, "granted"), wanted);
+    wanted.push_str(rows).granted(rt);
+    let term = bar.term().granted(rt).inner();
+    same!(rt; term.contents().granted(rt), wanted);
 }
 
 /// Makes the call, and answers what a failure left on the screen. After one, the call's rows stand below what it left.
@@ -55,15 +56,15 @@ fn stepped(
 ) -> Option<String> {
     match bar.makes(call.0) {
         Ok(drawn) => {
-            same!(*rt; drawn, Drawn::Yes);
+            same!(rt; drawn, Drawn::Yes);
             if let Some(left) = left {
                 stands_below(rt, bar, left, call.1);
             }
             None
         }
         Err(refusal) => {
-            same!(*rt; refusal, Refusal::Terminal(ErrorKind::BrokenPipe));
-            same!(*rt; left, None);
+            same!(rt; refusal, Refusal::Terminal(ErrorKind::BrokenPipe));
+            same!(rt; left, None);
             Some(rows_to_the_cursor(rt, alloc, bar))
         }
     }
@@ -71,7 +72,7 @@ fn stepped(
 
 /// How many calls the terminal was given, and how many of them failed.
 fn calls_and_faults(rt: &impl Abort, bar: &Shown<FailsOnce>) -> (u64, u64) {
-    let term = bar.term().expect(rt, "a terminal");
+    let term = bar.term().granted(rt);
     (term.calls(), term.faults())
 }
 
@@ -80,7 +81,7 @@ fn calls_and_faults(rt: &impl Abort, bar: &Shown<FailsOnce>) -> (u64, u64) {
 fn run_failing_at(rt: &impl Abort, alloc: Global, failing: u64) -> (u64, u64) {
     let mut bar = bar_failing_at(rt, alloc, failing);
     let run = run_on(rt, alloc, &mut bar);
-    same!(*rt; calls_and_faults(rt, &bar).1, run.1);
+    same!(rt; calls_and_faults(rt, &bar).1, run.1);
     run
 }
 
@@ -93,17 +94,19 @@ fn run_on(rt: &impl Abort, alloc: Global, bar: &mut Shown<FailsOnce>) -> (u64, u
         failures = failures.saturating_add(u64::from(left.is_some()));
     }
     let (calls, _) = calls_and_faults(rt, bar);
-    same!(*rt; stepped(rt, alloc, bar, (Step::Tick, "e"), left), None);
+    same!(rt; stepped(rt, alloc, bar, (Step::Tick, "e"), left), None);
     (calls, failures)
 }
 
 #[test]
 fn each_call_of_the_terminal_fails_once(rt: HostRuntime) {
-    let (calls, failures) = run_failing_at(&rt, rt.alloc(), 0);
+    let rt = &rt;
+    let alloc = rt.alloc();
+    let (calls, failures) = run_failing_at(rt, alloc, 0);
     same!(rt; failures, 0);
     holds!(rt; calls > 0);
     for failing in 1..=calls {
-        let (_, failures) = run_failing_at(&rt, rt.alloc(), failing);
+        let (_, failures) = run_failing_at(rt, alloc, failing);
         same!(rt; (failing, failures), (failing, 1));
     }
 }
@@ -113,27 +116,29 @@ fn each_call_of_the_terminal_fails_once(rt: HostRuntime) {
 /// A bar draws the script, and refuses a wide character.
 fn draws_the_script<T: TermLike + Drop>(rt: &impl Abort, mut bar: Shown<T>) {
     for (step, _) in SCRIPT {
-        same!(*rt; bar.makes(*step), Ok(Drawn::Yes));
+        same!(rt; bar.makes(*step), Ok(Drawn::Yes));
     }
-    same!(*rt; bar.makes(Step::Log("国")), Err(Refusal::TooWide));
+    same!(rt; bar.makes(Step::Log("国")), Err(Refusal::TooWide));
 }
 
 /// A terminal of 5 rows and one column.
 fn small(rt: &impl Abort, alloc: Global) -> InMemoryTerm {
-    InMemoryTerm::new(alloc, 5, 1).expect(rt, "granted")
+    InMemoryTerm::new(alloc, 5, 1).granted(rt)
 }
 
 /// A small terminal in a box.
 fn boxed(rt: &impl Abort, alloc: Global) -> Boxed {
-    Box::new(alloc, small(rt, alloc)).expect(rt, "granted")
+    Box::new(alloc, small(rt, alloc)).granted(rt)
 }
 
 #[test]
 fn a_boxed_terminal_answers_as_the_plain_one(rt: HostRuntime) {
-    let plain = Shown::on(rt.alloc(), "ab", small(&rt, rt.alloc())).expect(&rt, "granted");
-    draws_the_script(&rt, plain);
-    let boxed = Shown::on(rt.alloc(), "ab", boxed(&rt, rt.alloc())).expect(&rt, "granted");
-    draws_the_script(&rt, boxed);
+    let rt = &rt;
+    let alloc = rt.alloc();
+    let plain = Shown::on(alloc, "ab", small(rt, alloc)).granted(rt);
+    draws_the_script(rt, plain);
+    let boxed = Shown::on(alloc, "ab", boxed(rt, alloc)).granted(rt);
+    draws_the_script(rt, boxed);
 }
 
 /// How often the bar's terminal has failed.
@@ -143,22 +148,24 @@ fn faults<T: TermLike + Drop>(bar: &Shown<T>) -> Option<u64> {
 
 /// A tick is drawn, a line fails and is counted, and the same line is drawn then.
 fn fails_at_a_line<T: TermLike + Drop>(rt: &impl Abort, mut bar: Shown<T>) {
-    same!(*rt; bar.makes(Step::Tick), Ok(Drawn::Yes));
+    same!(rt; bar.makes(Step::Tick), Ok(Drawn::Yes));
     let broken = Err(Refusal::Terminal(ErrorKind::BrokenPipe));
-    same!(*rt; (bar.makes(Step::Log("l")), faults(&bar)), (broken, Some(1)));
-    same!(*rt; (bar.makes(Step::Log("l")), faults(&bar)), (Ok(Drawn::Yes), Some(1)));
+    same!(rt; (bar.makes(Step::Log("l")), faults(&bar)), (broken, Some(1)));
+    same!(rt; (bar.makes(Step::Log("l")), faults(&bar)), (Ok(Drawn::Yes), Some(1)));
 }
 
 /// A boxed terminal of which the fourth call fails.
 fn failing(rt: &impl Abort, alloc: Global) -> Boxed {
-    let inner = InMemoryTerm::new(alloc, 5, 10).expect(rt, "granted");
-    Box::new(alloc, FailsOnce::new(inner, 4)).expect(rt, "granted")
+    let inner = InMemoryTerm::new(alloc, 5, 10).granted(rt);
+    Box::new(alloc, FailsOnce::new(inner, 4)).granted(rt)
 }
 
 #[test]
 fn a_boxed_terminal_that_fails(rt: HostRuntime) {
-    let bar = Shown::on(rt.alloc(), "ab", failing(&rt, rt.alloc())).expect(&rt, "granted");
-    fails_at_a_line(&rt, bar);
+    let rt = &rt;
+    let alloc = rt.alloc();
+    let bar = Shown::on(alloc, "ab", failing(rt, alloc)).granted(rt);
+    fails_at_a_line(rt, bar);
 }
 
 // ---- memory is refused; tried with each allocation failing in turn
@@ -203,7 +210,7 @@ fn is_drawn_at_last(bar: &mut OnBytes, step: Step, writes: bool) -> bool {
 /// Each call of the script is drawn at last; all but one of them change a line, and write.
 fn draws_at_last(rt: &impl Abort, bar: &mut OnBytes) {
     for (place, call) in SCRIPT.iter().enumerate() {
-        holds!(*rt; is_drawn_at_last(bar, call.0, place != STILL));
+        holds!(rt; is_drawn_at_last(bar, call.0, place != STILL));
     }
 }
 
@@ -218,10 +225,12 @@ fn shows_the_script(alloc: Global, bar: &OnBytes) -> bool {
 /// Not a byte is written, and the same call can be made again.
 #[test]
 fn want_of_memory_behind_a_writer(rt: HostRuntime) {
-    match bar_with_room(rt.alloc()) {
+    let rt = &rt;
+    let alloc = rt.alloc();
+    match bar_with_room(alloc) {
         Ok(mut bar) => {
-            draws_at_last(&rt, &mut bar);
-            holds!(rt; shows_the_script(rt.alloc(), &bar));
+            draws_at_last(rt, &mut bar);
+            holds!(rt; shows_the_script(alloc, &bar));
         }
         Err(refusal) => same!(rt; refusal, Refusal::Memory),
     }
@@ -249,17 +258,19 @@ fn is_drawn_or_refused(bar: &mut Shown<InMemoryTerm>, step: Step) -> bool {
 /// Each call of the script.
 fn draws_or_refuses(rt: &impl Abort, bar: &mut Shown<InMemoryTerm>) {
     for (step, _) in SCRIPT {
-        holds!(*rt; is_drawn_or_refused(bar, *step));
+        holds!(rt; is_drawn_or_refused(bar, *step));
     }
 }
 
 /// What was on the screen stays, and the same call can be made again; or the terminal's own memory was refused.
 #[test]
 fn want_of_memory_on_a_terminal_in_memory(rt: HostRuntime) {
-    let Ok(term) = InMemoryTerm::new(rt.alloc(), 6, 10) else {
+    let rt = &rt;
+    let alloc = rt.alloc();
+    let Ok(term) = InMemoryTerm::new(alloc, 6, 10) else {
         return;
     };
-    if let Ok(mut bar) = Shown::on(rt.alloc(), "ab", term) {
-        draws_or_refuses(&rt, &mut bar);
+    if let Ok(mut bar) = Shown::on(alloc, "ab", term) {
+        draws_or_refuses(rt, &mut bar);
     }
 }

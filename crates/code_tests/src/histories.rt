@@ -1,4 +1,5 @@
 //! A board that keeps its history: the examples of the documentation.
+use crate::checks::Granted;
 use crate::documented::histories::terminal;
 use indicatif_bar::state::{BarCommand, BarState};
 use indicatif_bar::style::{NoTracker, ProgressStyle};
@@ -22,8 +23,8 @@ const FIRST: BarId = BarId {
 
 /// A bar that shows this, to be taken in.
 fn bar_saying(rt: &impl Abort, alloc: Global, text: &str) -> Candidate<NoTracker> {
-    let style = ProgressStyle::with_template(alloc, text).expect(rt, "granted");
-    let bar = BarState::styled(alloc, style, None, 0).expect(rt, "granted");
+    let style = ProgressStyle::with_template(alloc, text).granted(rt);
+    let bar = BarState::styled(alloc, style, None, 0).granted(rt);
     Candidate::New(bar)
 }
 
@@ -33,7 +34,7 @@ type Recording = Recorded<NoTracker, InMemoryTerm>;
 
 /// A board of the id 7 that keeps its history, in a box.
 fn recorded_on(rt: &impl Abort, alloc: Global, target: Target) -> Box<Recording> {
-    Box::new(alloc, Recorded::new(alloc, target, BOARD_ID)).expect(rt, "granted")
+    Box::new(alloc, Recorded::new(alloc, target, BOARD_ID)).granted(rt)
 }
 
 /// The same on a terminal that is drawn whenever it is asked.
@@ -43,7 +44,7 @@ fn recorded(rt: &impl Abort, alloc: Global) -> Box<Recording> {
 
 /// The same on a terminal that is drawn 20 times a second.
 fn recorded_rated(rt: &impl Abort, alloc: Global) -> Box<Recording> {
-    let target = Target::term_like_with_hz(terminal(rt, alloc), 20, 0).expect(rt, "granted");
+    let target = Target::term_like_with_hz(terminal(rt, alloc), 20, 0).granted(rt);
     recorded_on(rt, alloc, target)
 }
 
@@ -56,9 +57,9 @@ fn answer_of(record: &mut Recording, call: Call<NoTracker>, now: Moment) -> Answ
 
 /// That the board was cleared at the moment 5, with this answer, at this size.
 fn is_clear(rt: &impl Abort, entry: &Entry<NoTracker>, (answer, size): (&Answer, Option<Size>)) {
-    holds!(*rt; matches!(entry.call, Call::Clear));
-    same!(*rt; (entry.now, entry.size), (5, size));
-    same!(*rt; &entry.answer, answer);
+    holds!(rt; matches!(entry.call, Call::Clear));
+    same!(rt; (entry.now, entry.size), (5, size));
+    same!(rt; &entry.answer, answer);
 }
 
 /// A clear at the moment 5 is answered so, and this is all that is kept.
@@ -67,29 +68,31 @@ fn records_a_clear(
     record: &mut Recording,
     (answer, size): (&Answer, Option<Size>),
 ) {
-    same!(*rt; &answer_of(record, Call::Clear, 5), answer);
-    same!(*rt; record.entries().len(), 1);
-    let entry = record.entries().first().expect(rt, "an entry");
+    same!(rt; &answer_of(record, Call::Clear, 5), answer);
+    same!(rt; record.entries().len(), 1);
+    let entry = record.entries().first().granted(rt);
     is_clear(rt, entry, (answer, size));
 }
 
 #[test]
 fn an_entry_and_its_size(rt: HostRuntime) {
-    let mut record = recorded(&rt, rt.alloc());
+    let rt = &rt;
+    let mut record = recorded(rt, rt.alloc());
     let size = Size {
         columns: 10,
         rows: 4,
     };
     let answer = Answer::Drawn(Drawn::Yes);
-    records_a_clear(&rt, &mut record, (&answer, Some(size)));
+    records_a_clear(rt, &mut record, (&answer, Some(size)));
 }
 
 /// A hidden target has no size.
 #[test]
 fn an_entry_where_nothing_is_shown(rt: HostRuntime) {
-    let mut record = recorded_on(&rt, rt.alloc(), Target::hidden());
+    let rt = &rt;
+    let mut record = recorded_on(rt, rt.alloc(), Target::hidden());
     let answer = Answer::Drawn(Drawn::Hidden);
-    records_a_clear(&rt, &mut record, (&answer, None));
+    records_a_clear(rt, &mut record, (&answer, None));
 }
 
 /// How many of 30 draws a limiter allows at the moment 0.
@@ -118,26 +121,29 @@ fn ticks(record: &mut Recording) -> Answer {
 /// Takes a bar in, which is drawn then.
 fn takes_in_and_draws(rt: &impl Abort, alloc: Global, record: &mut Recording) {
     drop(takes_in(record, bar_saying(rt, alloc, "a")));
-    same!(*rt; ticks(record), Answer::Drawn(Drawn::Yes));
+    same!(rt; ticks(record), Answer::Drawn(Drawn::Yes));
 }
 
 /// A board has this id, and allows so many draws at the moment 0.
 fn opens_with(rt: &impl Abort, record: &Recording, board_id: u64, draws: u32) {
     let opening = record.opening();
-    let limiter = opening.limiter.as_ref().expect(rt, "a limiter");
-    same!(*rt; (opening.board_id, allowed(limiter)), (board_id, draws));
+    let limiter = opening.limiter.as_ref().granted(rt);
+    same!(rt; (opening.board_id, allowed(limiter)), (board_id, draws));
 }
 
 /// The limiter stays as the target came: 20 draws are in hand, though one was made.
 #[test]
 fn an_opening(rt: HostRuntime) {
-    let mut record = recorded_rated(&rt, rt.alloc());
-    takes_in_and_draws(&rt, rt.alloc(), &mut record);
-    opens_with(&rt, &record, 7, 20);
+    let rt = &rt;
+    let alloc = rt.alloc();
+    let mut record = recorded_rated(rt, alloc);
+    takes_in_and_draws(rt, alloc, &mut record);
+    opens_with(rt, &record, 7, 20);
 }
 
 #[test]
 fn an_opening_without_a_limit(rt: HostRuntime) {
-    let record = recorded(&rt, rt.alloc());
+    let rt = &rt;
+    let record = recorded(rt, rt.alloc());
     holds!(rt; record.opening().limiter.is_none());
 }

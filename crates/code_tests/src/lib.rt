@@ -10,14 +10,14 @@
 //! - `played`: which lines of a file are rows, and which of them agree.
 //! - `styles`, `term`, `text`: keys of a template, what targets hand out, numbers and formatters. `words`: those of a command line.
 //! - `documented`: the examples of the libraries' documentation that say what comes.
-//! - `checks`: what `same!` and `holds!` call.
+//! - `checks`: what `same!`, `holds!` and `granted` do.
 #![tactic(auto)]
 
 /// Whether a value is the one that is wanted.
 #[cfg(test)]
 macro_rules! same {
     ($rt:expr; $got:expr, $wanted:expr $(,)?) => {
-        $crate::checks::are_same(&$rt, stringify!($got), $got, $wanted)
+        $crate::checks::are_same($rt, $got, $wanted)
     };
 }
 
@@ -25,7 +25,7 @@ macro_rules! same {
 #[cfg(test)]
 macro_rules! holds {
     ($rt:expr; $holds:expr $(,)?) => {
-        $crate::checks::is_so(&$rt, stringify!($holds), $holds)
+        $crate::checks::is_so($rt, $holds)
     };
 }
 

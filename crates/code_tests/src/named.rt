@@ -1,6 +1,6 @@
 //! Each command of a bar by its name, beside the same as a value: they answer the same and leave the same. What they answer and leave
 //! stands in rows.
-use crate::checks::{are_same, is_so};
+use crate::checks::{Granted, are_same_for, is_so_for};
 use indicatif_bar::lone::{LoneBar, LoneCall};
 use indicatif_bar::state::{Ask, BarState, Change};
 use indicatif_bar::style::NoTracker;
@@ -35,7 +35,7 @@ const OTHERS: &[&str] = &[
 
 /// A bar at 5 of 10, made at 0.
 fn half(rt: &impl Abort, at: At) -> Box<Bar> {
-    let mut bar = bar_of(at, "{prefix}{pos}/{len}{msg}", Some(10)).expect(rt, "granted");
+    let mut bar = bar_of(at, "{prefix}{pos}/{len}{msg}", Some(10)).granted(rt);
     bar.with_position(5, 0);
     bar
 }
@@ -94,10 +94,10 @@ fn apply(bar: &mut Bar, text: &str, alloc: Global) -> Result<Ask, Bad> {
 
 /// Behind this command two bars have reached the same, and say the same.
 fn are_alike(rt: &impl Abort, text: &str, one: &Bar, other: &Bar) {
-    are_same(rt, text, reached(one), reached(other));
-    are_same(rt, text, one.message(), other.message());
-    are_same(rt, text, one.prefix(), other.prefix());
-    are_same(rt, text, one.tab_width(), other.tab_width());
+    are_same_for(rt, text, reached(one), reached(other));
+    are_same_for(rt, text, one.message(), other.message());
+    are_same_for(rt, text, one.prefix(), other.prefix());
+    are_same_for(rt, text, one.tab_width(), other.tab_width());
 }
 
 /// What a bar has reached: position, length, ticks, and whether it has ended.
@@ -120,7 +120,7 @@ fn leaves_the_same(rt: &impl Abort, at: At, text: &str) {
     let mut called = half(rt, at);
     let mut told = half(rt, at);
     let asked = agreed(obey(&mut called, text), apply(&mut told, text, at.alloc));
-    is_so(rt, text, asked);
+    is_so_for(rt, text, asked);
     are_alike(rt, text, &called, &told);
 }
 
@@ -147,7 +147,7 @@ fn each_passes(rt: &impl Abort, at: At, check: Check, (names, arguments): (&[&st
 
 fn passes_with(rt: &impl Abort, at: At, check: Check, (name, arguments): (&str, &[&str])) {
     for argument in arguments {
-        let text = format!(in at.alloc; "{name} {argument}").expect(rt, "granted");
+        let text = format!(in at.alloc; "{name} {argument}").granted(rt);
         passes(rt, at, check, text.as_str());
     }
 }
@@ -168,20 +168,21 @@ fn passes(rt: &impl Abort, at: At, check: Check, text: &str) {
 
 #[test]
 fn commands_of_a_record_by_name(rt: HostRuntime) {
+    let rt = &rt;
     let at = At {
         alloc: rt.alloc(),
         now: 0,
     };
-    all_pass(&rt, at, Check::Records);
+    all_pass(rt, at, Check::Records);
 }
 
 // ---- the same on a terminal
 
 fn shown_half(rt: &impl Abort, at: At) -> Box<Lone> {
-    let term = InMemoryTerm::new(at.alloc, 3, 20).expect(rt, "granted");
+    let term = InMemoryTerm::new(at.alloc, 3, 20).granted(rt);
     let target = ProgressDrawTarget::term_like(term);
     let bar = half(rt, at);
-    Box::new(at.alloc, LoneBar::new(Box::into_inner(bar), target)).expect(rt, "granted")
+    Box::new(at.alloc, LoneBar::new(Box::into_inner(bar), target)).granted(rt)
 }
 
 /// Makes a call by its name.
@@ -229,8 +230,8 @@ fn call(bar: &mut Lone, text: &str, alloc: Global) -> Result<Drawn, Bad> {
 
 /// What stands on a bar's terminal.
 fn contents(rt: &impl Abort, bar: &Lone) -> String {
-    let term = bar.term().expect(rt, "a terminal");
-    term.contents().expect(rt, "granted")
+    let term = bar.term().granted(rt);
+    term.contents().granted(rt)
 }
 
 fn record(bar: &Lone) -> &Bar {
@@ -242,16 +243,17 @@ fn draws_the_same(rt: &impl Abort, at: At, text: &str) {
     let mut called = shown_half(rt, at);
     let mut told = shown_half(rt, at);
     let drawn = agreed(draw(&mut called, text), call(&mut told, text, at.alloc));
-    is_so(rt, text, drawn);
+    is_so_for(rt, text, drawn);
     are_alike(rt, text, record(&called), record(&told));
-    are_same(rt, text, contents(rt, &called), contents(rt, &told));
+    are_same_for(rt, text, contents(rt, &called), contents(rt, &told));
 }
 
 #[test]
 fn commands_of_a_lone_bar_by_name(rt: HostRuntime) {
+    let rt = &rt;
     let at = At {
         alloc: rt.alloc(),
         now: 0,
     };
-    all_pass(&rt, at, Check::Screens);
+    all_pass(rt, at, Check::Screens);
 }

@@ -21,8 +21,9 @@ impl World for Echo {
 
 /// How many rows of a text agree and differ, and how many steps were made.
 fn told(rt: HostRuntime, text: &str) -> Option<(u64, u64, u64)> {
+    let rt = &rt;
     let mut echo = Echo { steps: 0 };
-    match play_rows(&rt, "rows", text.as_bytes(), &mut echo) {
+    match play_rows(rt, "rows", text.as_bytes(), &mut echo) {
         Ok(Tally { passed, failed }) => Some((passed, failed, echo.steps)),
         Err(_) => None,
     }
@@ -48,7 +49,8 @@ const FILES: &[(&str, (u64, u64, u64))] = &[
 
 #[test]
 fn files_of_rows(rt: HostRuntime) {
+    let rt = &rt;
     for (text, wanted) in FILES {
-        same!(rt; (*text, told(rt, text)), (*text, Some(*wanted)));
+        same!(rt; (*text, told(*rt, text)), (*text, Some(*wanted)));
     }
 }

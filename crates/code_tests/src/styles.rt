@@ -1,6 +1,7 @@
 //! Keys of a template that are the caller's own.
 ghost use Rattle.std.specs.Prelude.{true, false, if◌then◌else◌, codes};
 
+use crate::checks::Granted;
 use crate::documented::histories::terminal;
 use indicatif_bar::lone::LoneBar;
 use indicatif_bar::state::{BarCommand, BarState, ProgressFinish, ProgressState};
@@ -21,8 +22,8 @@ type Look<K> = Box<ProgressStyle<K>>;
 type Told<K> = Box<BarState<K>>;
 
 fn look<K: ProgressTracker>(rt: &impl Abort, alloc: Global, template: &str) -> Look<K> {
-    let style = ProgressStyle::with_template(alloc, template).expect(rt, "granted");
-    Box::new(alloc, style).expect(rt, "granted")
+    let style = ProgressStyle::with_template(alloc, template).granted(rt);
+    Box::new(alloc, style).granted(rt)
 }
 
 /// The same style with this tracker.
@@ -32,15 +33,13 @@ fn keyed<K: ProgressTracker>(
     look: Look<K>,
     (name, tracker): (&str, K),
 ) -> Look<K> {
-    let style = Box::into_inner(look)
-        .with_key(name, tracker)
-        .expect(rt, "granted");
-    Box::new(alloc, style).expect(rt, "granted")
+    let style = Box::into_inner(look).with_key(name, tracker).granted(rt);
+    Box::new(alloc, style).granted(rt)
 }
 
 fn cloned<K: ProgressTracker>(rt: &impl Abort, alloc: Global, look: &Look<K>) -> Look<K> {
-    let style = look.try_clone().expect(rt, "granted");
-    Box::new(alloc, style).expect(rt, "granted")
+    let style = look.try_clone().granted(rt);
+    Box::new(alloc, style).granted(rt)
 }
 
 fn bar<K: ProgressTracker>(
@@ -49,8 +48,8 @@ fn bar<K: ProgressTracker>(
     look: Look<K>,
     len: Option<u64>,
 ) -> Told<K> {
-    let bar = BarState::styled(alloc, Box::into_inner(look), len, 0).expect(rt, "granted");
-    Box::new(alloc, bar).expect(rt, "granted")
+    let bar = BarState::styled(alloc, Box::into_inner(look), len, 0).granted(rt);
+    Box::new(alloc, bar).granted(rt)
 }
 
 /// The lines on so many columns, each with a newline behind it, are these.
@@ -66,11 +65,11 @@ fn shows<K: ProgressTracker>(
 /// These lines, each with a newline behind it, are this text.
 fn are_lines(rt: &impl Abort, alloc: Global, lines: Result<Vec<LineType>, Refusal>, wanted: &str) {
     let mut text = String::new(alloc);
-    for line in &lines.expect(rt, "granted") {
-        text.push_str(line.as_str()).expect(rt, "granted");
-        text.push('\n').expect(rt, "granted");
+    for line in &lines.granted(rt) {
+        text.push_str(line.as_str()).granted(rt);
+        text.push('\n').granted(rt);
     }
-    same!(*rt; text.as_str(), wanted);
+    same!(rt; text.as_str(), wanted);
 }
 
 // ---- a text that stays
@@ -97,7 +96,7 @@ fn saying(
     look: Look<FnTracker<Says>>,
     (name, text): (&str, &'static str),
 ) -> Look<FnTracker<Says>> {
-    let tracker = FnTracker::new(alloc, Says { alloc, text }).expect(rt, "granted");
+    let tracker = FnTracker::new(alloc, Says { alloc, text }).granted(rt);
     keyed(rt, alloc, look, (name, tracker))
 }
 
@@ -109,11 +108,9 @@ fn tracked(
     colours: bool,
 ) -> Look<FnTracker<Says>> {
     let look = saying(rt, alloc, look(rt, alloc, template), ("t", text));
-    let style = Box::into_inner(look)
-        .with_colors(colours)
-        .expect(rt, "granted");
-    let style = style.progress_chars("=>-").expect(rt, "granted");
-    Box::new(alloc, style).expect(rt, "granted")
+    let style = Box::into_inner(look).with_colors(colours).granted(rt);
+    let style = style.progress_chars("=>-").granted(rt);
+    Box::new(alloc, style).granted(rt)
 }
 
 /// A template, the text of its tracker, spaces for a tab, and the lines on 10 columns.
@@ -139,14 +136,15 @@ fn is_told(rt: &impl Abort, alloc: Global, row: &Said) {
     let (template, text, tab, wanted) = *row;
     let look = tracked(rt, alloc, (template, text), false);
     let mut bar = bar(rt, alloc, look, Some(4));
-    bar.set_tab_width(tab, 0).expect(rt, "granted");
+    bar.set_tab_width(tab, 0).granted(rt);
     shows(rt, alloc, &bar, (10, wanted));
 }
 
 #[test]
 fn texts_of_trackers(rt: HostRuntime) {
+    let rt = &rt;
     for row in SAID {
-        is_told(&rt, rt.alloc(), row);
+        is_told(rt, rt.alloc(), row);
     }
 }
 
@@ -159,9 +157,11 @@ fn shows_colours(rt: &impl Abort, alloc: Global, colours: bool, wanted: &str) {
 
 #[test]
 fn a_tracker_in_colours(rt: HostRuntime) {
+    let rt = &rt;
+    let alloc = rt.alloc();
     let coloured = "\u{1B}[31m\u{1B}[44m XXX \u{1B}[0m\n";
-    shows_colours(&rt, rt.alloc(), true, coloured);
-    shows_colours(&rt, rt.alloc(), false, " XXX \n");
+    shows_colours(rt, alloc, true, coloured);
+    shows_colours(rt, alloc, false, " XXX \n");
 }
 
 /// A terminal of 4 rows and 10 columns.
@@ -176,14 +176,16 @@ fn on_terminal(
     bar: Told<FnTracker<Says>>,
 ) -> Box<LoneBar<FnTracker<Says>, InMemoryTerm>> {
     let lone = LoneBar::new(Box::into_inner(bar), target(rt, alloc));
-    Box::new(alloc, lone).expect(rt, "granted")
+    Box::new(alloc, lone).granted(rt)
 }
 
 /// What isn't a colour sequence is written as it is: the draw is made.
 #[test]
 fn a_sequence_of_another_kind_is_drawn(rt: HostRuntime) {
-    let look = tracked(&rt, rt.alloc(), ("{t}", "\u{1B}[2J"), false);
-    let mut drawn = on_terminal(&rt, rt.alloc(), bar(&rt, rt.alloc(), look, Some(4)));
+    let rt = &rt;
+    let alloc = rt.alloc();
+    let look = tracked(rt, alloc, ("{t}", "\u{1B}[2J"), false);
+    let mut drawn = on_terminal(rt, alloc, bar(rt, alloc, look, Some(4)));
     same!(rt; drawn.tick(0), Ok(Drawn::Yes));
 }
 
@@ -201,7 +203,7 @@ fn insertion_of(
 ) -> multi::Call<FnTracker<Says>> {
     let look = tracked(rt, alloc, ("{t}", text), false);
     let mut bar = bar(rt, alloc, look, Some(4));
-    bar.with_tab_width(2, 0).expect(rt, "granted");
+    bar.with_tab_width(2, 0).granted(rt);
     multi::Call::Insert {
         at: InsertLocation::End,
         candidate: Candidate::New(Box::into_inner(bar)),
@@ -224,9 +226,9 @@ const FIRST: BarId = BarId {
 /// A board takes such a bar in, and draws it.
 fn takes_in_and_draws(rt: &impl Abort, alloc: Global, board: &mut Recording, text: &'static str) {
     let taken = applied(board, insertion_of(rt, alloc, text));
-    same!(*rt; taken, Answer::Id(FIRST));
+    same!(rt; taken, Answer::Id(FIRST));
     let drawn = applied(board, multi::Call::Bar(FIRST, BarCommand::Tick));
-    same!(*rt; drawn, Answer::Drawn(Drawn::Yes));
+    same!(rt; drawn, Answer::Drawn(Drawn::Yes));
 }
 
 /// A board makes the calls of these entries with the same answers.
@@ -237,29 +239,29 @@ fn answers_so(
     entries: &[Entry<FnTracker<Says>>],
 ) {
     for entry in entries {
-        let call = entry.call.try_clone(alloc).expect(rt, "granted");
-        same!(*rt; &board.call(call, 0), &entry.answer);
+        let call = entry.call.try_clone(alloc).granted(rt);
+        same!(rt; &board.call(call, 0), &entry.answer);
     }
 }
 
 fn contents(rt: &impl Abort, board: &OnBoard) -> String {
-    let term = board.term().expect(rt, "a terminal");
-    term.contents().expect(rt, "granted")
+    let term = board.term().granted(rt);
+    term.contents().granted(rt)
 }
 
 /// A board that keeps its history, and has drawn a bar whose tracker writes this text.
 fn recorded(rt: &impl Abort, alloc: Global, text: &'static str) -> Box<Recording> {
     let board = Recorded::new(alloc, target(rt, alloc), 1);
-    let mut board = Box::new(alloc, board).expect(rt, "granted");
+    let mut board = Box::new(alloc, board).granted(rt);
     takes_in_and_draws(rt, alloc, &mut board, text);
     board
 }
 
 /// What a fresh board shows that makes these calls with the same answers.
 fn shown_again(rt: &impl Abort, alloc: Global, entries: &[Entry<FnTracker<Says>>]) -> String {
-    same!(*rt; entries.len(), 2);
+    same!(rt; entries.len(), 2);
     let board = Board::new(alloc, target(rt, alloc), 1);
-    let mut board = Box::new(alloc, board).expect(rt, "granted");
+    let mut board = Box::new(alloc, board).granted(rt);
     answers_so(rt, alloc, &mut board, entries);
     contents(rt, &board)
 }
@@ -270,21 +272,23 @@ fn recorded_shows(rt: &impl Abort, alloc: Global, text: &'static str) -> String 
     let recorded = recorded(rt, alloc, text);
     let shown = contents(rt, recorded.board());
     let again = shown_again(rt, alloc, recorded.entries());
-    same!(*rt; again.as_str(), shown.as_str());
+    same!(rt; again.as_str(), shown.as_str());
     shown
 }
 
 /// A tracker's tab is two spaces and its newline parts two lines, on a board too.
 #[test]
 fn a_tab_and_a_newline_on_a_board(rt: HostRuntime) {
-    let shown = recorded_shows(&rt, rt.alloc(), "a\tb\nc");
+    let rt = &rt;
+    let shown = recorded_shows(rt, rt.alloc(), "a\tb\nc");
     same!(rt; shown.as_str(), "a  b\nc");
 }
 
 /// What isn't a colour sequence is drawn on a board too; what it does to the terminal isn't claimed.
 #[test]
 fn a_sequence_of_another_kind_on_a_board(rt: HostRuntime) {
-    drop(recorded_shows(&rt, rt.alloc(), "\u{1B}[2J"));
+    let rt = &rt;
+    drop(recorded_shows(rt, rt.alloc(), "\u{1B}[2J"));
 }
 
 // ---- names of keys
@@ -307,10 +311,12 @@ fn shows_line(rt: &impl Abort, alloc: Global, look: Look<FnTracker<Says>>, wante
 /// A tracker comes before a key of its name, and before an earlier tracker of its name.
 #[test]
 fn names_of_trackers(rt: HostRuntime) {
-    let look = named(&rt, rt.alloc());
-    let clone = cloned(&rt, rt.alloc(), &look);
-    shows_line(&rt, rt.alloc(), look, "pw2\n");
-    shows_line(&rt, rt.alloc(), clone, "pw2\n");
+    let rt = &rt;
+    let alloc = rt.alloc();
+    let look = named(rt, alloc);
+    let clone = cloned(rt, alloc, &look);
+    shows_line(rt, alloc, look, "pw2\n");
+    shows_line(rt, alloc, clone, "pw2\n");
 }
 
 // ---- a text that changes
@@ -373,7 +379,7 @@ enum Step {
 
 /// What a message says.
 fn said(rt: &impl Abort, alloc: Global) -> String {
-    String::from_str(alloc, "m").expect(rt, "granted")
+    String::from_str(alloc, "m").granted(rt)
 }
 
 fn command(rt: &impl Abort, alloc: Global, call: Step) -> BarCommand<Light> {
@@ -425,14 +431,16 @@ fn shows_after(
     (call, wanted): (Step, &str),
 ) {
     let command = command(rt, alloc, call);
-    bar.apply(command, 0).expect(rt, "granted");
+    bar.apply(command, 0).granted(rt);
     shows(rt, alloc, bar, (80, wanted));
 }
 
 #[test]
 fn ticks_and_resets_of_a_tracker(rt: HostRuntime) {
-    let mut bar = lit(&rt, rt.alloc());
+    let rt = &rt;
+    let alloc = rt.alloc();
+    let mut bar = lit(rt, alloc);
     for row in CALLS {
-        shows_after(&rt, rt.alloc(), &mut bar, *row);
+        shows_after(rt, alloc, &mut bar, *row);
     }
 }

@@ -1,6 +1,7 @@
 //! Workers that add to one sum: in two threads, on one, and divided among many.
 ghost use Rattle.std.specs.Prelude.{◌≡◌, ◌+◌, All};
 
+use crate::checks::Granted;
 use indicatif_board::done::{BarWorker, Done};
 use std::process::Abort;
 use std::thread::join;
@@ -28,10 +29,11 @@ fn a_thousand_times(done: &Done, mut worker: BarWorker) -> Worked
 
 #[test]
 fn two_threads_add_a_thousand_times(rt: HostRuntime) {
-    let (done, worker) = Done::new(rt.alloc()).expect(&rt, "granted");
-    let (mine, theirs) = worker.split(&done).expect(&rt, "granted");
+    let rt = &rt;
+    let (done, worker) = Done::new(rt.alloc()).granted(rt);
+    let (mine, theirs) = worker.split(&done).granted(rt);
     let (mine, theirs) = join(
-        &rt,
+        rt,
         || a_thousand_times(&done, mine),
         || a_thousand_times(&done, theirs),
     );
@@ -43,8 +45,9 @@ fn two_threads_add_a_thousand_times(rt: HostRuntime) {
 
 #[test]
 fn a_total_is_read_from_the_shared_word(rt: HostRuntime) {
-    let (done, worker) = Done::new(rt.alloc()).expect(&rt, "granted");
-    let (mut first, mut second) = worker.split(&done).expect(&rt, "granted");
+    let rt = &rt;
+    let (done, worker) = Done::new(rt.alloc()).granted(rt);
+    let (mut first, mut second) = worker.split(&done).granted(rt);
     first.add(&done, 5);
     same!(rt; second.total(&done), 5);
     second.add(&done, 2);
@@ -55,8 +58,9 @@ fn a_total_is_read_from_the_shared_word(rt: HostRuntime) {
 
 #[test]
 fn a_total_is_read_anew_each_time(rt: HostRuntime) {
-    let (done, worker) = Done::new(rt.alloc()).expect(&rt, "granted");
-    let (mut first, mut second) = worker.split(&done).expect(&rt, "granted");
+    let rt = &rt;
+    let (done, worker) = Done::new(rt.alloc()).granted(rt);
+    let (mut first, mut second) = worker.split(&done).granted(rt);
     first.add(&done, 5);
     same!(rt; second.total(&done), 5);
     first.add(&done, 4);
@@ -67,16 +71,18 @@ fn a_total_is_read_anew_each_time(rt: HostRuntime) {
 
 #[test]
 fn a_sum_of_nothing_is_closed_at_once(rt: HostRuntime) {
-    let (done, mut worker) = Done::new(rt.alloc()).expect(&rt, "granted");
+    let rt = &rt;
+    let (done, mut worker) = Done::new(rt.alloc()).granted(rt);
     same!(rt; worker.total(&done), 0);
     same!(rt; done.close(worker), 0);
 }
 
 #[test]
 fn a_sum_wraps_at_2_to_the_64(rt: HostRuntime) {
-    let (done, mut worker) = Done::new(rt.alloc()).expect(&rt, "granted");
+    let rt = &rt;
+    let (done, mut worker) = Done::new(rt.alloc()).granted(rt);
     worker.add(&done, u64::MAX - 1);
-    let (mut first, mut second) = worker.split(&done).expect(&rt, "granted");
+    let (mut first, mut second) = worker.split(&done).granted(rt);
     first.add(&done, 1);
     second.add(&done, 2);
     let mut worker = first.join(second, &done);
@@ -100,8 +106,9 @@ fn last_of_a_hundred_splits(rt: &impl Abort, done: &Done, worker: BarWorker) -> 
 
 #[test]
 fn a_hundred_splits_in_a_row(rt: HostRuntime) {
-    let (done, worker) = Done::new(rt.alloc()).expect(&rt, "granted");
-    let mut last = last_of_a_hundred_splits(&rt, &done, worker);
+    let rt = &rt;
+    let (done, worker) = Done::new(rt.alloc()).granted(rt);
+    let mut last = last_of_a_hundred_splits(rt, &done, worker);
     same!(rt; last.total(&done), 4950);
 }
 
@@ -116,11 +123,11 @@ fn each_adds_two(done: &Done, workers: Vec<BarWorker>)
 
 #[test]
 fn a_worker_for_each_piece(rt: HostRuntime) {
-    let (done, worker) = Done::new(rt.alloc()).expect(&rt, "granted");
-    let (mut mine, theirs) = worker.split(&done).expect(&rt, "granted");
-    let workers = theirs
-        .split_among(rt.alloc(), &done, 99)
-        .expect(&rt, "granted");
+    let rt = &rt;
+    let alloc = rt.alloc();
+    let (done, worker) = Done::new(alloc).granted(rt);
+    let (mut mine, theirs) = worker.split(&done).granted(rt);
+    let workers = theirs.split_among(alloc, &done, 99).granted(rt);
     same!(rt; workers.len(), 99);
     each_adds_two(&done, workers);
     same!(rt; mine.total(&done), 198);
@@ -128,11 +135,11 @@ fn a_worker_for_each_piece(rt: HostRuntime) {
 
 #[test]
 fn pieces_are_joined_again(rt: HostRuntime) {
-    let (done, mut worker) = Done::new(rt.alloc()).expect(&rt, "granted");
+    let rt = &rt;
+    let alloc = rt.alloc();
+    let (done, mut worker) = Done::new(alloc).granted(rt);
     worker.add(&done, 3);
-    let workers = worker
-        .split_among(rt.alloc(), &done, 5)
-        .expect(&rt, "granted");
+    let workers = worker.split_among(alloc, &done, 5).granted(rt);
     let Some(mut all) = BarWorker::join_all(workers, &done) else {
         panic!(rt; "five workers are some")
     };

@@ -1,4 +1,5 @@
 //! What targets hand out, and a terminal in memory whose memory is refused.
+use crate::checks::Granted;
 use indicatif_term::draw_target::{Engine, MultiProgressAlignment, ProgressDrawTarget, Setup};
 use indicatif_term::in_memory::InMemoryTerm;
 use indicatif_term::term_like::TermLike;
@@ -14,14 +15,14 @@ fn hidden() -> Target {
 }
 
 fn target(rt: &impl Abort, alloc: Global) -> Target {
-    let term = InMemoryTerm::new(alloc, 2, 3).expect(rt, "granted");
+    let term = InMemoryTerm::new(alloc, 2, 3).granted(rt);
     ProgressDrawTarget::term_like(term)
 }
 
 /// One that draws once a second.
 fn often(rt: &impl Abort, alloc: Global) -> Target {
-    let term = InMemoryTerm::new(alloc, 2, 3).expect(rt, "granted");
-    ProgressDrawTarget::term_like_with_hz(term, 1, 0).expect(rt, "granted")
+    let term = InMemoryTerm::new(alloc, 2, 3).granted(rt);
+    ProgressDrawTarget::term_like_with_hz(term, 1, 0).granted(rt)
 }
 
 /// Whether a target gives an engine, and whether a limiter.
@@ -32,10 +33,11 @@ fn opened(alloc: Global, target: Target) -> (bool, bool) {
 
 #[test]
 fn engines_of_targets(rt: HostRuntime) {
+    let rt = &rt;
     let alloc = rt.alloc();
-    same!(rt; opened(alloc, target(&rt, alloc)), (true, false));
+    same!(rt; opened(alloc, target(rt, alloc)), (true, false));
     same!(rt; opened(alloc, hidden()), (false, false));
-    same!(rt; opened(alloc, often(&rt, alloc)), (true, true));
+    same!(rt; opened(alloc, often(rt, alloc)), (true, true));
 }
 
 /// Rows and columns of a target's terminal, where it has one and no limiter.
@@ -60,8 +62,9 @@ fn taken_apart(setup: Setup<InMemoryTerm, StepClock>) -> (bool, Option<(u16, u16
 
 #[test]
 fn what_a_bar_is_made_with(rt: HostRuntime) {
+    let rt = &rt;
     let setup = Setup {
-        target: target(&rt, rt.alloc()),
+        target: target(rt, rt.alloc()),
         clock: StepClock { next: 5, step: 2 },
     };
     same!(rt; taken_apart(setup), (false, Some((2, 3)), 5));
@@ -71,6 +74,7 @@ fn what_a_bar_is_made_with(rt: HostRuntime) {
 
 #[test]
 fn bars_stand_at_the_top_by_default(rt: HostRuntime) {
+    let rt = &rt;
     same!(rt; MultiProgressAlignment::default(),
         MultiProgressAlignment::Top);
 }
@@ -106,6 +110,7 @@ fn goes_on(term: &InMemoryTerm) -> bool {
 /// memory; that it holds with each allocation failing in turn is tried by hand, by `rt try --test --fail-alloc N`.
 #[test]
 fn want_of_memory(rt: HostRuntime) {
+    let rt = &rt;
     match InMemoryTerm::new(rt.alloc(), 2, 4) {
         Ok(mut term) => {
             holds!(rt; writes_all(&mut term));

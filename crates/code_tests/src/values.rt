@@ -2,6 +2,7 @@
 ghost use Rattle.std.specs.Prelude.{◌≡◌, ℕ, List, IfOk, IfErr};
 ghost use Rattle.indicatif_bar.specs.Progress.{Progress};
 
+use crate::checks::Granted;
 use indicatif_bar::lone::LoneBar;
 use indicatif_bar::state::{Ask, BarState, Change, ProgressFinish, SpareLines};
 use indicatif_bar::style::{NoTracker, ProgressStyle};
@@ -19,7 +20,7 @@ type Lone = LoneBar<NoTracker, InMemoryTerm>;
 
 /// A record of this length that shows its position, in a box: each way out of a function drops it by one call.
 fn plain_bar(rt: &impl Abort, alloc: Global, len: u64) -> Box<Bar> {
-    let style = ProgressStyle::with_template(alloc, "{pos}").expect(rt, "granted");
+    let style = ProgressStyle::with_template(alloc, "{pos}").granted(rt);
     boxed(rt, alloc, style, Some(len))
 }
 
@@ -30,17 +31,19 @@ fn boxed(
     style: ProgressStyle<NoTracker>,
     len: Option<u64>,
 ) -> Box<Bar> {
-    let bar = BarState::styled(alloc, style, len, 0).expect(rt, "granted");
-    Box::new(alloc, bar).expect(rt, "granted")
+    let bar = BarState::styled(alloc, style, len, 0).granted(rt);
+    Box::new(alloc, bar).granted(rt)
 }
 
 #[test]
 fn finish_by_default(rt: HostRuntime) {
+    let rt = &rt;
     holds!(rt; matches!(ProgressFinish::default(), ProgressFinish::AndClear));
 }
 
 #[test]
 fn setup(rt: HostRuntime) {
+    let rt = &rt;
     let mut setup = Setup {
         target: ProgressDrawTarget::<InMemoryTerm>::hidden(),
         clock: StepClock { next: 0, step: 1 },
@@ -51,10 +54,11 @@ fn setup(rt: HostRuntime) {
 
 #[test]
 fn draw_target(rt: HostRuntime) {
-    let term = InMemoryTerm::new(rt.alloc(), 2, 5).expect(&rt, "granted");
+    let rt = &rt;
+    let term = InMemoryTerm::new(rt.alloc(), 2, 5).granted(rt);
     let shown = ProgressDrawTarget::term_like(term);
     holds!(rt; !shown.is_hidden());
-    let term = shown.into_term().expect(&rt, "a terminal");
+    let term = shown.into_term().granted(rt);
     same!(rt; term.width(), 5);
     let nowhere: ProgressDrawTarget<InMemoryTerm> = ProgressDrawTarget::hidden();
     holds!(rt; nowhere.is_hidden());
@@ -63,8 +67,8 @@ fn draw_target(rt: HostRuntime) {
 /// This is the one line.
 fn is_shown(rt: &impl Abort, lines: &[LineType], wanted: &str) {
     match lines {
-        [line] => same!(*rt; line.as_str(), wanted),
-        _ => same!(*rt; (wanted, lines.len()), (wanted, 1)),
+        [line] => same!(rt; line.as_str(), wanted),
+        _ => same!(rt; (wanted, lines.len()), (wanted, 1)),
     }
 }
 
@@ -72,7 +76,7 @@ fn is_shown(rt: &impl Abort, lines: &[LineType], wanted: &str) {
 
 /// A bar's line in this room is this, and the room is kept.
 fn shows_in(rt: &impl Abort, bar: &Bar, spare: &mut SpareLines, wanted: &str) {
-    let lines = bar.lines_in(spare, 0, 80).expect(rt, "granted");
+    let lines = bar.lines_in(spare, 0, 80).granted(rt);
     is_shown(rt, &lines, wanted);
     spare.store(lines);
 }
@@ -84,19 +88,21 @@ fn advance(bar: &mut Bar, steps: u64) -> Ask {
 /// Two bars have one room, and the lines that each has without it.
 fn share_a_room(rt: &impl Abort, first: &mut Bar, second: &Bar, spare: &mut SpareLines) {
     shows_in(rt, first, spare, "0");
-    same!(*rt; advance(first, 10), Ask::Unforced);
+    same!(rt; advance(first, 10), Ask::Unforced);
     shows_in(rt, first, spare, "10");
     shows_in(rt, second, spare, "0");
-    let lines = first.lines(0, 80).expect(rt, "granted");
+    let lines = first.lines(0, 80).granted(rt);
     is_shown(rt, &lines, "10");
 }
 
 #[test]
 fn spare_lines(rt: HostRuntime) {
-    let mut first = plain_bar(&rt, rt.alloc(), 10);
-    let second = plain_bar(&rt, rt.alloc(), 10);
-    let mut spare = SpareLines::new(rt.alloc());
-    share_a_room(&rt, &mut first, &second, &mut spare);
+    let rt = &rt;
+    let alloc = rt.alloc();
+    let mut first = plain_bar(rt, alloc, 10);
+    let second = plain_bar(rt, alloc, 10);
+    let mut spare = SpareLines::new(alloc);
+    share_a_room(rt, &mut first, &second, &mut spare);
 }
 
 // ---- closures
@@ -117,7 +123,8 @@ fn update_twice(bar: &mut Bar) -> Ask {
 
 #[test]
 fn an_update_of_a_record(rt: HostRuntime) {
-    let mut bar = plain_bar(&rt, rt.alloc(), 10);
+    let rt = &rt;
+    let mut bar = plain_bar(rt, rt.alloc(), 10);
     bar.with_position(12, 0);
     same!(rt; update_twice(&mut bar), Ask::Unforced);
     same!(rt; (bar.state().pos(), bar.state().len()), (24, Some(25)));
@@ -141,9 +148,9 @@ fn on_terminal(
     bar: Box<Bar>,
     (rows, columns): (u16, u16),
 ) -> Box<Lone> {
-    let term = InMemoryTerm::new(alloc, rows, columns).expect(rt, "granted");
+    let term = InMemoryTerm::new(alloc, rows, columns).granted(rt);
     let target = ProgressDrawTarget::term_like(term);
-    Box::new(alloc, LoneBar::new(Box::into_inner(bar), target)).expect(rt, "granted")
+    Box::new(alloc, LoneBar::new(Box::into_inner(bar), target)).granted(rt)
 }
 
 fn shown_at(rt: &impl Abort, alloc: Global, place: u64) -> Box<Lone> {
@@ -153,15 +160,16 @@ fn shown_at(rt: &impl Abort, alloc: Global, place: u64) -> Box<Lone> {
 }
 
 fn contents(rt: &impl Abort, bar: &Lone) -> String {
-    let term = bar.term().expect(rt, "a terminal");
-    term.contents().expect(rt, "granted")
+    let term = bar.term().granted(rt);
+    term.contents().granted(rt)
 }
 
 #[test]
 fn an_update_of_a_lone_bar(rt: HostRuntime) {
-    let mut bar = shown_at(&rt, rt.alloc(), 23);
+    let rt = &rt;
+    let mut bar = shown_at(rt, rt.alloc(), 23);
     same!(rt; update_next(&mut bar), Ok(Drawn::Yes));
-    same!(rt; contents(&rt, &bar).as_str(), "24");
+    same!(rt; contents(rt, &bar).as_str(), "24");
 }
 
 /// Suspended round a closure that answers this number.
@@ -171,7 +179,7 @@ fn suspend(bar: &mut Lone, answer: u64) -> (u64, Result<Drawn, Refusal>) {
 
 /// A bar of a character that is too wide for its one column.
 fn narrow(rt: &impl Abort, alloc: Global) -> Box<Lone> {
-    let style = ProgressStyle::with_template(alloc, "国").expect(rt, "granted");
+    let style = ProgressStyle::with_template(alloc, "国").granted(rt);
     let bar = boxed(rt, alloc, style, None);
     on_terminal(rt, alloc, bar, (4, 1))
 }
@@ -179,8 +187,10 @@ fn narrow(rt: &impl Abort, alloc: Global) -> Box<Lone> {
 /// The closure's answer is handed on, also where the draw behind it is refused.
 #[test]
 fn an_answer_of_a_closure(rt: HostRuntime) {
-    let mut bar = shown_at(&rt, rt.alloc(), 23);
+    let rt = &rt;
+    let alloc = rt.alloc();
+    let mut bar = shown_at(rt, alloc, 23);
     same!(rt; suspend(&mut bar, 7), (7, Ok(Drawn::Yes)));
-    let mut bar = narrow(&rt, rt.alloc());
+    let mut bar = narrow(rt, alloc);
     same!(rt; suspend(&mut bar, 8), (8, Err(Refusal::TooWide)));
 }

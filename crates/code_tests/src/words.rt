@@ -1,4 +1,5 @@
 //! What the words of a command line are, by what started the program.
+use crate::checks::Granted;
 use bars_run::words::words;
 use std::env::{Env, FillError};
 use std::process::Abort;
@@ -32,9 +33,9 @@ impl Env for Started {
 
 /// The words are these.
 fn are_words(rt: &impl Abort, words: &[String], wanted: &[&str]) {
-    same!(*rt; words.len(), wanted.len());
+    same!(rt; words.len(), wanted.len());
     for (word, wanted) in words.iter().zip(wanted) {
-        same!(*rt; word.as_str(), *wanted);
+        same!(rt; word.as_str(), *wanted);
     }
 }
 
@@ -50,8 +51,9 @@ const STARTED: &[(&[&[u8]], &[&str])] = &[
 
 #[test]
 fn words_behind_the_name(rt: HostRuntime) {
+    let rt = &rt;
     for (started, wanted) in STARTED {
-        let words = words(&(Started(started), rt.alloc())).expect(&rt, "granted");
-        are_words(&rt, &words, wanted);
+        let words = words(&(Started(started), rt.alloc())).granted(rt);
+        are_words(rt, &words, wanted);
     }
 }

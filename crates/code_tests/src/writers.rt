@@ -1,4 +1,5 @@
 //! What a terminal hands on to its writer, and what it makes of the writer's answers.
+use crate::checks::Granted;
 use crate::shown::{SCRIPT, STILL, Shown, Step};
 use indicatif_term::in_memory::Cells;
 use indicatif_term::term_like::{Term, TermLike};
@@ -47,17 +48,19 @@ fn each_is_one_write(rt: &impl Abort, mut bar: Buffered) {
     for (place, call) in SCRIPT.iter().enumerate() {
         writes = writes.saturating_add(u64::from(place != STILL));
         flushes = flushes.saturating_add(1);
-        same!(*rt; bar.makes(call.0), Ok(Drawn::Yes));
-        same!(*rt; writes_and_flushes(&bar), Some((writes, flushes)));
+        same!(rt; bar.makes(call.0), Ok(Drawn::Yes));
+        same!(rt; writes_and_flushes(&bar), Some((writes, flushes)));
     }
 }
 
 /// Behind a `BufWriter` each drawing that changes a line is one write; one that changes none makes none, as a call that is refused.
 #[test]
 fn a_drawing_is_one_write(rt: HostRuntime) {
-    let writer = BufWriter::new(rt.alloc(), CallCount::default()).expect(&rt, "granted");
-    let bar = Shown::on(rt.alloc(), "ab", Term::new(writer, 6, 10)).expect(&rt, "granted");
-    each_is_one_write(&rt, bar);
+    let rt = &rt;
+    let alloc = rt.alloc();
+    let writer = BufWriter::new(alloc, CallCount::default()).granted(rt);
+    let bar = Shown::on(alloc, "ab", Term::new(writer, 6, 10)).granted(rt);
+    each_is_one_write(rt, bar);
 }
 
 // ---- a terminal in a box
@@ -82,15 +85,17 @@ type Boxed = Box<dyn TermLike + Drop>;
 
 /// A terminal in a box that counts its flushes there.
 fn boxed(rt: &impl Abort, alloc: Global, count: &Rc<Cell<u64>>) -> Boxed {
-    let count = count.clone().expect(rt, "granted");
-    Box::new(alloc, Term::new(SharedCount(count), 6, 10)).expect(rt, "granted")
+    let count = count.clone().granted(rt);
+    Box::new(alloc, Term::new(SharedCount(count), 6, 10)).granted(rt)
 }
 
 /// A line isn't flushed, and a flush is counted once.
 #[test]
 fn a_boxed_terminal_is_flushed_once(rt: HostRuntime) {
-    let count = Rc::new(rt.alloc(), Cell::new(0)).expect(&rt, "granted");
-    let mut boxed = boxed(&rt, rt.alloc(), &count);
+    let rt = &rt;
+    let alloc = rt.alloc();
+    let count = Rc::new(alloc, Cell::new(0)).granted(rt);
+    let mut boxed = boxed(rt, alloc, &count);
     same!(rt; (boxed.write_line("ab").is_ok(), count.get()), (true, 0));
     same!(rt; (boxed.flush().is_ok(), count.get()), (true, 1));
 }
@@ -100,17 +105,19 @@ fn each_is_flushed_once<T: TermLike + Drop>(rt: &impl Abort, mut bar: Shown<T>, 
     let mut flushes: u64 = 0;
     for (step, _) in SCRIPT {
         flushes = flushes.saturating_add(1);
-        same!(*rt; bar.makes(*step), Ok(Drawn::Yes));
-        same!(*rt; count.get(), flushes);
+        same!(rt; bar.makes(*step), Ok(Drawn::Yes));
+        same!(rt; count.get(), flushes);
     }
 }
 
 #[test]
 fn a_boxed_terminal_is_flushed_once_a_drawing(rt: HostRuntime) {
-    let count = Rc::new(rt.alloc(), Cell::new(0)).expect(&rt, "granted");
-    let boxed = boxed(&rt, rt.alloc(), &count);
-    let bar = Shown::on(rt.alloc(), "ab", boxed).expect(&rt, "granted");
-    each_is_flushed_once(&rt, bar, &count);
+    let rt = &rt;
+    let alloc = rt.alloc();
+    let count = Rc::new(alloc, Cell::new(0)).granted(rt);
+    let boxed = boxed(rt, alloc, &count);
+    let bar = Shown::on(alloc, "ab", boxed).granted(rt);
+    each_is_flushed_once(rt, bar, &count);
 }
 
 // ---- a writer that takes one byte a call
@@ -166,42 +173,44 @@ fn bar_behind(rt: &impl Abort, alloc: Global, taking: Taking) -> Behind {
         calls: 0,
         taking,
     };
-    Shown::on(alloc, "ab", Term::new(writer, 20, 10)).expect(rt, "granted")
+    Shown::on(alloc, "ab", Term::new(writer, 20, 10)).granted(rt)
 }
 
 /// Makes each call of the script, and gives the terminal.
 fn played<'a, T: TermLike + Drop>(rt: &impl Abort, bar: &'a mut Shown<T>) -> &'a T {
     for (step, _) in SCRIPT {
-        same!(*rt; bar.makes(*step), Ok(Drawn::Yes));
+        same!(rt; bar.makes(*step), Ok(Drawn::Yes));
     }
-    bar.term().expect(rt, "a terminal")
+    bar.term().granted(rt)
 }
 
 /// The bytes that the script writes where nothing fails.
 fn bytes_of_the_script(rt: &impl Abort, alloc: Global) -> Vec<u8> {
     let mut bar = bar_behind(rt, alloc, Taking::All);
     let bytes = &played(rt, &mut bar).writer().taken;
-    Vec::from_slice(alloc, bytes).expect(rt, "granted")
+    Vec::from_slice(alloc, bytes).granted(rt)
 }
 
 /// A terminal's writer was given these bytes one by one, without a fault.
 fn was_given_each(rt: &impl Abort, term: &Term<Taker>, bytes: &[u8]) {
     let writer = term.writer();
-    same!(*rt; (writer.calls, term.faults()), (bytes.len() as u64, 0));
-    same!(*rt; writer.taken.as_slice(), bytes);
+    same!(rt; (writer.calls, term.faults()), (bytes.len() as u64, 0));
+    same!(rt; writer.taken.as_slice(), bytes);
 }
 
 #[test]
 fn a_bar_behind_a_writer_of_one_byte_a_call(rt: HostRuntime) {
-    let bytes = bytes_of_the_script(&rt, rt.alloc());
-    let mut bar = bar_behind(&rt, rt.alloc(), Taking::One);
-    was_given_each(&rt, played(&rt, &mut bar), &bytes);
+    let rt = &rt;
+    let alloc = rt.alloc();
+    let bytes = bytes_of_the_script(rt, alloc);
+    let mut bar = bar_behind(rt, alloc, Taking::One);
+    was_given_each(rt, played(rt, &mut bar), &bytes);
 }
 
 /// The rows down to the cursor's that these bytes show, each behind a newline.
 fn shown(rt: &impl Abort, alloc: Global, bytes: &[u8]) -> String {
-    let mut cells = Cells::new(alloc, 20, 10).expect(rt, "granted");
-    cells.feed(bytes).expect(rt, "granted");
+    let mut cells = Cells::new(alloc, 20, 10).granted(rt);
+    cells.feed(bytes).granted(rt);
     let (row, _) = cells.cursor();
     joined(rt, alloc, cells.picture(), usize::from(row))
 }
@@ -213,21 +222,21 @@ fn joined(
     picture: Result<Vec<String>, Refusal>,
     last: usize,
 ) -> String {
-    let rows = picture.expect(rt, "granted");
+    let rows = picture.granted(rt);
     let mut text = String::new(alloc);
     for row in rows.get(..=last).unwrap_or(&rows) {
-        text.push('\n').expect(rt, "granted");
-        text.push_str(row.as_str()).expect(rt, "granted");
+        text.push('\n').granted(rt);
+        text.push_str(row.as_str()).granted(rt);
     }
     text
 }
 
 /// These rows stand at the bottom of what the terminal's bytes show.
 fn shows_below(rt: &impl Abort, alloc: Global, term: &Term<Taker>, rows: &str) {
-    let below = format!(in alloc; "\n{rows}").expect(rt, "granted");
+    let below = format!(in alloc; "\n{rows}").granted(rt);
     let shown = shown(rt, alloc, &term.writer().taken);
     let is_below = shown.as_str().ends_with(below.as_str());
-    same!(*rt; (rows, is_below), (rows, true));
+    same!(rt; (rows, is_below), (rows, true));
 }
 
 /// Makes the call, and answers how often it failed: never, and its rows stand at the bottom; or once, after this many bytes.
@@ -239,13 +248,13 @@ fn broken_calls(
     at: usize,
 ) -> u64 {
     let answer = bar.makes(call.0);
-    let term = bar.term().expect(rt, "a terminal");
+    let term = bar.term().granted(rt);
     if answer == Ok(Drawn::Yes) {
         shows_below(rt, alloc, term, call.1);
         return 0;
     }
     let broken = Err(Refusal::Terminal(ErrorKind::BrokenPipe));
-    same!(*rt; (answer, term.writer().taken.len()), (broken, at));
+    same!(rt; (answer, term.writer().taken.len()), (broken, at));
     1
 }
 
@@ -265,17 +274,19 @@ fn play_broken_at(rt: &impl Abort, alloc: Global, bar: &mut Behind, at: usize) -
 fn is_broken_once_at(rt: &impl Abort, alloc: Global, at: usize) {
     let mut bar = bar_behind(rt, alloc, Taking::OneFailingAt(at));
     let failures = play_broken_at(rt, alloc, &mut bar, at);
-    same!(*rt; (at, failures), (at, 1));
-    let term = bar.term().expect(rt, "a terminal");
+    same!(rt; (at, failures), (at, 1));
+    let term = bar.term().granted(rt);
     let writer = term.writer();
     let calls = (writer.taken.len() as u64).saturating_add(1);
-    same!(*rt; (at, writer.calls, term.faults()), (at, calls, 1));
+    same!(rt; (at, writer.calls, term.faults()), (at, calls, 1));
 }
 
 #[test]
 fn a_bar_behind_a_writer_that_fails(rt: HostRuntime) {
-    let bytes = bytes_of_the_script(&rt, rt.alloc());
+    let rt = &rt;
+    let alloc = rt.alloc();
+    let bytes = bytes_of_the_script(rt, alloc);
     for at in 0..bytes.len() {
-        is_broken_once_at(&rt, rt.alloc(), at);
+        is_broken_once_at(rt, alloc, at);
     }
 }

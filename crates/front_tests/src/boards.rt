@@ -1,5 +1,6 @@
 //! Boards that threads share and that keep their history: a fresh board that makes the calls that were kept gives the same answers and
 //! the same picture.
+use crate::checks::Granted;
 use crate::fronts::{Bar, Shared, bar_on, recorded};
 use crate::recordings::{Kind, Recording, counted, is_one_run};
 use crate::ticking::{tick_off, ticks_on, waits};
@@ -32,16 +33,18 @@ fn logged<R: Wait + Copy + Clone + Drop>(board: &Shared<R>) -> (u64, u64) {
 
 #[test]
 fn two_threads_log(rt: HostRuntime) {
-    let board = recorded(rt, rt.alloc());
+    let rt = &rt;
+    let alloc = rt.alloc();
+    let board = recorded(*rt, alloc);
     let drawn = join(
-        &rt,
+        rt,
         || log_fifty(&board, "mine"),
         || log_fifty(&board, "theirs"),
     );
     same!(rt; drawn, (50, 50));
     same!(rt; counted(&board, Kind::Any), 100);
     same!(rt; logged(&board), (50, 50));
-    is_one_run(rt, &board, rt.alloc());
+    is_one_run(*rt, &board, alloc);
 }
 
 // ---- a board in two threads
@@ -55,7 +58,8 @@ fn adds_and_logs<R: Wait + Copy + Clone + Drop + Abort>(
     alloc: Global,
     text: &str,
 ) -> u64 {
-    let bar = bar_on(board, rt, alloc, text);
+    let rt = &rt;
+    let bar = bar_on(board, *rt, alloc, text);
     same!(rt; bar.tick(), Ok(Drawn::Yes));
     let drawn = log_fifty(board, text);
     same!(rt; bar.finish(), Ok(Drawn::Yes));
@@ -66,18 +70,18 @@ fn adds_and_logs<R: Wait + Copy + Clone + Drop + Abort>(
 /// bar and drops it.
 #[test]
 fn a_board_crosses_threads(rt: HostRuntime) {
-    let board = recorded(rt, rt.alloc());
+    let (own, rt) = (rt, &rt);
+    let board = recorded(*rt, rt.alloc());
     crosses(&*board);
-    let other = board.clone().expect(&rt, "granted");
-    let child = thread::spawn(&rt, move || adds_and_logs(&other, rt, rt.alloc(), "theirs")).expect(
-        &rt, "granted",
-    );
-    let mine = adds_and_logs(&board, rt, rt.alloc(), "mine");
-    same!(rt; (mine, child.join(&rt)), (50, 50));
+    let other = board.clone().granted(rt);
+    let adds = move || adds_and_logs(&other, own, own.alloc(), "theirs");
+    let child = thread::spawn(rt, adds).granted(rt);
+    let mine = adds_and_logs(&board, *rt, rt.alloc(), "mine");
+    same!(rt; (mine, child.join(rt)), (50, 50));
     same!(rt; logged(&board), (50, 50));
     let came_and_went = (counted(&board, Kind::Any), counted(&board, Kind::Gone));
     same!(rt; came_and_went, (108, 2));
-    is_one_run(rt, &board, rt.alloc());
+    is_one_run(*rt, &board, rt.alloc());
 }
 
 // ---- a thousand calls
@@ -129,8 +133,9 @@ fn player_on<R: Wait + Copy + Clone + Drop + Abort>(
     rt: R,
     alloc: Global,
 ) -> Box<Player<R>> {
-    let bar = bar_on(board, rt, alloc, "bar");
-    Box::new(alloc, Player { bar, removals: 0 }).expect(&rt, "granted")
+    let rt = &rt;
+    let bar = bar_on(board, *rt, alloc, "bar");
+    Box::new(alloc, Player { bar, removals: 0 }).granted(rt)
 }
 
 impl<R: Wait + Copy + Clone + Drop + Abort> Player<R> {
@@ -141,11 +146,12 @@ impl<R: Wait + Copy + Clone + Drop + Abort> Player<R> {
 
     /// Takes the bar out of the order, tells it something while it stands alone, and takes it in before all others.
     fn leave(&mut self, board: &Shared<R>, rt: R) {
+        let rt = &rt;
         same!(rt; board.remove(&self.bar), Ok(()));
         self.removals = self.removals.saturating_add(1);
         let _ = self.bar.set_message("moved");
-        let owner = self.bar.clone().expect(&rt, "granted");
-        self.bar = board.insert(0, owner).expect(&rt, "granted");
+        let owner = self.bar.clone().granted(rt);
+        self.bar = board.insert(0, owner).granted(rt);
     }
 
     /// A call by a number.
@@ -161,10 +167,11 @@ impl<R: Wait + Copy + Clone + Drop + Abort> Player<R> {
 
 /// Takes a bar that several threads have out of the order, and in again.
 fn toss<R: Wait + Copy + Clone + Drop + Abort>(board: &Shared<R>, rt: R, bar: &Bar<R>) {
+    let rt = &rt;
     same!(rt; board.remove(bar), Ok(()));
     let _ = bar.inc(1);
-    let owner = bar.clone().expect(&rt, "granted");
-    let _ = board.add(owner).expect(&rt, "granted");
+    let owner = bar.clone().granted(rt);
+    let _ = board.add(owner).granted(rt);
 }
 
 /// A board, and a bar of it that all threads have.
@@ -175,9 +182,10 @@ struct Stage<R: Wait + Copy + Clone + Drop> {
 }
 
 fn stage_on<R: Wait + Copy + Clone + Drop + Abort>(rt: R, alloc: Global) -> Box<Stage<R>> {
-    let board = Box::into_inner(recorded(rt, alloc));
-    let common = bar_on(&board, rt, alloc, "all");
-    Box::new(alloc, Stage { board, common }).expect(&rt, "granted")
+    let rt = &rt;
+    let board = Box::into_inner(recorded(*rt, alloc));
+    let common = bar_on(&board, *rt, alloc, "all");
+    Box::new(alloc, Stage { board, common }).granted(rt)
 }
 
 /// A fixed generator of numbers: Marsaglia's xorshift of 64 bits, with the shifts 13, 7 and 17.
@@ -216,10 +224,11 @@ fn play_two<R: Wait + Threads + Copy + Clone + Drop + Abort + Send + Sync>(
     alloc: Global,
     seeds: (u64, u64),
 ) -> (u64, u64) {
+    let rt = &rt;
     join(
-        &rt,
-        || play(on, rt, alloc, seeds.0),
-        || play(on, rt, alloc, seeds.1),
+        rt,
+        || play(on, *rt, alloc, seeds.0),
+        || play(on, *rt, alloc, seeds.1),
     )
 }
 
@@ -239,16 +248,18 @@ fn sum_of(one: (u64, u64), other: (u64, u64)) -> Option<u64> {
 /// A thousand calls from four threads, with bars that are taken out and come back: the bar that all have is taken out too.
 #[test]
 fn a_thousand_calls(rt: HostRuntime) {
-    let on = stage_on(rt, rt.alloc());
+    let rt = &rt;
+    let alloc = rt.alloc();
+    let on = stage_on(*rt, alloc);
     let (one, other) = join(
-        &rt,
-        || play_two(&on, rt, rt.alloc(), (1, 2)),
-        || play_two(&on, rt, rt.alloc(), (3, 4)),
+        rt,
+        || play_two(&on, *rt, alloc, (1, 2)),
+        || play_two(&on, *rt, alloc, (3, 4)),
     );
     let own = sum_of(one, other).unwrap_or(0);
     holds!(rt; own >= 20 && counted(&on.board, Kind::Remove) > own);
     holds!(rt; counted(&on.board, Kind::Any) >= 1000);
-    is_one_run(rt, &on.board, rt.alloc());
+    is_one_run(*rt, &on.board, alloc);
 }
 
 // ---- a ticker
@@ -265,15 +276,17 @@ fn of_tickers<R: Wait + Copy + Clone + Drop>(board: &Shared<R>) -> (u64, u64, u6
 /// A board that is suspended beside a ticker draws again; the history has the ticker's ticks, and no more once it is told off.
 #[test]
 fn a_pause_beside_a_ticker(rt: HostRuntime) {
-    let on = stage_on(rt, rt.alloc());
+    let rt = &rt;
+    let alloc = rt.alloc();
+    let on = stage_on(*rt, alloc);
     same!(rt; on.common.enable_steady_tick(1_000_000), Ok(()));
-    holds!(rt; ticks_on(&rt, &on.common, 0));
+    holds!(rt; ticks_on(rt, &on.common, 0));
     same!(rt; on.board.suspend(|| 7u8), (7, Ok(Drawn::Yes)));
     same!(rt; tick_off(&on.common), Ok(()));
     let ticked = on.common.ticks();
-    waits(&rt);
+    waits(rt);
     same!(rt; of_tickers(&on.board), (ticked, 1, 1));
-    is_one_run(rt, &on.board, rt.alloc());
+    is_one_run(*rt, &on.board, alloc);
 }
 
 // ---- moments
@@ -308,8 +321,10 @@ fn are_at(entries: &[Entry<NoTracker>], moments: &[u64]) -> bool {
 /// reading, of which three of the bar's were made before it is taken in.
 #[test]
 fn moments_of_two_clocks(rt: HostRuntime) {
-    let board = recorded(rt, rt.alloc());
-    let bar = bar_on(&board, rt, rt.alloc(), "a");
+    let rt = &rt;
+    let alloc = rt.alloc();
+    let board = recorded(*rt, alloc);
+    let bar = bar_on(&board, *rt, alloc, "a");
     holds!(rt; bar.tick().is_ok());
     holds!(rt; board.println("l").is_ok());
     holds!(rt; bar.println("m").is_ok());

@@ -1,4 +1,5 @@
 //! Lines of a log above the bars of a board that threads share: what reaches the board's history and its terminal.
+use crate::checks::Granted;
 use crate::fronts::{self, Bar, Shared, bar_on, recorded, setup};
 use crate::recordings::{Kind, counted, is_one_run};
 use indicatif::bridge::{LevelOnEachLine, LineForm, LogBridge, emit};
@@ -21,16 +22,18 @@ fn warn_twice<L: Log>(rt: &L) {
 /// A board shows its bar, and above it a warning and an error of two lines: one entry a record.
 #[test]
 fn records_stand_above_the_bars(rt: HostRuntime) {
-    let board = recorded(rt, rt.alloc());
-    let bar = bar_on(&board, rt, rt.alloc(), "x");
+    let rt = &rt;
+    let alloc = rt.alloc();
+    let board = recorded(*rt, alloc);
+    let bar = bar_on(&board, *rt, alloc, "x");
     same!(rt; bar.tick(), Ok(Drawn::Yes));
     let before = counted(&board, Kind::Any);
-    let bridge = LogBridge::new((*board).clone().expect(&rt, "granted"));
-    warn_twice(&Logged::new(rt, Level::Trace, bridge));
+    let bridge = LogBridge::new((*board).clone().granted(rt));
+    warn_twice(&Logged::new(*rt, Level::Trace, bridge));
     same!(rt; counted(&board, Kind::Any).wrapping_sub(before), 2);
     same!(rt; counted(&board, Kind::Log("WARN  low disk")), 1);
     same!(rt; counted(&board, Kind::Log("ERROR a\nb")), 1);
-    is_one_run(rt, &board, rt.alloc());
+    is_one_run(*rt, &board, alloc);
 }
 
 // ---- two threads log, and two others tick
@@ -61,16 +64,18 @@ fn log_beside_ticks<R: Threads + Wait + Copy + Clone + Sync + Drop, L: Log + Syn
 
 #[test]
 fn two_threads_log_through_a_bridge(rt: HostRuntime) {
-    let board = recorded(rt, rt.alloc());
-    let one = bar_on(&board, rt, rt.alloc(), "one");
-    let other = bar_on(&board, rt, rt.alloc(), "other");
-    let bridge = LogBridge::new((*board).clone().expect(&rt, "granted"));
-    let log = Logged::new(rt, Level::Info, bridge);
-    log_beside_ticks(&rt, &log, (&one, &other));
+    let rt = &rt;
+    let alloc = rt.alloc();
+    let board = recorded(*rt, alloc);
+    let one = bar_on(&board, *rt, alloc, "one");
+    let other = bar_on(&board, *rt, alloc, "other");
+    let bridge = LogBridge::new((*board).clone().granted(rt));
+    let log = Logged::new(*rt, Level::Info, bridge);
+    log_beside_ticks(rt, &log, (&one, &other));
     same!(rt; counted(&board, Kind::Log("INFO  mine")), 20);
     same!(rt; counted(&board, Kind::Log("INFO  theirs")), 20);
     same!(rt; log.sink().missed(), 0);
-    is_one_run(rt, &board, rt.alloc());
+    is_one_run(*rt, &board, alloc);
 }
 
 // ---- filters, and forms of lines
@@ -83,18 +88,18 @@ fn log_each_level<L: Log>(rt: &L) {
 
 /// A filter lets warnings and errors through; how many records were missed.
 fn filtered<R: Wait + Copy + Clone + Drop + Abort>(rt: R, board: &Shared<R>) -> u64 {
-    let bridge = LogBridge::new(board.clone().expect(&rt, "granted")).with_filter(
-        LevelFilter::Warn,
-    );
-    let log = Logged::new(rt, Level::Trace, bridge);
+    let rt = &rt;
+    let bridge = LogBridge::new(board.clone().granted(rt)).with_filter(LevelFilter::Warn);
+    let log = Logged::new(*rt, Level::Trace, bridge);
     log_each_level(&log);
     log.sink().missed()
 }
 
 /// The level may stand before each line of a text.
 fn on_each_line<R: Wait + Copy + Clone + Drop + Abort>(rt: R, board: &Shared<R>) {
-    let bridge = LogBridge::with_form(board.clone().expect(&rt, "granted"), LevelOnEachLine);
-    log_each_level(&Logged::new(rt, Level::Trace, bridge));
+    let rt = &rt;
+    let bridge = LogBridge::with_form(board.clone().granted(rt), LevelOnEachLine);
+    log_each_level(&Logged::new(*rt, Level::Trace, bridge));
 }
 
 /// A line of a caller's own form: the text alone.
@@ -108,21 +113,23 @@ impl LineForm for TextAlone {
 }
 
 fn in_own_form<R: Wait + Copy + Clone + Drop + Abort>(rt: R, board: &Shared<R>) {
-    let bridge = LogBridge::with_form(board.clone().expect(&rt, "granted"), TextAlone);
-    log_each_level(&Logged::new(rt, Level::Trace, bridge));
+    let rt = &rt;
+    let bridge = LogBridge::with_form(board.clone().granted(rt), TextAlone);
+    log_each_level(&Logged::new(*rt, Level::Trace, bridge));
 }
 
 /// A record that a filter drops isn't missed. A line has the form of its bridge.
 #[test]
 fn filters_and_forms(rt: HostRuntime) {
-    let board = recorded(rt, rt.alloc());
-    same!(rt; filtered(rt, &board), 0);
+    let rt = &rt;
+    let board = recorded(*rt, rt.alloc());
+    same!(rt; filtered(*rt, &board), 0);
     same!(rt; counted(&board, Kind::Any), 2);
     same!(rt; counted(&board, Kind::Log("WARN  w\nx")), 1);
-    on_each_line(rt, &board);
+    on_each_line(*rt, &board);
     same!(rt; counted(&board, Kind::Log("WARN  w\nWARN  x")), 1);
     same!(rt; counted(&board, Kind::Log("ERROR e\nERROR f")), 1);
-    in_own_form(rt, &board);
+    in_own_form(*rt, &board);
     same!(rt; counted(&board, Kind::Log("e\nf")), 1);
     same!(rt; counted(&board, Kind::Any), 8);
 }
@@ -161,11 +168,12 @@ fn breaking_after<R: Wait + Copy + Clone + Drop + Abort>(
     alloc: Global,
     left: u32,
 ) -> Box<Broken<R>> {
-    let cells = Cells::new(alloc, 4, 20).expect(&rt, "granted");
+    let rt = &rt;
+    let cells = Cells::new(alloc, 4, 20).granted(rt);
     let target = ProgressDrawTarget::term_like(Term::new(Wire { cells, left }, 4, 20));
     let clock = StepClock { next: 0, step: 1 };
-    let board = MultiProgress::with_draw_target(rt, alloc, target, clock, 1);
-    Box::new(alloc, board.expect(&rt, "granted")).expect(&rt, "granted")
+    let board = MultiProgress::with_draw_target(*rt, alloc, target, clock, 1);
+    Box::new(alloc, board.granted(rt)).granted(rt)
 }
 
 fn contents(term: Option<&Term<Wire>>) -> Option<String> {
@@ -175,16 +183,15 @@ fn contents(term: Option<&Term<Wire>>) -> Option<String> {
 /// The first record meets the failure and is counted; the next one stands on the row after.
 #[test]
 fn a_record_that_failed_is_missed(rt: HostRuntime) {
-    let board = breaking_after(rt, rt.alloc(), 0);
-    let bridge = LogBridge::new((*board).clone().expect(&rt, "granted"));
-    let log = Logged::new(rt, Level::Trace, bridge);
+    let rt = &rt;
+    let board = breaking_after(*rt, rt.alloc(), 0);
+    let bridge = LogBridge::new((*board).clone().granted(rt));
+    let log = Logged::new(*rt, Level::Trace, bridge);
     warn!(log; "one");
     same!(rt; log.sink().missed(), 1);
     warn!(log; "two");
     same!(rt; log.sink().missed(), 1);
-    let text = board
-        .with_term(|term| contents(term))
-        .expect(&rt, "granted");
+    let text = board.with_term(|term| contents(term)).granted(rt);
     same!(rt; text.as_str(), "\nWARN  two");
 }
 
@@ -194,10 +201,10 @@ type Own = Board<NoTracker, InMemoryTerm>;
 
 /// A board that shows the bar `x`.
 fn showing_x<R: Abort>(rt: &R, alloc: Global) -> Box<Own> {
-    let style = ProgressStyle::with_template(alloc, "x").expect(rt, "granted");
-    let bar = BarState::styled(alloc, style, None, 0).expect(rt, "granted");
+    let style = ProgressStyle::with_template(alloc, "x").granted(rt);
+    let bar = BarState::styled(alloc, style, None, 0).granted(rt);
     let board = Board::new(alloc, setup(rt, alloc, 20).target, 1);
-    let mut board = Box::new(alloc, board).expect(rt, "granted");
+    let mut board = Box::new(alloc, board).granted(rt);
     let _ = board.add(Candidate::New(bar));
     holds!(rt; board.redraw(0).is_ok());
     board
@@ -211,28 +218,30 @@ fn tick(board: &mut Own) -> Result<Drawn, Refusal> {
 
 /// Ends the test where something else stands on the board's terminal.
 fn shows<R: Abort>(rt: &R, board: &Own, wanted: &str) {
-    let text = fronts::contents(board.term()).expect(rt, "granted");
+    let text = fronts::contents(board.term()).granted(rt);
     same!(rt; text.as_str(), wanted);
 }
 
 #[test]
 fn lines_stand_above_the_bar(rt: HostRuntime) {
+    let rt = &rt;
     let alloc = rt.alloc();
-    let mut board = showing_x(&rt, alloc);
+    let mut board = showing_x(rt, alloc);
     same!(rt; tick(&mut board), Ok(Drawn::Yes));
     same!(rt; emit(alloc, &mut board, Level::Warn, "low disk", 0), Ok(Drawn::Yes));
     same!(rt; emit(alloc, &mut board, Level::Error, "a\nb", 0), Ok(Drawn::Yes));
-    shows(&rt, &board, "WARN  low disk\nERROR a\nb\nx");
+    shows(rt, &board, "WARN  low disk\nERROR a\nb\nx");
 }
 
 /// On a hidden target a line is dropped: it doesn't show once there is a terminal.
 #[test]
 fn a_hidden_board_drops_lines(rt: HostRuntime) {
+    let rt = &rt;
     let alloc = rt.alloc();
     let hidden = Board::new(alloc, ProgressDrawTarget::hidden(), 1);
-    let mut board: Box<Own> = Box::new(alloc, hidden).expect(&rt, "granted");
+    let mut board: Box<Own> = Box::new(alloc, hidden).granted(rt);
     same!(rt; emit(alloc, &mut board, Level::Info, "i", 0), Ok(Drawn::Hidden));
-    board.set_draw_target(setup(&rt, alloc, 20).target);
+    board.set_draw_target(setup(rt, alloc, 20).target);
     holds!(rt; board.redraw(0).is_ok());
-    shows(&rt, &board, "");
+    shows(rt, &board, "");
 }

@@ -1,5 +1,6 @@
 //! Tests of the crate `indicatif` 0.18.6 that need code, each under its own name and with its own values: bars and boards that are
 //! shared, and what a bar wraps. Most others are rows; docs/DIFFERENCES.md has a table of all.
+use crate::checks::Granted;
 use crate::fronts::{Bar, Led, Shared, board_shows};
 use indicatif::{
     InMemoryTerm, MaxRingBuf, Moves, MultiProgress, NoTracker, OwnedBar, ParallelProgressIterator,
@@ -15,7 +16,7 @@ use std::vec::IntoIter;
 
 /// A terminal in memory of 10 rows and 80 columns, and its clock.
 pub fn setup<R: Abort>(rt: &R, alloc: Global) -> Setup<InMemoryTerm, StepClock> {
-    let term = InMemoryTerm::new(alloc, 10, 80).expect(rt, "granted");
+    let term = InMemoryTerm::new(alloc, 10, 80).granted(rt);
     Setup {
         target: ProgressDrawTarget::term_like(term),
         clock: StepClock { next: 0, step: 0 },
@@ -24,7 +25,8 @@ pub fn setup<R: Abort>(rt: &R, alloc: Global) -> Setup<InMemoryTerm, StepClock> 
 
 /// A bar of this length that stands alone.
 fn bar_of<R: Wait + Copy + Clone + Drop + Abort>(rt: R, alloc: Global, len: u64) -> Bar<R> {
-    ProgressBar::new(rt, alloc, len, setup(&rt, alloc)).expect(&rt, "granted")
+    let rt = &rt;
+    ProgressBar::new(*rt, alloc, len, setup(rt, alloc)).granted(rt)
 }
 
 /// The same for generic code to move.
@@ -36,7 +38,8 @@ fn led_of<R: Wait + Copy + Clone + Drop + Abort>(rt: R, alloc: Global, len: u64)
 
 /// A board on such a terminal.
 pub fn board_on<R: Wait + Copy + Clone + Drop + Abort>(rt: R, alloc: Global) -> Shared<R> {
-    MultiProgress::new(rt, alloc, setup(&rt, alloc), 1).expect(&rt, "granted")
+    let rt = &rt;
+    MultiProgress::new(*rt, alloc, setup(rt, alloc), 1).granted(rt)
 }
 
 // ---- bars and boards
@@ -45,28 +48,26 @@ pub fn board_on<R: Wait + Copy + Clone + Drop + Abort>(rt: R, alloc: Global) -> 
 /// board before.
 #[test]
 fn late_pb_drop(rt: HostRuntime) {
-    let bar = bar_of(rt, rt.alloc(), 10);
-    let board = board_on(rt, rt.alloc());
-    drop(
-        board
-            .add(bar.clone().expect(&rt, "granted"))
-            .expect(&rt, "granted"),
-    );
+    let rt = &rt;
+    let alloc = rt.alloc();
+    let bar = bar_of(*rt, alloc, 10);
+    let board = board_on(*rt, alloc);
+    drop(board.add(bar.clone().granted(rt)).granted(rt));
     holds!(rt; bar.tick().is_ok());
     let row = "░░░░░░░░░░░░░░░░░░░░░░░░░░░░░░░░░░░░░░░░░░░░░░░░░░░░░░░░░░░░░░░░░░░░░░░░░░░ 0/10";
-    board_shows(&rt, &board, row);
+    board_shows(rt, &board, row);
 }
 
 #[test]
 fn multi_is_hidden(rt: HostRuntime) {
+    let rt = &rt;
+    let alloc = rt.alloc();
     let hidden: Setup<InMemoryTerm, StepClock> = Setup {
         target: ProgressDrawTarget::hidden(),
         clock: StepClock { next: 0, step: 0 },
     };
-    let board = MultiProgress::new(rt, rt.alloc(), hidden, 1).expect(&rt, "granted");
-    let bar = board
-        .add(bar_of(rt, rt.alloc(), 100))
-        .expect(&rt, "granted");
+    let board = MultiProgress::new(*rt, alloc, hidden, 1).granted(rt);
+    let bar = board.add(bar_of(*rt, alloc, 100)).granted(rt);
     holds!(rt; board.is_hidden());
     holds!(rt; bar.is_hidden());
 }
@@ -75,11 +76,13 @@ fn crosses<X: Send + Sync>(_value: &X) {}
 
 #[test]
 fn progress_bar_sync_send(rt: HostRuntime) {
-    let bar = bar_of(rt, rt.alloc(), 1);
+    let rt = &rt;
+    let alloc = rt.alloc();
+    let bar = bar_of(*rt, alloc, 1);
     crosses(&bar);
-    let weak = bar.downgrade().expect(&rt, "granted");
+    let weak = bar.downgrade().granted(rt);
     crosses(&weak);
-    let board = board_on(rt, rt.alloc());
+    let board = board_on(*rt, alloc);
     crosses(&board);
 }
 
@@ -91,8 +94,10 @@ fn is_there<R: Wait + Copy + Clone + Drop>(
 
 #[test]
 fn test_weak_pb(rt: HostRuntime) {
-    let bar = bar_of(rt, rt.alloc(), 0);
-    let weak = Box::new(rt.alloc(), bar.downgrade().expect(&rt, "granted")).expect(&rt, "granted");
+    let rt = &rt;
+    let alloc = rt.alloc();
+    let bar = bar_of(*rt, alloc, 0);
+    let weak = Box::new(alloc, bar.downgrade().granted(rt)).granted(rt);
     holds!(rt; is_there(&weak));
     drop(bar);
     holds!(rt; !is_there(&weak));
@@ -101,14 +106,16 @@ fn test_weak_pb(rt: HostRuntime) {
 /// The target that the bar had of its own is given up.
 #[test]
 fn multi_progress_println_bar_with_target(rt: HostRuntime) {
-    let board = board_on(rt, rt.alloc());
-    let bar = board.add(bar_of(rt, rt.alloc(), 10)).expect(&rt, "granted");
-    board_shows(&rt, &board, "");
+    let rt = &rt;
+    let alloc = rt.alloc();
+    let board = board_on(*rt, alloc);
+    let bar = board.add(bar_of(*rt, alloc, 10)).granted(rt);
+    board_shows(rt, &board, "");
     holds!(rt; bar.println("message printed :)").is_ok());
     holds!(rt; bar.inc(2).is_ok());
     let rows =
         "message printed :)\n███████████████░░░░░░░░░░░░░░░░░░░░░░░░░░░░░░░░░░░░░░░░░░░░░░░░░░░░░░░░░░░░ 2/10";
-    board_shows(&rt, &board, rows);
+    board_shows(rt, &board, rows);
 }
 
 /// The greatest place, once these came behind what came before.
@@ -122,6 +129,7 @@ fn greatest(places: &mut MaxRingBuf<10>, new: &[u64]) -> u64 {
 /// Ten places drive 100 out.
 #[test]
 fn test_max_ring_buf(rt: HostRuntime) {
+    let rt = &rt;
     let mut places = MaxRingBuf::new();
     same!(rt; greatest(&mut places, &[100]), 100);
     let ten = [99, 98, 97, 96, 95, 94, 93, 92, 91, 90];
@@ -132,7 +140,7 @@ fn test_max_ring_buf(rt: HostRuntime) {
 
 /// The list 1, 2, 3.
 fn three<R: Abort>(rt: &R, alloc: Global) -> IntoIter<u32> {
-    let items = vec![in alloc; 1u32, 2, 3].expect(rt, "granted");
+    let items = vec![in alloc; 1u32, 2, 3].granted(rt);
     items.into_iter()
 }
 
@@ -163,28 +171,29 @@ fn doubles<R: Abort, P: Moves + Drop>(
     alloc: Global,
     list: &mut ProgressBarIter<IntoIter<u32>, P>,
 ) {
-    let made = doubled(alloc, list).expect(rt, "granted");
+    let made = doubled(alloc, list).granted(rt);
     same!(rt; made.as_slice(), [2, 4, 6].as_slice());
 }
 
 /// The same of a list with a bar of its own.
 fn owned_doubles<R: Abort>(rt: &R, alloc: Global, list: Result<Owned, Refusal>) {
-    let mut list = Box::new(alloc, list.expect(rt, "granted")).expect(rt, "granted");
+    let mut list = Box::new(alloc, list.granted(rt)).granted(rt);
     doubles(rt, alloc, &mut list);
 }
 
 #[test]
 fn it_can_wrap_an_iterator(rt: HostRuntime) {
+    let rt = &rt;
     let alloc = rt.alloc();
-    let list = three(&rt, alloc).progress(alloc, setup(&rt, alloc));
-    owned_doubles(&rt, alloc, list);
-    let list = three(&rt, alloc).progress_count(alloc, 3, setup(&rt, alloc));
-    owned_doubles(&rt, alloc, list);
-    let style = percents(alloc).expect(&rt, "granted");
-    let list = three(&rt, alloc).progress_with_style(alloc, style, setup(&rt, alloc));
-    owned_doubles(&rt, alloc, list);
-    let mut list = three(&rt, alloc).progress_with(bar_of(rt, alloc, 3));
-    doubles(&rt, alloc, &mut list);
+    let list = three(rt, alloc).progress(alloc, setup(rt, alloc));
+    owned_doubles(rt, alloc, list);
+    let list = three(rt, alloc).progress_count(alloc, 3, setup(rt, alloc));
+    owned_doubles(rt, alloc, list);
+    let style = percents(alloc).granted(rt);
+    let list = three(rt, alloc).progress_with_style(alloc, style, setup(rt, alloc));
+    owned_doubles(rt, alloc, list);
+    let mut list = three(rt, alloc).progress_with(bar_of(*rt, alloc, 3));
+    doubles(rt, alloc, &mut list);
 }
 
 /// Doubles the items of a list, each by one of several threads.
@@ -194,20 +203,21 @@ fn maps<R: Threads + Sync + Abort, P: Moves + Drop>(
     list: ProgressBarIter<&[u32], P>,
 ) {
     let (made, _bar) = list.map_collect(rt, alloc, |x: &u32| x.wrapping_mul(2));
-    same!(rt; made.expect(rt, "granted").as_slice(), [2, 4, 6].as_slice());
+    same!(rt; made.granted(rt).as_slice(), [2, 4, 6].as_slice());
 }
 
 #[test]
 fn it_can_wrap_a_parallel_iterator(rt: HostRuntime) {
+    let rt = &rt;
     let alloc = rt.alloc();
     let items = [1u32, 2, 3];
     let items = items.as_slice();
-    let list = items.progress_count(alloc, 3, setup(&rt, alloc));
-    maps(&rt, alloc, list.expect(&rt, "granted"));
-    maps(&rt, alloc, items.progress_with(led_of(rt, alloc, 3)));
-    let style = percents(alloc).expect(&rt, "granted");
-    let list = items.progress_with_style(alloc, style, setup(&rt, alloc));
-    maps(&rt, alloc, list.expect(&rt, "granted"));
+    let list = items.progress_count(alloc, 3, setup(rt, alloc));
+    maps(rt, alloc, list.granted(rt));
+    maps(rt, alloc, items.progress_with(led_of(*rt, alloc, 3)));
+    let style = percents(alloc).granted(rt);
+    let list = items.progress_with_style(alloc, style, setup(rt, alloc));
+    maps(rt, alloc, list.granted(rt));
 }
 
 /// A text of 34 bytes.
@@ -216,16 +226,18 @@ const READ: &str = "I am an implementation of io::Read";
 /// What a reader gives.
 fn read<R: Abort, I: Read>(rt: &R, alloc: Global, reader: &mut I) -> Vec<u8> {
     let mut writer = Vec::new(alloc);
-    io::copy(reader, &mut writer).expect(rt, "granted");
+    io::copy(reader, &mut writer).granted(rt);
     writer
 }
 
 #[test]
 fn it_can_wrap_a_reader(rt: HostRuntime) {
-    let bar = bar_of(rt, rt.alloc(), 34);
+    let rt = &rt;
+    let alloc = rt.alloc();
+    let bar = bar_of(*rt, alloc, 34);
     let bytes = READ.as_bytes();
-    let mut wrapped = bar.wrap_read(bytes).expect(&rt, "granted");
-    same!(rt; read(&rt, rt.alloc(), &mut wrapped).as_slice(), bytes);
+    let mut wrapped = bar.wrap_read(bytes).granted(rt);
+    same!(rt; read(rt, alloc, &mut wrapped).as_slice(), bytes);
     same!(rt; bar.position(), 34);
 }
 
@@ -235,15 +247,16 @@ const TEXT_READ: &str = "implementation of io::Read";
 /// Writes that text.
 fn write<R: Abort, O: Write>(rt: &R, writer: &mut O) {
     let mut reader = TEXT_READ.as_bytes();
-    io::copy(&mut reader, writer).expect(rt, "granted");
+    io::copy(&mut reader, writer).granted(rt);
 }
 
 #[test]
 fn it_can_wrap_a_writer(rt: HostRuntime) {
+    let rt = &rt;
     let alloc = rt.alloc();
-    let bar = bar_of(rt, alloc, 26);
-    let mut wrapped = bar.wrap_write(Vec::new(alloc)).expect(&rt, "granted");
-    write(&rt, &mut wrapped);
+    let bar = bar_of(*rt, alloc, 26);
+    let mut wrapped = bar.wrap_write(Vec::new(alloc)).granted(rt);
+    write(rt, &mut wrapped);
     let (written, _) = wrapped.into_inner();
     same!(rt; written.as_slice(), TEXT_READ.as_bytes());
     same!(rt; bar.position(), 26);

@@ -1,5 +1,6 @@
 //! Tests of the crate `indicatif` 0.18.6 on steady tickers, each under its own name and with its own values.
 use crate::carried::board_on;
+use crate::checks::Granted;
 use crate::fronts::{Bar, Shared, board_shows};
 use crate::ticking::{ticks_on, waits};
 use indicatif::{
@@ -40,7 +41,7 @@ impl<R: Wait + Drop> Write for Counting<R> {
 type Counted<R> = ProgressBar<Term<Counting<R>>, StepClock, R>;
 
 fn no_writes<R: Abort>(rt: &R, alloc: Global) -> Writes {
-    Arc::new(alloc, Mutex::new(0u64)).expect(rt, "granted")
+    Arc::new(alloc, Mutex::new(0u64)).granted(rt)
 }
 
 /// A spinner with a ticker of 50 milliseconds.
@@ -49,14 +50,14 @@ fn ticking<R: Wait + Threads + time::Clock + Copy + Clone + Drop + Abort + Send 
     alloc: Global,
     writes: &Writes,
 ) -> Counted<R> {
-    let writes = Arc::try_clone(writes).expect(&rt, "granted");
+    let writes = Arc::try_clone(writes).granted(&rt);
     let term = Term::new(Counting { writes, rt }, 10, 80);
     let setup = Setup {
         target: ProgressDrawTarget::term_like(term),
         clock: StepClock { next: 0, step: 0 },
     };
-    let bar = ProgressBar::new_spinner(rt, alloc, setup).expect(&rt, "granted");
-    same!(rt; bar.enable_steady_tick(50 * MILLISECOND), Ok(()));
+    let bar = ProgressBar::new_spinner(rt, alloc, setup).granted(&rt);
+    same!(&rt; bar.enable_steady_tick(50 * MILLISECOND), Ok(()));
     bar
 }
 
@@ -82,35 +83,40 @@ fn rests<R: Wait + time::Clock + Abort>(rt: &R, writes: &Mutex<u64>) {
 /// The crate waits for the thread's end; here it is told to end, and writes nothing any more.
 #[test]
 fn ticker_thread_terminates_on_drop(rt: HostRuntime) {
-    let writes = no_writes(&rt, rt.alloc());
-    let bar = ticking(rt, rt.alloc(), &writes);
-    goes_on(&rt, &bar);
+    let rt = &rt;
+    let alloc = rt.alloc();
+    let writes = no_writes(rt, alloc);
+    let bar = ticking(*rt, alloc, &writes);
+    goes_on(rt, &bar);
     drop(bar);
-    rests(&rt, &writes);
+    rests(rt, &writes);
 }
 
 /// It goes on while an owner is left.
 #[test]
 fn ticker_thread_terminates_on_drop_2(rt: HostRuntime) {
-    let writes = no_writes(&rt, rt.alloc());
-    let bar = ticking(rt, rt.alloc(), &writes);
-    let other = bar.clone().expect(&rt, "granted");
-    goes_on(&rt, &bar);
+    let rt = &rt;
+    let alloc = rt.alloc();
+    let writes = no_writes(rt, alloc);
+    let bar = ticking(*rt, alloc, &writes);
+    let other = bar.clone().granted(rt);
+    goes_on(rt, &bar);
     drop(bar);
-    goes_on(&rt, &other);
+    goes_on(rt, &other);
     drop(other);
-    rests(&rt, &writes);
+    rests(rt, &writes);
 }
 
 // ---- spinners on a board
 
 /// A hidden spinner with this message.
 fn saying<R: Wait + Copy + Clone + Drop + Abort>(rt: R, alloc: Global, text: &str) -> Bar<R> {
+    let rt = &rt;
     let clock = StepClock { next: 0, step: 0 };
-    let spinner = ProgressBar::hidden(rt, alloc, clock).expect(&rt, "granted");
-    let style = ProgressStyle::default_spinner(alloc).expect(&rt, "granted");
-    let spinner = spinner.with_style(style).expect(&rt, "granted");
-    spinner.with_message(text).expect(&rt, "granted")
+    let spinner = ProgressBar::hidden(*rt, alloc, clock).granted(rt);
+    let style = ProgressStyle::default_spinner(alloc).granted(rt);
+    let spinner = spinner.with_style(style).granted(rt);
+    spinner.with_message(text).granted(rt)
 }
 
 /// A spinner on the board that stays once its owner is dropped, with a ticker of 100 milliseconds.
@@ -120,11 +126,10 @@ fn staying<R: Wait + Threads + time::Clock + Copy + Clone + Drop + Abort + Send 
     alloc: Global,
     number: u32,
 ) -> Bar<R> {
-    let text = format!(in alloc; "doing stuff {number}").expect(&rt, "granted");
-    let spinner = saying(rt, alloc, text.as_str()).with_finish(ProgressFinish::AndLeave);
-    let spinner = board
-        .add(spinner.expect(&rt, "granted"))
-        .expect(&rt, "granted");
+    let rt = &rt;
+    let text = format!(in alloc; "doing stuff {number}").granted(rt);
+    let spinner = saying(*rt, alloc, text.as_str()).with_finish(ProgressFinish::AndLeave);
+    let spinner = board.add(spinner.granted(rt)).granted(rt);
     same!(rt; spinner.enable_steady_tick(100 * MILLISECOND), Ok(()));
     spinner
 }
@@ -132,13 +137,15 @@ fn staying<R: Wait + Threads + time::Clock + Copy + Clone + Drop + Abort + Send 
 /// Five spinners, one after another, each of which is dropped once the next ticks.
 #[test]
 fn ticker_drop(rt: HostRuntime) {
-    let board = board_on(rt, rt.alloc());
+    let rt = &rt;
+    let alloc = rt.alloc();
+    let board = board_on(*rt, alloc);
     let mut kept: Option<Bar<HostRuntime>> = None;
     for number in 0..5u32 {
-        kept = Some(staying(&board, rt, rt.alloc(), number));
+        kept = Some(staying(&board, *rt, alloc, number));
     }
     drop(kept);
     let rows =
         "  doing stuff 0\n  doing stuff 1\n  doing stuff 2\n  doing stuff 3\n  doing stuff 4";
-    board_shows(&rt, &board, rows);
+    board_shows(rt, &board, rows);
 }

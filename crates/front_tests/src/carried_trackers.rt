@@ -1,6 +1,7 @@
 //! Tests of the crate `indicatif` 0.18.6 on keys of the caller's own, each under its own name and with its own values.
 ghost use Rattle.std.specs.Prelude.{false, true, List, [], ◌++◌, if◌then◌else◌, codes, decimal, unwrap_or};
 
+use crate::checks::Granted;
 use indicatif::style::ProgressTracker;
 use indicatif::{BarState, FnTracker, Moment, ProgressState, ProgressStyle, Refusal, TellsText};
 use std::alloc::Global;
@@ -34,26 +35,26 @@ fn with_key<R: Abort>(
     look: Look,
     (name, text): (&str, &'static str),
 ) -> Look {
-    let tracker = FnTracker::new(alloc, Says { alloc, text }).expect(rt, "granted");
-    look.with_key(name, tracker).expect(rt, "granted")
+    let tracker = FnTracker::new(alloc, Says { alloc, text }).granted(rt);
+    look.with_key(name, tracker).granted(rt)
 }
 
 /// The style of a template, with colours or without.
 fn look_of<R: Abort>(rt: &R, alloc: Global, template: &str, colours: bool) -> Look {
-    let look = ProgressStyle::with_template(alloc, template).expect(rt, "granted");
-    look.with_colors(colours).expect(rt, "granted")
+    let look = ProgressStyle::with_template(alloc, template).granted(rt);
+    look.with_colors(colours).granted(rt)
 }
 
 /// The one line of a bar of 10 in this style is this, on 80 columns.
 fn shows<R: Abort>(rt: &R, alloc: Global, look: Look, wanted: &str) {
-    let bar = BarState::styled(alloc, look, Some(10), 0).expect(rt, "granted");
+    let bar = BarState::styled(alloc, look, Some(10), 0).granted(rt);
     is_line(rt, &bar, 80, wanted);
 }
 
 fn is_line<R: Abort, K: ProgressTracker>(rt: &R, bar: &BarState<K>, width: u16, wanted: &str) {
-    let lines = bar.lines(0, width).expect(rt, "granted");
+    let lines = bar.lines(0, width).granted(rt);
     same!(rt; lines.len(), 1);
-    same!(rt; lines.first().expect(rt, "a line").as_str(), wanted);
+    same!(rt; lines.first().granted(rt).as_str(), wanted);
 }
 
 /// The keys `foo` and `bar` make this of a template.
@@ -66,9 +67,11 @@ fn expands<R: Abort>(rt: &R, alloc: Global, template: &str, wanted: &str) {
 
 #[test]
 fn test_expand_template(rt: HostRuntime) {
-    expands(&rt, rt.alloc(), "{{ {foo} {bar} }}", "{ FOO BAR }");
+    let rt = &rt;
+    let alloc = rt.alloc();
+    expands(rt, alloc, "{{ {foo} {bar} }}", "{ FOO BAR }");
     let json = r#"{ "foo": "{foo}", "bar": {bar} }"#;
-    expands(&rt, rt.alloc(), json, r#"{ "foo": "FOO", "bar": BAR }"#);
+    expands(rt, alloc, json, r#"{ "foo": "FOO", "bar": BAR }"#);
 }
 
 /// The key `foo` makes this of a template, with colours or without.
@@ -80,6 +83,7 @@ fn expands_flags<R: Abort>(rt: &R, alloc: Global, (template, colours): (&str, bo
 
 #[test]
 fn test_expand_template_flags(rt: HostRuntime) {
+    let rt = &rt;
     let table: &[(&str, &str)] = &[
         ("{foo:5}", "XXX  "),
         ("{foo:.red.on_blue}", "\u{1b}[31m\u{1b}[44mXXX\u{1b}[0m"),
@@ -90,14 +94,15 @@ fn test_expand_template_flags(rt: HostRuntime) {
         ),
     ];
     for (template, wanted) in table {
-        expands_flags(&rt, rt.alloc(), (*template, true), *wanted);
+        expands_flags(rt, rt.alloc(), (*template, true), *wanted);
     }
 }
 
 /// The crate tells two streams' colours apart; here a style is told whether it has colours.
 #[test]
 fn test_stderr_colors(rt: HostRuntime) {
-    expands_flags(&rt, rt.alloc(), ("{foo:.red.on_blue}", false), "XXX");
+    let rt = &rt;
+    expands_flags(rt, rt.alloc(), ("{foo:.red.on_blue}", false), "XXX");
 }
 
 // ---- a text that changes
@@ -150,20 +155,21 @@ fn tracked<R: Abort>(rt: &R, alloc: Global) -> Box<BarState<TestTracker>> {
         len: 0,
         pos: 0,
     };
-    let style = ProgressStyle::with_template(alloc, "{{ {foo} }}").expect(rt, "granted");
-    let style = style.with_key("foo", tracker).expect(rt, "granted");
-    let style = style.progress_chars("#>-").expect(rt, "granted");
-    let bar = BarState::styled(alloc, style, Some(1), 0).expect(rt, "granted");
-    Box::new(alloc, bar).expect(rt, "granted")
+    let style = ProgressStyle::with_template(alloc, "{{ {foo} }}").granted(rt);
+    let style = style.with_key("foo", tracker).granted(rt);
+    let style = style.progress_chars("#>-").granted(rt);
+    let bar = BarState::styled(alloc, style, Some(1), 0).granted(rt);
+    Box::new(alloc, bar).granted(rt)
 }
 
 #[test]
 fn test_stateful_tracker(rt: HostRuntime) {
-    let mut bar = tracked(&rt, rt.alloc());
-    is_line(&rt, &bar, 16, "{  }");
+    let rt = &rt;
+    let mut bar = tracked(rt, rt.alloc());
+    is_line(rt, &bar, 16, "{  }");
     bar.inc(1, 0);
-    is_line(&rt, &bar, 16, "{ 1 1 }");
+    is_line(rt, &bar, 16, "{ 1 1 }");
     bar.reset(0);
-    is_line(&rt, &bar, 16, "{  }");
+    is_line(rt, &bar, 16, "{  }");
     bar.finish_and_clear(0);
 }

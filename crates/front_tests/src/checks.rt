@@ -1,18 +1,37 @@
-//! What a test expects. A check is one call, which ends the test where it doesn't hold: that is proved five times as fast as std's
-//! `assert_eq!`, which is a branch and a text with holes at each place. It names the expression, and both values.
+//! What a test expects. A check is one call, which ends the test where it doesn't hold: that is proved much faster than std's
+//! `assert_eq!`, which is a branch at each place. It prints both values, and the runner the test's name. It names no expression,
+//! since each text in a test takes as long to prove as the rest of the check.
 use std::fmt::Debug;
 use std::process::Abort;
 
 /// Ends the test where the two differ.
-pub fn are_same<R: Abort, A: PartialEq + Debug + Drop>(rt: &R, what: &str, got: A, wanted: A) {
+pub fn are_same<R: Abort, A: PartialEq + Debug + Drop>(rt: &R, got: A, wanted: A) {
     if got != wanted {
-        panic!(*rt; "{what}: got {got:?}, wanted {wanted:?}")
+        panic!(*rt; "got {got:?}, wanted {wanted:?}")
     }
 }
 
 /// Ends the test where this doesn't hold.
-pub fn is_so<R: Abort>(rt: &R, what: &str, holds: bool) {
+pub fn is_so<R: Abort>(rt: &R, holds: bool) {
     if !holds {
-        panic!(*rt; "not so: {what}")
+        panic!(*rt; "a check doesn't hold")
+    }
+}
+
+/// What a test is sure to get.
+pub trait Granted<T> {
+    /// The value; ends the test where there is none.
+    fn granted<R: Abort>(self, rt: &R) -> T;
+}
+
+impl<T: Drop, E: Debug + Drop> Granted<T> for Result<T, E> {
+    fn granted<R: Abort>(self, rt: &R) -> T {
+        self.expect(rt, "granted")
+    }
+}
+
+impl<T: Drop> Granted<T> for Option<T> {
+    fn granted<R: Abort>(self, rt: &R) -> T {
+        self.expect(rt, "granted")
     }
 }

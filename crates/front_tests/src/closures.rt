@@ -36,7 +36,9 @@ fn is_updated_by_two<R: Wait + Threads + Sync + Copy + Clone + Drop + Abort>(rt:
 /// Two threads update a bar that stands alone, and one on a board: no update is lost.
 #[test]
 fn updates_of_two_threads(rt: HostRuntime) {
-    is_updated_by_two(&rt, &alone(rt, rt.alloc(), "{pos}"));
-    let board = recorded(rt, rt.alloc());
-    is_updated_by_two(&rt, &bar_on(&board, rt, rt.alloc(), "a"));
+    let rt = &rt;
+    let alloc = rt.alloc();
+    is_updated_by_two(rt, &alone(*rt, alloc, "{pos}"));
+    let board = recorded(*rt, alloc);
+    is_updated_by_two(rt, &bar_on(&board, *rt, alloc, "a"));
 }

@@ -1,5 +1,6 @@
 //! Bars and boards for tests, on terminals in memory of 4 rows and 10 columns, by clocks that go on by 1 with each reading; and what
 //! stands on such terminals. Their calls have no clauses, so that a test of many calls is proved call by call.
+use crate::checks::Granted;
 use indicatif::style::Tracks;
 use indicatif::{
     Clock, Drawn, InMemoryTerm, Move, Moves, MultiProgress, ProgressBar, ProgressDrawTarget,
@@ -36,7 +37,7 @@ impl<R: Wait + Clone + Drop> Moves for Led<R> {
 
 /// Another owner of a bar.
 pub fn another_of<R: Wait + Copy + Clone + Drop + Abort>(rt: &R, bar: &Bar<R>) -> Led<R> {
-    let bar = bar.clone().expect(rt, "granted");
+    let bar = bar.clone().granted(rt);
     Led { bar }
 }
 
@@ -50,7 +51,7 @@ pub fn target(alloc: Global) -> Result<ProgressDrawTarget<InMemoryTerm>, Refusal
 
 /// A terminal of 4 rows and so many columns, and a clock.
 pub fn setup<R: Abort>(rt: &R, alloc: Global, cols: u16) -> Setup<InMemoryTerm, StepClock> {
-    let term = InMemoryTerm::new(alloc, 4, cols).expect(rt, "granted");
+    let term = InMemoryTerm::new(alloc, 4, cols).granted(rt);
     Setup {
         target: ProgressDrawTarget::term_like(term),
         clock: StepClock { next: 0, step: 1 },
@@ -59,9 +60,10 @@ pub fn setup<R: Abort>(rt: &R, alloc: Global, cols: u16) -> Setup<InMemoryTerm, 
 
 /// A board of the id 1 that keeps its history.
 pub fn recorded<R: Wait + Copy + Clone + Drop + Abort>(rt: R, alloc: Global) -> Box<Shared<R>> {
-    let Setup { target, clock } = setup(&rt, alloc, 10);
-    let board = MultiProgress::recorded(rt, alloc, target, clock, 1).expect(&rt, "granted");
-    Box::new(alloc, board).expect(&rt, "granted")
+    let rt = &rt;
+    let Setup { target, clock } = setup(rt, alloc, 10);
+    let board = MultiProgress::recorded(*rt, alloc, target, clock, 1).granted(rt);
+    Box::new(alloc, board).granted(rt)
 }
 
 /// A bar that stands alone, in the style of a template.
@@ -70,9 +72,10 @@ pub fn alone<R: Wait + Copy + Clone + Drop + Abort>(
     alloc: Global,
     template: &str,
 ) -> Bar<R> {
-    let bar = ProgressBar::no_length(rt, alloc, setup(&rt, alloc, 10)).expect(&rt, "granted");
-    let style = ProgressStyle::with_template(alloc, template).expect(&rt, "granted");
-    bar.with_style(style).expect(&rt, "granted")
+    let rt = &rt;
+    let bar = ProgressBar::no_length(*rt, alloc, setup(rt, alloc, 10)).granted(rt);
+    let style = ProgressStyle::with_template(alloc, template).granted(rt);
+    bar.with_style(style).granted(rt)
 }
 
 /// A bar behind all others of a board, whose one line is this text.
@@ -82,8 +85,9 @@ pub fn bar_on<R: Wait + Copy + Clone + Drop + Abort>(
     alloc: Global,
     text: &str,
 ) -> Bar<R> {
-    let bar = alone(rt, alloc, "{msg}").with_message(text);
-    board.add(bar.expect(&rt, "granted")).expect(&rt, "granted")
+    let rt = &rt;
+    let bar = alone(*rt, alloc, "{msg}").with_message(text);
+    board.add(bar.granted(rt)).granted(rt)
 }
 
 /// What stands on a terminal.
@@ -97,7 +101,7 @@ pub fn bar_shows<C: Clock + Drop, R: Wait + Clone + Drop + Abort, K: Tracks>(
     bar: &ProgressBar<InMemoryTerm, C, R, K>,
     wanted: &str,
 ) {
-    let text = bar.with_term(|term| contents(term)).expect(rt, "granted");
+    let text = bar.with_term(|term| contents(term)).granted(rt);
     same!(rt; text.as_str(), wanted);
 }
 
@@ -107,6 +111,6 @@ pub fn board_shows<C: Clock + Drop, R: Wait + Clone + Drop + Abort, K: Tracks>(
     board: &MultiProgress<InMemoryTerm, C, R, K>,
     wanted: &str,
 ) {
-    let text = board.with_term(|term| contents(term)).expect(rt, "granted");
+    let text = board.with_term(|term| contents(term)).granted(rt);
     same!(rt; text.as_str(), wanted);
 }

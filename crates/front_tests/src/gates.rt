@@ -1,4 +1,5 @@
 //! Gates, and counts.
+use crate::checks::Granted;
 use indicatif::Gate;
 use std::alloc::Global;
 use std::process::Abort;
@@ -44,7 +45,7 @@ impl Gate for Waves {
 pub fn counts<R: Abort>(rt: &R, alloc: Global, count: u32) -> Vec<AtomicU64> {
     let mut counts = Vec::new(alloc);
     for _ in 0..count {
-        counts.push(AtomicU64::new(0)).expect(rt, "granted");
+        counts.push(AtomicU64::new(0)).granted(rt);
     }
     counts
 }

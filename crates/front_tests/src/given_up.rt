@@ -1,4 +1,5 @@
 //! What is given up: by threads of tickers that are told to end, and by calls that find no memory for another owner.
+use crate::checks::Granted;
 use crate::fronts::setup;
 use crate::lent::{Count, Lent, first};
 use crate::ticking::{tick_off, ticks_on};
@@ -17,9 +18,10 @@ fn counted_bar<R: Wait + Copy + Drop + Abort>(
     rt: R,
     alloc: Global,
 ) -> (Bar<R>, Arc<Count, Global>) {
-    let (lent, count) = first(rt, alloc);
-    let bar = ProgressBar::no_length(lent, alloc, setup(&rt, alloc, 10));
-    (bar.expect(&rt, "granted"), count)
+    let rt = &rt;
+    let (lent, count) = first(*rt, alloc);
+    let bar = ProgressBar::no_length(lent, alloc, setup(rt, alloc, 10));
+    (bar.granted(rt), count)
 }
 
 // ---- threads of tickers
@@ -52,16 +54,17 @@ fn comes_to<R: time::Clock>(rt: &R, count: &Count, left: u64) -> bool {
 /// takes its place, and where the bar's last owner is gone.
 #[test]
 fn threads_of_tickers_end(rt: HostRuntime) {
-    let (bar, count) = counted_bar(rt, rt.alloc());
-    waits_for_an_hour(&rt, &bar);
+    let rt = &rt;
+    let (bar, count) = counted_bar(*rt, rt.alloc());
+    waits_for_an_hour(rt, &bar);
     same!(rt; count.living(), 2);
     same!(rt; tick_off(&bar), Ok(()));
-    holds!(rt; comes_to(&rt, &count, 1));
-    waits_for_an_hour(&rt, &bar);
-    waits_for_an_hour(&rt, &bar);
-    holds!(rt; comes_to(&rt, &count, 2));
+    holds!(rt; comes_to(rt, &count, 1));
+    waits_for_an_hour(rt, &bar);
+    waits_for_an_hour(rt, &bar);
+    holds!(rt; comes_to(rt, &count, 2));
     drop(bar);
-    holds!(rt; comes_to(&rt, &count, 0));
+    holds!(rt; comes_to(rt, &count, 0));
 }
 
 // ---- another owner
@@ -70,16 +73,17 @@ fn threads_of_tickers_end(rt: HostRuntime) {
 /// Nothing has changed then: the owner that is left is the last.
 #[test]
 fn no_memory_for_another_owner(rt: HostRuntime) {
-    let (bar, count) = counted_bar(rt, rt.alloc());
-    let weak = bar.downgrade().expect(&rt, "granted");
+    let rt = &rt;
+    let (bar, count) = counted_bar(*rt, rt.alloc());
+    let weak = bar.downgrade().granted(rt);
     count.refuse(true);
     holds!(rt; weak.upgrade().is_err());
     holds!(rt; bar.clone().is_err());
     holds!(rt; bar.downgrade().is_err());
     count.refuse(false);
-    holds!(rt; weak.upgrade().expect(&rt, "granted").is_some());
+    holds!(rt; weak.upgrade().granted(rt).is_some());
     bar.release();
-    holds!(rt; weak.upgrade().expect(&rt, "granted").is_none());
+    holds!(rt; weak.upgrade().granted(rt).is_none());
     drop(weak);
     same!(rt; count.living(), 0);
 }

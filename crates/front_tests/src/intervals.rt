@@ -43,10 +43,11 @@ fn pace_of<R: Wait + time::Clock + Copy + Clone + Drop>(
 
 #[test]
 fn a_ticker_keeps_its_interval(rt: HostRuntime) {
-    let bar = alone(rt, rt.alloc(), "{pos}");
-    let opened = MachineClock::new(rt).now();
+    let rt = &rt;
+    let bar = alone(*rt, rt.alloc(), "{pos}");
+    let opened = MachineClock::new(*rt).now();
     same!(rt; bar.enable_steady_tick(INTERVAL), Ok(()));
-    let pace = pace_of(&rt, &bar, opened);
+    let pace = pace_of(rt, &bar, opened);
     same!(rt; bar.disable_steady_tick(), Ok(()));
     same!(rt; pace, Pace::Fair);
 }

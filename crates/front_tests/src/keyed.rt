@@ -3,6 +3,7 @@
 ghost use Rattle.std.specs.Prelude.{◌-◌, decimal};
 ghost use Rattle.indicatif_bar.specs.Trackers.{telling};
 
+use crate::checks::Granted;
 use crate::fronts::{bar_shows, board_shows, contents, target};
 use indicatif::style::ProgressTracker;
 use indicatif::{
@@ -60,30 +61,32 @@ fn style(alloc: Global) -> Result<ProgressStyle<Left>, Refusal> {
 }
 
 fn files<R: Wait + Copy + Clone + Drop + Abort>(rt: R, alloc: Global) -> Keyed<R> {
-    let setup = setup(alloc).expect(&rt, "granted");
-    let style = style(alloc).expect(&rt, "granted");
-    let bar = ProgressBar::styled(rt, alloc, style, Some(10), setup).expect(&rt, "granted");
-    bar.with_message("files").expect(&rt, "granted")
+    let rt = &rt;
+    let setup = setup(alloc).granted(rt);
+    let style = style(alloc).granted(rt);
+    let bar = ProgressBar::styled(*rt, alloc, style, Some(10), setup).granted(rt);
+    bar.with_message("files").granted(rt)
 }
 
 /// It follows the position, whoever owns the bar, and stays at 0 past the end. Another thread moves the bar, and then the key with it. A style
 /// that is told later, and one that was read of the bar, have the key too.
 #[test]
 fn what_is_left(rt: HostRuntime) {
-    let bar = files(rt, rt.alloc());
-    let other = bar.clone().expect(&rt, "granted");
+    let rt = &rt;
+    let bar = files(*rt, rt.alloc());
+    let other = bar.clone().granted(rt);
     for (position, wanted) in [(12, "files 0"), (3, "files 7"), (0, "files 10")] {
         holds!(rt; other.set_position(position).is_ok());
-        bar_shows(&rt, &bar, wanted);
+        bar_shows(rt, &bar, wanted);
     }
-    let moved = thread::spawn(&rt, move || other.inc(4)).expect(&rt, "granted");
-    holds!(rt; moved.join(&rt).is_ok());
-    bar_shows(&rt, &bar, "files 6");
-    let style = bar.style().expect(&rt, "granted");
-    let style = style.template("{left} of 10").expect(&rt, "granted");
+    let moved = thread::spawn(rt, move || other.inc(4)).granted(rt);
+    holds!(rt; moved.join(rt).is_ok());
+    bar_shows(rt, &bar, "files 6");
+    let style = bar.style().granted(rt);
+    let style = style.template("{left} of 10").granted(rt);
     holds!(rt; bar.set_style(style).is_ok());
     holds!(rt; bar.set_position(1).is_ok());
-    bar_shows(&rt, &bar, "9 of 10");
+    bar_shows(rt, &bar, "9 of 10");
 }
 
 /// A bar that a board makes, in that style.
@@ -92,25 +95,24 @@ fn made_by<R: Wait + Copy + Clone + Drop + Abort>(
     rt: R,
     alloc: Global,
 ) -> Keyed<R> {
-    let bar = board.new_bar(10).expect(&rt, "granted");
-    let style = style(alloc).expect(&rt, "granted");
-    let bar = bar.with_style(style).expect(&rt, "granted");
-    bar.with_message("a").expect(&rt, "granted")
+    let rt = &rt;
+    let bar = board.new_bar(10).granted(rt);
+    let style = style(alloc).granted(rt);
+    let bar = bar.with_style(style).granted(rt);
+    bar.with_message("a").granted(rt)
 }
 
 /// The second of a board's two bars moves by 2.
 fn shows_two<R: Wait + Copy + Clone + Drop + Abort>(rt: R, alloc: Global) {
-    let board: Several<R> = MultiProgress::keyed(
+    let rt = &rt;
+    let board: Several<R> = MultiProgress::keyed(*rt, alloc, setup(alloc).granted(rt), 1).granted(
         rt,
-        alloc,
-        setup(alloc).expect(&rt, "granted"),
-        1,
-    ).expect(&rt, "granted");
-    let first = made_by(&board, rt, alloc);
-    let second = board.add(files(rt, alloc)).expect(&rt, "granted");
+    );
+    let first = made_by(&board, *rt, alloc);
+    let second = board.add(files(*rt, alloc)).granted(rt);
     holds!(rt; first.tick().is_ok());
     holds!(rt; second.inc(2).is_ok());
-    board_shows(&rt, &board, "a 10\nfiles 8");
+    board_shows(rt, &board, "a 10\nfiles 8");
 }
 
 #[test]
@@ -121,16 +123,15 @@ fn on_a_board(rt: HostRuntime) {
 /// A loop over three items, with a bar of its own in that style.
 #[test]
 fn in_a_loop(rt: HostRuntime) {
+    let rt = &rt;
     let alloc = rt.alloc();
-    let items = vec![in alloc; 1u32, 2, 3]
-        .expect(&rt, "granted")
-        .into_iter();
-    let setup = setup(alloc).expect(&rt, "granted");
-    let style = style(alloc).expect(&rt, "granted");
+    let items = vec![in alloc; 1u32, 2, 3].granted(rt).into_iter();
+    let setup = setup(alloc).granted(rt);
+    let style = style(alloc).granted(rt);
     let wrapped = items.progress_with_style(alloc, style, setup);
-    let mut wrapped = Box::new(alloc, wrapped.expect(&rt, "granted")).expect(&rt, "granted");
+    let mut wrapped = Box::new(alloc, wrapped.granted(rt)).granted(rt);
     let _ = wrapped.next();
     let _ = wrapped.next();
-    let text = contents(wrapped.progress.bar().term()).expect(&rt, "granted");
+    let text = contents(wrapped.progress.bar().term()).granted(rt);
     same!(rt; text.as_str(), " 8");
 }

@@ -1,5 +1,6 @@
 //! A runtime of the tests' own, which passes everything on to the machine's. It counts how many of it there are, and refuses another
 //! one where it is told to.
+use crate::checks::Granted;
 use std::alloc::{AllocError, Global};
 use std::io;
 use std::process::Abort;
@@ -35,13 +36,20 @@ pub struct Lent<R: Drop> {
 
 /// The first one, and its count.
 pub fn first<R: Copy + Drop + Abort>(rt: R, alloc: Global) -> (Lent<R>, Arc<Count, Global>) {
+    let rt = &rt;
     let count = Count {
         living: AtomicU64::new(1),
         refusing: AtomicU64::new(0),
     };
-    let count = Arc::new(alloc, count).expect(&rt, "granted");
-    let own = Arc::try_clone(&count).expect(&rt, "granted");
-    (Lent { rt, count: own }, count)
+    let count = Arc::new(alloc, count).granted(rt);
+    let own = Arc::try_clone(&count).granted(rt);
+    (
+        Lent {
+            rt: *rt,
+            count: own,
+        },
+        count,
+    )
 }
 
 impl<R: Copy + Drop> Clone for Lent<R> {

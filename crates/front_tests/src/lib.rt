@@ -23,7 +23,7 @@
 #[cfg(test)]
 macro_rules! same {
     ($rt:expr; $got:expr, $wanted:expr $(,)?) => {
-        $crate::checks::are_same(&$rt, stringify!($got), $got, $wanted)
+        $crate::checks::are_same($rt, $got, $wanted)
     };
 }
 
@@ -31,7 +31,7 @@ macro_rules! same {
 #[cfg(test)]
 macro_rules! holds {
     ($rt:expr; $holds:expr $(,)?) => {
-        $crate::checks::is_so(&$rt, stringify!($holds), $holds)
+        $crate::checks::is_so($rt, $holds)
     };
 }
 

@@ -1,4 +1,5 @@
 //! Lists in threads: the blocks that a bar goes on by, and what a bar that is shared shows within one.
+use crate::checks::Granted;
 use crate::fronts::{Bar, another_of};
 use crate::gates::counts;
 use crate::stepped::{Stepped, bar_at};
@@ -16,7 +17,7 @@ use std::thread::{Threads, available_parallelism};
 fn numbers<R: Abort>(rt: &R, alloc: Global, count: u32) -> Vec<u32> {
     let mut items = Vec::new(alloc);
     for k in 0..count {
-        items.push(k).expect(rt, "granted");
+        items.push(k).granted(rt);
     }
     items
 }
@@ -30,7 +31,7 @@ fn doubled<R: Threads + Sync + Abort>(
 ) -> (Vec<u32>, Stepped) {
     let list = items.progress_with(bar_at(alloc, position));
     let (made, bar) = list.map_collect(rt, alloc, |x: &u32| x.wrapping_mul(2));
-    (made.expect(rt, "granted"), bar)
+    (made.granted(rt), bar)
 }
 
 /// There are so many items, each of which is twice its place.
@@ -43,9 +44,11 @@ fn are_doubled<R: Abort>(rt: &R, made: &[u32], count: usize) {
 
 #[test]
 fn ten_thousand_items_are_three_blocks(rt: HostRuntime) {
-    let items = numbers(&rt, rt.alloc(), 10_000);
-    let (made, bar) = doubled(&rt, rt.alloc(), items.as_slice(), 0);
-    are_doubled(&rt, made.as_slice(), 10_000);
+    let rt = &rt;
+    let alloc = rt.alloc();
+    let items = numbers(rt, alloc, 10_000);
+    let (made, bar) = doubled(rt, alloc, items.as_slice(), 0);
+    are_doubled(rt, made.as_slice(), 10_000);
     same!(rt; bar.steps.as_slice(), [4096, 4096, 1808].as_slice());
     same!(rt; bar.position, 10_000);
     holds!(rt; !bar.finished);
@@ -54,9 +57,11 @@ fn ten_thousand_items_are_three_blocks(rt: HostRuntime) {
 /// A list that is no longer than a block moves its bar by a tenth at a time: of 2,000 items by 200.
 #[test]
 fn a_shorter_list_moves_by_tenths(rt: HostRuntime) {
-    let items = numbers(&rt, rt.alloc(), 2000);
-    let (made, bar) = doubled(&rt, rt.alloc(), items.as_slice(), 0);
-    are_doubled(&rt, made.as_slice(), 2000);
+    let rt = &rt;
+    let alloc = rt.alloc();
+    let items = numbers(rt, alloc, 2000);
+    let (made, bar) = doubled(rt, alloc, items.as_slice(), 0);
+    are_doubled(rt, made.as_slice(), 2000);
     same!(rt; bar.steps.as_slice(), [200; 10].as_slice());
 }
 
@@ -79,12 +84,14 @@ fn meets(begun: &[AtomicU64; 2], item: usize) -> bool {
 /// how many, they are worked on one after another.)
 #[test]
 fn pieces_of_a_list_run_at_the_same_time(rt: HostRuntime) {
+    let rt = &rt;
+    let alloc = rt.alloc();
     let begun = [AtomicU64::new(0), AtomicU64::new(0)];
     let items = [0usize, 1];
-    let list = items.as_slice().progress_with(bar_at(rt.alloc(), 0));
-    let (made, bar) = list.map_collect(&rt, rt.alloc(), |item: &usize| meets(&begun, *item));
-    let made = made.expect(&rt, "granted");
-    if has_processors(&rt) {
+    let list = items.as_slice().progress_with(bar_at(alloc, 0));
+    let (made, bar) = list.map_collect(rt, alloc, |item: &usize| meets(&begun, *item));
+    let made = made.granted(rt);
+    if has_processors(rt) {
         same!(rt; made.as_slice(), [true, true].as_slice());
         same!(rt; bar.steps.as_slice(), [2].as_slice());
     }
@@ -100,38 +107,45 @@ fn has_processors<R: Threads>(rt: &R) -> bool {
 
 #[test]
 fn no_item_advances_nothing(rt: HostRuntime) {
-    let none = numbers(&rt, rt.alloc(), 0);
-    let (made, bar) = doubled(&rt, rt.alloc(), none.as_slice(), 7);
+    let rt = &rt;
+    let alloc = rt.alloc();
+    let none = numbers(rt, alloc, 0);
+    let (made, bar) = doubled(rt, alloc, none.as_slice(), 7);
     holds!(rt; made.is_empty());
     holds!(rt; bar.steps.is_empty());
     same!(rt; bar.position, 7);
     let list = none.as_slice().progress_with(bar);
-    let (answer, bar) = list.for_each(&rt, |_x: &u32| ());
+    let (answer, bar) = list.for_each(rt, |_x: &u32| ());
     same!(rt; answer, Ok(()));
     holds!(rt; bar.steps.is_empty());
 }
 
 #[test]
 fn one_item_is_a_block(rt: HostRuntime) {
-    let (made, bar) = doubled(&rt, rt.alloc(), &[21], 0);
+    let rt = &rt;
+    let (made, bar) = doubled(rt, rt.alloc(), &[21], 0);
     same!(rt; made.as_slice(), [42].as_slice());
     same!(rt; bar.steps.as_slice(), [1].as_slice());
 }
 
 #[test]
 fn a_whole_block_and_one_item_more(rt: HostRuntime) {
-    let items = numbers(&rt, rt.alloc(), 4097);
-    let (made, bar) = doubled(&rt, rt.alloc(), items.as_slice(), 0);
-    are_doubled(&rt, made.as_slice(), 4097);
+    let rt = &rt;
+    let alloc = rt.alloc();
+    let items = numbers(rt, alloc, 4097);
+    let (made, bar) = doubled(rt, alloc, items.as_slice(), 0);
+    are_doubled(rt, made.as_slice(), 4097);
     same!(rt; bar.steps.as_slice(), [4096, 1].as_slice());
 }
 
 /// A million items: 244 whole blocks, which are 999,424 items, and one of 576.
 #[test]
 fn a_million_items(rt: HostRuntime) {
-    let items = numbers(&rt, rt.alloc(), 1_000_000);
-    let (made, bar) = doubled(&rt, rt.alloc(), items.as_slice(), 0);
-    are_doubled(&rt, made.as_slice(), 1_000_000);
+    let rt = &rt;
+    let alloc = rt.alloc();
+    let items = numbers(rt, alloc, 1_000_000);
+    let (made, bar) = doubled(rt, alloc, items.as_slice(), 0);
+    are_doubled(rt, made.as_slice(), 1_000_000);
     same!(rt; bar.steps.len(), 245);
     same!(rt; bar.steps.get(0), Some(&4096));
     same!(rt; bar.steps.get(243), Some(&4096));
@@ -156,9 +170,11 @@ fn are_met_once(counts: &[AtomicU64]) -> bool {
 
 #[test]
 fn each_item_is_met_once(rt: HostRuntime) {
-    let met = counts(&rt, rt.alloc(), 10_000);
-    let list = met.as_slice().progress_with(bar_at(rt.alloc(), 0));
-    let (answer, bar) = list.for_each(&rt, |item: &AtomicU64| meet(item));
+    let rt = &rt;
+    let alloc = rt.alloc();
+    let met = counts(rt, alloc, 10_000);
+    let list = met.as_slice().progress_with(bar_at(alloc, 0));
+    let (answer, bar) = list.for_each(rt, |item: &AtomicU64| meet(item));
     same!(rt; answer, Ok(()));
     same!(rt; bar.steps.as_slice(), [4096, 4096, 1808].as_slice());
     holds!(rt; are_met_once(met.as_slice()));
@@ -212,15 +228,17 @@ fn stood_at(steps: &[u64], places: &[u64]) -> bool {
 /// Smaller steps add up, and each block's end is one of them.
 #[test]
 fn a_bar_that_stops_within_blocks_stops_behind_each(rt: HostRuntime) {
-    let items = numbers(&rt, rt.alloc(), 10_000);
+    let rt = &rt;
+    let alloc = rt.alloc();
+    let items = numbers(rt, alloc, 10_000);
     let place = AtomicU64::new(0);
     let bar = Telling {
         place: &place,
-        steps: Vec::new(rt.alloc()),
+        steps: Vec::new(alloc),
     };
     let list = items.as_slice().progress_with(bar);
-    let (made, bar) = list.map_collect(&rt, rt.alloc(), |x: &u32| *x);
-    same!(rt; made.expect(&rt, "granted"), items);
+    let (made, bar) = list.map_collect(rt, alloc, |x: &u32| *x);
+    same!(rt; made.granted(rt), items);
     holds!(rt; stood_at(bar.steps.as_slice(), &[4096, 8192, 10_000]));
     holds!(rt; bar.steps.len() > 3);
 }
@@ -241,25 +259,28 @@ fn sees_a_move(place: &AtomicU64) -> bool {
 /// Forty items that look whether the bar has moved. One of them sees it: the bar moves while others are worked on.
 #[test]
 fn a_bar_moves_while_threads_work(rt: HostRuntime) {
+    let rt = &rt;
+    let alloc = rt.alloc();
     let items = [0u8; 40];
     let place = AtomicU64::new(0);
     let bar = Telling {
         place: &place,
-        steps: Vec::new(rt.alloc()),
+        steps: Vec::new(alloc),
     };
     let list = items.as_slice().progress_with(bar);
-    let (seen, bar) = list.map_collect(&rt, rt.alloc(), |_item: &u8| sees_a_move(&place));
-    holds!(rt; seen.expect(&rt, "granted").contains(&true));
+    let (seen, bar) = list.map_collect(rt, alloc, |_item: &u8| sees_a_move(&place));
+    holds!(rt; seen.granted(rt).contains(&true));
     same!(rt; bar.reading().position, 40);
 }
 
 /// A shared bar of 40 on no terminal.
 fn shared_bar<R: Wait + Copy + Clone + Drop + Abort>(rt: R, alloc: Global) -> Bar<R> {
+    let rt = &rt;
     let setup = Setup {
         target: ProgressDrawTarget::hidden(),
         clock: StepClock { next: 0, step: 1 },
     };
-    ProgressBar::new(rt, alloc, 40, setup).expect(&rt, "granted")
+    ProgressBar::new(*rt, alloc, 40, setup).granted(rt)
 }
 
 /// Whether one who looks at a shared bar so often sees it within a block of four.
@@ -276,10 +297,12 @@ fn sees_within<R: Wait + Clone + Drop>(bar: &Bar<R>) -> bool {
 /// processors.)
 #[test]
 fn a_shared_bar_moves_within_a_block(rt: HostRuntime) {
+    let rt = &rt;
+    let alloc = rt.alloc();
     let items = [0u8; 40];
-    let bar = shared_bar(rt, rt.alloc());
-    let list = items.as_slice().progress_with(another_of(&rt, &bar));
-    let (seen, _owner) = list.map_collect(&rt, rt.alloc(), |_item: &u8| sees_within(&bar));
-    holds!(rt; seen.expect(&rt, "granted").contains(&true));
+    let bar = shared_bar(*rt, alloc);
+    let list = items.as_slice().progress_with(another_of(rt, &bar));
+    let (seen, _owner) = list.map_collect(rt, alloc, |_item: &u8| sees_within(&bar));
+    holds!(rt; seen.granted(rt).contains(&true));
     same!(rt; bar.position(), 40);
 }

@@ -1,4 +1,5 @@
 //! What is asked of the machine: its clock, and the terminals behind the program's own streams or behind a writer.
+use crate::checks::Granted;
 use indicatif::machine::{
     MachineClock, Shares, StderrBoard, StderrSetup, StreamSetup, TerminalSetup, facts_of,
     on_stderr, on_stdout, on_stream, style_on_stderr, told_setup, wants_colors,
@@ -31,11 +32,12 @@ fn setup_of(
     attended: bool,
     term: Option<&str>,
 ) -> Result<TerminalSetup<Vec<u8>>, Refusal> {
+    let alloc = rt.alloc();
     let term = match term {
-        Some(kind) => Some(String::from_str(rt.alloc(), kind)?),
+        Some(kind) => Some(String::from_str(alloc, kind)?),
         None => None,
     };
-    told_setup(rt, Vec::new(rt.alloc()), facts(attended, term))
+    told_setup(rt, Vec::new(alloc), facts(attended, term))
 }
 
 /// Rows and columns of a target's terminal, if it has one.
@@ -52,15 +54,17 @@ fn goes_on(clock: &mut impl Clock) -> bool {
 
 #[test]
 fn a_terminal_of_which_is_told(rt: HostRuntime) {
-    let Setup { target, mut clock } = setup_of(&rt, true, Some("xterm")).expect(&rt, "granted");
+    let rt = &rt;
+    let Setup { target, mut clock } = setup_of(rt, true, Some("xterm")).granted(rt);
     same!(rt; size_of(target), Some((7, 40)));
     holds!(rt; goes_on(&mut clock));
 }
 
 #[test]
 fn a_terminal_that_is_hidden(rt: HostRuntime) {
+    let rt = &rt;
     for (attended, term) in [(false, Some("xterm")), (true, Some("dumb")), (true, None)] {
-        let setup = setup_of(&rt, attended, term).expect(&rt, "granted");
+        let setup = setup_of(rt, attended, term).granted(rt);
         holds!(rt; setup.target.is_hidden());
     }
 }
@@ -75,14 +79,15 @@ fn is_hidden_by(facts: &Facts) -> bool {
 
 #[test]
 fn the_programs_own_streams(rt: HostRuntime) {
-    let out = is_hidden_by(&facts_of(&rt, &rt.stdout()).expect(&rt, "granted"));
-    let setup: StreamSetup<Stdout> = on_stdout(&rt).expect(&rt, "granted");
+    let rt = &rt;
+    let out = is_hidden_by(&facts_of(rt, &rt.stdout()).granted(rt));
+    let setup: StreamSetup<Stdout> = on_stdout(rt).granted(rt);
     same!(rt; setup.target.is_hidden(), out);
-    let setup = on_stream(&rt, rt.stdout()).expect(&rt, "granted");
+    let setup = on_stream(rt, rt.stdout()).granted(rt);
     same!(rt; setup.target.is_hidden(), out);
-    let err = is_hidden_by(&facts_of(&rt, &rt.stderr()).expect(&rt, "granted"));
-    same!(rt; on_stderr(&rt).expect(&rt, "granted").target.is_hidden(), err);
-    let board = board_on(rt, on_stderr(&rt).expect(&rt, "granted")).expect(&rt, "granted");
+    let err = is_hidden_by(&facts_of(rt, &rt.stderr()).granted(rt));
+    same!(rt; on_stderr(rt).granted(rt).target.is_hidden(), err);
+    let board = board_on(*rt, on_stderr(rt).granted(rt)).granted(rt);
     same!(rt; board.is_hidden(), err);
 }
 
@@ -93,10 +98,10 @@ fn board_on<R: Shares>(rt: R, setup: StderrSetup) -> Result<StderrBoard<R>, Refu
 
 /// A bar with the message `x` has this one line in a style.
 fn shows<R: Abort>(rt: &R, alloc: Global, style: ProgressStyle<NoTracker>, wanted: &str) {
-    let bar = BarState::styled(alloc, style, None, 0).expect(rt, "granted");
-    let mut bar = Box::new(alloc, bar).expect(rt, "granted");
+    let bar = BarState::styled(alloc, style, None, 0).granted(rt);
+    let mut bar = Box::new(alloc, bar).granted(rt);
     holds!(rt; bar.set_message("x", 0).is_ok());
-    let lines = bar.lines(0, 20).expect(rt, "granted");
+    let lines = bar.lines(0, 20).granted(rt);
     same!(rt; lines.len(), 1);
     holds!(rt; lines.first().is_some_and(|line| line.is_text(wanted)));
 }
@@ -104,12 +109,13 @@ fn shows<R: Abort>(rt: &R, alloc: Global, style: ProgressStyle<NoTracker>, wante
 /// A style for standard error has colours where they are wanted there, and none elsewhere.
 #[test]
 fn a_style_for_standard_error(rt: HostRuntime) {
-    let wanted = match wants_colors(&rt, &rt.stderr()).expect(&rt, "granted") {
+    let rt = &rt;
+    let wanted = match wants_colors(rt, &rt.stderr()).granted(rt) {
         true => "\u{1b}[31mx\u{1b}[0m",
         false => "x",
     };
-    let style = style_on_stderr(&rt, "{msg:.red}").expect(&rt, "granted");
-    shows(&rt, rt.alloc(), style, wanted);
+    let style = style_on_stderr(rt, "{msg:.red}").granted(rt);
+    shows(rt, rt.alloc(), style, wanted);
 }
 
 // ---- a bar behind a writer
@@ -125,8 +131,8 @@ struct Timed {
 fn bar_of<R: Abort>(rt: &R, alloc: Global, setup: TerminalSetup<Vec<u8>>) -> Timed {
     let Setup { target, mut clock } = setup;
     let now = clock.now();
-    let state = BarState::new(alloc, None, now).expect(rt, "granted");
-    let bar = Box::new(alloc, LoneBar::new(state, target)).expect(rt, "granted");
+    let state = BarState::new(alloc, None, now).granted(rt);
+    let bar = Box::new(alloc, LoneBar::new(state, target)).granted(rt);
     Timed { bar, now }
 }
 
@@ -138,8 +144,9 @@ fn tick(timed: &mut Timed) -> Result<Drawn, Refusal> {
 /// The bar of the documentation's example.
 #[test]
 fn behind_a_writer(rt: HostRuntime) {
-    let setup = setup_of(&rt, true, Some("xterm")).expect(&rt, "granted");
-    let mut timed = bar_of(&rt, rt.alloc(), setup);
+    let rt = &rt;
+    let setup = setup_of(rt, true, Some("xterm")).granted(rt);
+    let mut timed = bar_of(rt, rt.alloc(), setup);
     same!(rt; tick(&mut timed), Ok(Drawn::Yes));
 }
 
@@ -180,6 +187,7 @@ fn tells(clock: &mut MachineClock<Telling>, moments: &[u64]) -> bool {
 /// It tells what the machine tells, doesn't go back, and stands where the machine refuses.
 #[test]
 fn a_clock_of_a_machine(rt: HostRuntime) {
+    let rt = &rt;
     let mut clock = MachineClock::new(Telling {
         nanos: &[5_000_000_000, 5_000_000_007, 4_000_000_000, 6_000_000_000],
         readings: Cell::new(0),
@@ -200,15 +208,16 @@ const HOUR: u64 = 3_600_000_000_000;
 /// A machine runs for an hour when a bar is made by its clock. So an hour may have elapsed, and not more.
 #[test]
 fn a_bar_by_a_clock_of_a_machine(rt: HostRuntime) {
+    let rt = &rt;
     let clock = MachineClock::new(Telling {
         nanos: &[HOUR],
         readings: Cell::new(0),
     });
     let bar: ProgressBar<InMemoryTerm, MachineClock<Telling>, HostRuntime> = ProgressBar::hidden(
-        rt,
+        *rt,
         rt.alloc(),
         clock,
-    ).expect(&rt, "granted");
+    ).granted(rt);
     holds!(rt; bar.set_elapsed(HOUR).is_ok());
     same!(rt; bar.elapsed(), HOUR);
     same!(rt; bar.set_elapsed(HOUR + 1), Err(Refusal::ElapsedBeyondClock));
@@ -238,6 +247,7 @@ fn told_at(secs: u64) -> Moment {
 /// After 584 years the nanoseconds are more than 64 bits hold, and the clock stands at the greatest number.
 #[test]
 fn a_clock_of_an_old_machine(rt: HostRuntime) {
+    let rt = &rt;
     same!(rt; told_at(18_446_744_072), 18_446_744_072_000_000_000);
     same!(rt; told_at(18_446_744_074), u64::MAX);
     same!(rt; told_at(u64::MAX), u64::MAX);
@@ -256,5 +266,6 @@ fn goes_on_within<R: time::Clock>(clock: &mut MachineClock<R>, readings: u32) ->
 
 #[test]
 fn a_clock_of_this_machine(rt: HostRuntime) {
-    holds!(rt; goes_on_within(&mut MachineClock::new(rt), 1_000_000));
+    let rt = &rt;
+    holds!(rt; goes_on_within(&mut MachineClock::new(*rt), 1_000_000));
 }

@@ -1,4 +1,5 @@
 //! Iterators of the tests' own that get a bar when they are wrapped.
+use crate::checks::Granted;
 use crate::fronts::setup;
 use indicatif::{InMemoryTerm, NoTracker, OwnedBar, ProgressBarIter, ProgressIterator, StepClock};
 
@@ -25,23 +26,28 @@ fn length<I>(wrapped: &Shown<I>) -> Option<u64> {
 /// As far as anybody knows, up to 4 items come: `size_hint` is (0, Some(4)).
 #[test]
 fn a_length_by_the_upper_bound(rt: HostRuntime) {
+    let rt = &rt;
     let alloc = rt.alloc();
-    let items = vec![in alloc; 1u32, 2, 3, 4].expect(&rt, "granted");
+    let items = vec![in alloc; 1u32, 2, 3, 4].granted(rt);
     let even = items.into_iter().filter(|x| *x % 2 == 0);
-    let made = even.try_progress(alloc, setup(&rt, alloc, 20));
-    let wrapped = made.expect(&rt, "granted").expect(&rt, "a bar");
+    let made = even.try_progress(alloc, setup(rt, alloc, 20));
+    let wrapped = made.granted(rt).granted(rt);
     same!(rt; length(&wrapped), Some(4));
 }
 
 /// An endless iterator gets no bar of which no length was told.
 #[test]
 fn no_length_no_bar(rt: HostRuntime) {
-    let made = Sevens.try_progress(rt.alloc(), setup(&rt, rt.alloc(), 20));
-    holds!(rt; made.expect(&rt, "granted").is_none());
+    let rt = &rt;
+    let alloc = rt.alloc();
+    let made = Sevens.try_progress(alloc, setup(rt, alloc, 20));
+    holds!(rt; made.granted(rt).is_none());
 }
 
 #[test]
 fn a_length_of_an_endless_one_that_is_told(rt: HostRuntime) {
-    let made = Sevens.progress_count(rt.alloc(), 2, setup(&rt, rt.alloc(), 20));
-    same!(rt; length(&made.expect(&rt, "granted")), Some(2));
+    let rt = &rt;
+    let alloc = rt.alloc();
+    let made = Sevens.progress_count(alloc, 2, setup(rt, alloc, 20));
+    same!(rt; length(&made.granted(rt)), Some(2));
 }

@@ -1,5 +1,6 @@
 //! Keys of the tests' own that write what no line holds, on a board that threads share and that keeps its history.
 use crate::carried_trackers::{Says, Telling};
+use crate::checks::Granted;
 use crate::fronts::{contents, setup, target};
 use crate::recordings::answers_so;
 use indicatif::{
@@ -22,13 +23,12 @@ fn saying<R: Wait + Copy + Clone + Drop + Abort>(
     alloc: Global,
     text: &'static str,
 ) -> Bar<R> {
-    let key = FnTracker::new(alloc, Says { alloc, text }).expect(&rt, "granted");
-    let style = ProgressStyle::with_template(alloc, "{t}").expect(&rt, "granted");
-    let style = style.with_key("t", key).expect(&rt, "granted");
-    let bar = ProgressBar::styled(rt, alloc, style, Some(4), setup(&rt, alloc, 10));
-    bar.expect(&rt, "granted")
-        .with_tab_width(2)
-        .expect(&rt, "granted")
+    let rt = &rt;
+    let key = FnTracker::new(alloc, Says { alloc, text }).granted(rt);
+    let style = ProgressStyle::with_template(alloc, "{t}").granted(rt);
+    let style = style.with_key("t", key).granted(rt);
+    let bar = ProgressBar::styled(*rt, alloc, style, Some(4), setup(rt, alloc, 10));
+    bar.granted(rt).with_tab_width(2).granted(rt)
 }
 
 /// Makes the calls of a history on a fresh board, where they answer the same; what it shows then.
@@ -48,11 +48,11 @@ impl<R: Abort + Drop> RecordReader<InMemoryTerm, Telling> for PlaysAgain<R> {
 }
 
 fn played_again<R: Abort>(rt: &R, alloc: Global, recorded: &Recording) -> String {
-    let target = target(alloc).expect(rt, "granted");
+    let target = target(alloc).granted(rt);
     let board = Board::new(alloc, target, recorded.opening().board_id);
-    let mut fresh = Box::new(alloc, board).expect(rt, "granted");
+    let mut fresh = Box::new(alloc, board).granted(rt);
     answers_so(rt, &mut fresh, alloc, recorded.entries());
-    contents(fresh.term()).expect(rt, "a terminal")
+    contents(fresh.term()).granted(rt)
 }
 
 /// What a board shows once it has drawn a bar whose key writes this text, and what a fresh board shows that makes the calls of its history.
@@ -61,22 +61,20 @@ fn shown<R: Wait + Copy + Clone + Drop + Abort>(
     alloc: Global,
     text: &'static str,
 ) -> (String, String) {
-    let board = MultiProgress::keyed_recorded(rt, alloc, setup(&rt, alloc, 10), 1);
-    let board: Box<Shared<R>> = Box::new(alloc, board.expect(&rt, "granted")).expect(
-        &rt, "granted",
-    );
-    let bar = board.add(saying(rt, alloc, text)).expect(&rt, "granted");
+    let rt = &rt;
+    let board = MultiProgress::keyed_recorded(*rt, alloc, setup(rt, alloc, 10), 1);
+    let board: Box<Shared<R>> = Box::new(alloc, board.granted(rt)).granted(rt);
+    let bar = board.add(saying(*rt, alloc, text)).granted(rt);
     same!(rt; bar.tick(), Ok(Drawn::Yes));
-    let shown = board
-        .with_term(|term| contents(term))
-        .expect(&rt, "granted");
-    (shown, board.with_record(PlaysAgain { rt, alloc }))
+    let shown = board.with_term(|term| contents(term)).granted(rt);
+    (shown, board.with_record(PlaysAgain { rt: *rt, alloc }))
 }
 
 /// A tab is two spaces, and a newline parts two lines.
 #[test]
 fn a_tab_and_a_newline(rt: HostRuntime) {
-    let (shown, again) = shown(rt, rt.alloc(), "a\tb\nc");
+    let rt = &rt;
+    let (shown, again) = shown(*rt, rt.alloc(), "a\tb\nc");
     same!(rt; shown.as_str(), "a  b\nc");
     same!(rt; again.as_str(), "a  b\nc");
 }
@@ -84,6 +82,7 @@ fn a_tab_and_a_newline(rt: HostRuntime) {
 /// What isn't a colour sequence is drawn; what it does to the terminal isn't claimed.
 #[test]
 fn a_sequence_of_another_kind(rt: HostRuntime) {
-    let (shown, again) = shown(rt, rt.alloc(), "\u{1B}[2J");
+    let rt = &rt;
+    let (shown, again) = shown(*rt, rt.alloc(), "\u{1B}[2J");
     same!(rt; shown, again);
 }

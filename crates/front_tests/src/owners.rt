@@ -1,4 +1,5 @@
 //! What the last owner of a bar leaves, what stays on another target, and threads with owners of their own, on a terminal that others see.
+use crate::checks::Granted;
 use crate::shown::{Bytes, Shown, is_seen, no_bytes, setup_on};
 use indicatif::{
     Drawn, MultiProgress, ProgressBar, ProgressFinish, ProgressStyle, StepClock, Term,
@@ -17,9 +18,10 @@ fn bar_on<R: Wait + Copy + Clone + Drop + Abort>(
     bytes: &Bytes,
     template: &str,
 ) -> Bar<R> {
-    let bar = ProgressBar::new(rt, alloc, 10, setup_on(rt, bytes, 10)).expect(&rt, "granted");
-    let style = ProgressStyle::with_template(alloc, template).expect(&rt, "granted");
-    bar.with_style(style).expect(&rt, "granted")
+    let rt = &rt;
+    let bar = ProgressBar::new(*rt, alloc, 10, setup_on(*rt, bytes, 10)).granted(rt);
+    let style = ProgressStyle::with_template(alloc, template).granted(rt);
+    bar.with_style(style).granted(rt)
 }
 
 // ---- owners
@@ -31,22 +33,25 @@ fn ending<R: Wait + Copy + Clone + Drop + Abort>(
     bytes: &Bytes,
     finish: ProgressFinish,
 ) -> Bar<R> {
-    let bar = bar_on(rt, alloc, bytes, "{pos}/{len}");
-    bar.with_finish(finish).expect(&rt, "granted")
+    let rt = &rt;
+    let bar = bar_on(*rt, alloc, bytes, "{pos}/{len}");
+    bar.with_finish(finish).granted(rt)
 }
 
 /// An owner that isn't the last leaves the bar as it is, and the last one finishes it by its stored finish.
 #[test]
 fn the_last_release_finishes(rt: HostRuntime) {
-    let bytes = no_bytes(&rt, rt.alloc());
-    let bar = ending(rt, rt.alloc(), &bytes, ProgressFinish::AndLeave);
-    let other = bar.clone().expect(&rt, "granted");
+    let rt = &rt;
+    let alloc = rt.alloc();
+    let bytes = no_bytes(rt, alloc);
+    let bar = ending(*rt, alloc, &bytes, ProgressFinish::AndLeave);
+    let other = bar.clone().granted(rt);
     same!(rt; bar.set_position(3), Ok(Drawn::Yes));
     bar.release();
     holds!(rt; !other.is_finished());
-    is_seen(&rt, rt.alloc(), &bytes, "3/10");
+    is_seen(rt, alloc, &bytes, "3/10");
     other.release();
-    is_seen(&rt, rt.alloc(), &bytes, "10/10");
+    is_seen(rt, alloc, &bytes, "10/10");
 }
 
 /// Draws a bar, whose one owner is dropped at the end of the block.
@@ -56,20 +61,23 @@ fn drawn_and_dropped<R: Wait + Copy + Clone + Drop + Abort>(
     bytes: &Bytes,
     finish: ProgressFinish,
 ) {
-    let bar = ending(rt, alloc, bytes, finish);
+    let rt = &rt;
+    let bar = ending(*rt, alloc, bytes, finish);
     same!(rt; bar.set_position(3), Ok(Drawn::Yes));
 }
 
 /// So does an owner that is dropped. Where it is to be cleared, its row goes.
 #[test]
 fn the_last_drop_finishes(rt: HostRuntime) {
-    let bytes = no_bytes(&rt, rt.alloc());
-    drawn_and_dropped(rt, rt.alloc(), &bytes, ProgressFinish::AndLeave);
-    is_seen(&rt, rt.alloc(), &bytes, "10/10");
-    let bytes = no_bytes(&rt, rt.alloc());
-    drawn_and_dropped(rt, rt.alloc(), &bytes, ProgressFinish::AndClear);
-    is_seen(&rt, rt.alloc(), &bytes, "");
-    holds!(rt; !bytes.lock(&rt).is_empty());
+    let rt = &rt;
+    let alloc = rt.alloc();
+    let bytes = no_bytes(rt, alloc);
+    drawn_and_dropped(*rt, alloc, &bytes, ProgressFinish::AndLeave);
+    is_seen(rt, alloc, &bytes, "10/10");
+    let bytes = no_bytes(rt, alloc);
+    drawn_and_dropped(*rt, alloc, &bytes, ProgressFinish::AndClear);
+    is_seen(rt, alloc, &bytes, "");
+    holds!(rt; !bytes.lock(rt).is_empty());
 }
 
 // ---- another target
@@ -80,26 +88,29 @@ fn board_on<R: Wait + Copy + Clone + Drop + Abort>(
     alloc: Global,
     bytes: &Bytes,
 ) -> MultiProgress<Term<Shown<R>>, StepClock, R> {
-    MultiProgress::new(rt, alloc, setup_on(rt, bytes, 10), 1).expect(&rt, "granted")
+    let rt = &rt;
+    MultiProgress::new(*rt, alloc, setup_on(*rt, bytes, 10), 1).granted(rt)
 }
 
 /// What a bar drew on its own target stays there: once it has another one, and once a board has taken it in.
 #[test]
 fn what_was_drawn_stays(rt: HostRuntime) {
-    let first = no_bytes(&rt, rt.alloc());
-    let bar = bar_on(rt, rt.alloc(), &first, "{pos}");
+    let rt = &rt;
+    let alloc = rt.alloc();
+    let first = no_bytes(rt, alloc);
+    let bar = bar_on(*rt, alloc, &first, "{pos}");
     same!(rt; bar.set_position(1), Ok(Drawn::Yes));
-    let second = no_bytes(&rt, rt.alloc());
-    let target = setup_on(rt, &second, 10).target;
+    let second = no_bytes(rt, alloc);
+    let target = setup_on(*rt, &second, 10).target;
     same!(rt; bar.set_draw_target(target), Ok(Drawn::Limited));
     same!(rt; bar.set_position(2), Ok(Drawn::Yes));
-    let third = no_bytes(&rt, rt.alloc());
-    let board = board_on(rt, rt.alloc(), &third);
-    let bar = board.add(bar).expect(&rt, "granted");
+    let third = no_bytes(rt, alloc);
+    let board = board_on(*rt, alloc, &third);
+    let bar = board.add(bar).granted(rt);
     same!(rt; bar.set_position(3), Ok(Drawn::Yes));
-    is_seen(&rt, rt.alloc(), &first, "1");
-    is_seen(&rt, rt.alloc(), &second, "2");
-    is_seen(&rt, rt.alloc(), &third, "3");
+    is_seen(rt, alloc, &first, "1");
+    is_seen(rt, alloc, &second, "2");
+    is_seen(rt, alloc, &third, "3");
 }
 
 // ---- threads
@@ -117,30 +128,33 @@ fn advance<R: Wait + Clone + Drop>(bar: &Bar<R>, times: u32) -> u64 {
 
 #[test]
 fn threads_advance_through_clones(rt: HostRuntime) {
-    let bytes = no_bytes(&rt, rt.alloc());
-    let bar = bar_on(rt, rt.alloc(), &bytes, "{pos}");
-    let other = bar.clone().expect(&rt, "granted");
-    let third = bar.clone().expect(&rt, "granted");
-    let child = thread::spawn(&rt, move || advance(&third, 500)).expect(&rt, "granted");
-    let refused = join(&rt, || advance(&bar, 250), || advance(&other, 250));
+    let rt = &rt;
+    let bytes = no_bytes(rt, rt.alloc());
+    let bar = bar_on(*rt, rt.alloc(), &bytes, "{pos}");
+    let other = bar.clone().granted(rt);
+    let third = bar.clone().granted(rt);
+    let child = thread::spawn(rt, move || advance(&third, 500)).granted(rt);
+    let refused = join(rt, || advance(&bar, 250), || advance(&other, 250));
     same!(rt; refused, (0, 0));
-    same!(rt; child.join(&rt), 0);
+    same!(rt; child.join(rt), 0);
     same!(rt; bar.position(), 1000);
     same!(rt; bar.force_draw(), Ok(Drawn::Yes));
-    is_seen(&rt, rt.alloc(), &bytes, "1000");
+    is_seen(rt, rt.alloc(), &bytes, "1000");
 }
 
 /// A bar that says hello, ticks, says something longer and ticks in two threads.
 #[test]
 fn two_threads_tick(rt: HostRuntime) {
-    let bytes = no_bytes(&rt, rt.alloc());
-    let bar = bar_on(rt, rt.alloc(), &bytes, "{msg}");
+    let rt = &rt;
+    let alloc = rt.alloc();
+    let bytes = no_bytes(rt, alloc);
+    let bar = bar_on(*rt, alloc, &bytes, "{msg}");
     same!(rt; bar.set_message("hello"), Ok(Drawn::Yes));
     same!(rt; bar.tick(), Ok(Drawn::Yes));
     same!(rt; bar.set_message("progress bars"), Ok(Drawn::Yes));
-    let other = bar.clone().expect(&rt, "granted");
-    let ticked = join(&rt, || bar.tick().is_ok(), || other.tick().is_ok());
+    let other = bar.clone().granted(rt);
+    let ticked = join(rt, || bar.tick().is_ok(), || other.tick().is_ok());
     same!(rt; ticked, (true, true));
-    is_seen(&rt, rt.alloc(), &bytes, "progress b\nars");
+    is_seen(rt, alloc, &bytes, "progress b\nars");
     same!(rt; bar.ticks(), 3);
 }

@@ -1,4 +1,5 @@
 //! Pieces in threads of their own.
+use crate::checks::Granted;
 use crate::gates::{Open, Roll, Together, Turnstile, Waves};
 use crate::stepped::{Stepped, bar_at};
 use indicatif::{Gate, Refusal, run_workers_with};
@@ -11,7 +12,7 @@ use std::thread::Threads;
 fn pieces_of_ones<R: Abort>(rt: &R, alloc: Global, count: u32, items: u32) -> Vec<Vec<u32>> {
     let mut pieces = Vec::new(alloc);
     for _ in 0..count {
-        pieces.push(ones(rt, alloc, items)).expect(rt, "granted");
+        pieces.push(ones(rt, alloc, items)).granted(rt);
     }
     pieces
 }
@@ -20,7 +21,7 @@ fn pieces_of_ones<R: Abort>(rt: &R, alloc: Global, count: u32, items: u32) -> Ve
 fn ones<R: Abort>(rt: &R, alloc: Global, items: u32) -> Vec<u32> {
     let mut piece = Vec::new(alloc);
     for _ in 0..items {
-        piece.push(1u32).expect(rt, "granted");
+        piece.push(1u32).granted(rt);
     }
     piece
 }
@@ -34,32 +35,33 @@ fn doubled<R: Threads + Sync + Abort, G: Gate>(
     bar: &mut Stepped,
 ) -> Vec<Vec<u32>> {
     let made = run_workers_with(rt, alloc, pieces, |x: &u32| x.wrapping_mul(2), gate, bar);
-    made.expect(rt, "granted")
+    made.granted(rt)
 }
 
 #[test]
 fn answers_stand_in_the_order_of_the_pieces(rt: HostRuntime) {
+    let rt = &rt;
     let alloc = rt.alloc();
     let pieces = vec![in alloc;
-        vec![in alloc; 1u32, 2].expect(&rt, "granted"),
-        vec![in alloc; 3u32].expect(&rt, "granted"),
+        vec![in alloc; 1u32, 2].granted(rt),
+        vec![in alloc; 3u32].granted(rt),
         Vec::new(alloc),
     ]
-    .expect(&rt, "granted");
+    .granted(rt);
     let mut bar = bar_at(alloc, 0);
     let gate = Turnstile {
         passed: AtomicU64::new(0),
     };
     // (not by `doubled`: that an answer stands at each index is what the contract of the call tells)
     let made = run_workers_with(
-        &rt,
+        rt,
         alloc,
         pieces.as_slice(),
         |x: &u32| x.wrapping_mul(2),
         &gate,
         &mut bar,
     )
-    .expect(&rt, "granted");
+    .granted(rt);
     same!(rt; made.len(), 3);
     same!(rt; made[0].as_slice(), [2, 4].as_slice());
     same!(rt; made[1].as_slice(), [6].as_slice());
@@ -72,16 +74,11 @@ fn answers_stand_in_the_order_of_the_pieces(rt: HostRuntime) {
 
 #[test]
 fn no_piece_is_refused(rt: HostRuntime) {
-    let none = pieces_of_ones(&rt, rt.alloc(), 0, 0);
-    let mut bar = bar_at(rt.alloc(), 7);
-    let answer = run_workers_with(
-        &rt,
-        rt.alloc(),
-        none.as_slice(),
-        |x: &u32| *x,
-        &Open,
-        &mut bar,
-    );
+    let rt = &rt;
+    let alloc = rt.alloc();
+    let none = pieces_of_ones(rt, alloc, 0, 0);
+    let mut bar = bar_at(alloc, 7);
+    let answer = run_workers_with(rt, alloc, none.as_slice(), |x: &u32| *x, &Open, &mut bar);
     same!(rt; answer.err(), Some(Refusal::ZeroPieces));
     same!(rt; bar.position, 7);
     holds!(rt; bar.steps.is_empty());
@@ -89,13 +86,15 @@ fn no_piece_is_refused(rt: HostRuntime) {
 
 #[test]
 fn pieces_run_at_the_same_time(rt: HostRuntime) {
-    let pieces = pieces_of_ones(&rt, rt.alloc(), 2, 1);
-    let mut bar = bar_at(rt.alloc(), 0);
+    let rt = &rt;
+    let alloc = rt.alloc();
+    let pieces = pieces_of_ones(rt, alloc, 2, 1);
+    let mut bar = bar_at(alloc, 0);
     let gate = Together {
         second_came: AtomicU64::new(0),
         first_saw_it: AtomicU64::new(0),
     };
-    let made = doubled(&rt, rt.alloc(), pieces.as_slice(), &gate, &mut bar);
+    let made = doubled(rt, alloc, pieces.as_slice(), &gate, &mut bar);
     same!(rt; gate.first_saw_it.load(Ordering::SeqCst), 1);
     same!(rt; made.len(), 2);
     same!(rt; bar.position, 2);
@@ -116,17 +115,18 @@ fn all_are_answered<R: Copy + Threads + Sync + Abort>(
     alloc: Global,
     (count, items): (u32, u32),
 ) {
-    let pieces = pieces_of_ones(&rt, alloc, count, items);
+    let rt = &rt;
+    let pieces = pieces_of_ones(rt, alloc, count, items);
     let mut bar = bar_at(alloc, 5);
     let made = run_workers_with(
-        &rt,
+        rt,
         alloc,
         pieces.as_slice(),
         |x: &u32| x.wrapping_mul(2),
         &Open,
         &mut bar,
     )
-    .expect(&rt, "granted");
+    .granted(rt);
     let all = u64::from(count).wrapping_mul(u64::from(items));
     same!(rt; answers_in(made.as_slice()) as u64, all);
     same!(rt; bar.steps.as_slice(), [all].as_slice());
@@ -144,13 +144,15 @@ fn pieces_of_many_sizes(rt: HostRuntime) {
 /// Of six hundred pieces each runs once, and none of those behind the first 256 begins before these have begun.
 #[test]
 fn six_hundred_pieces(rt: HostRuntime) {
-    let pieces = pieces_of_ones(&rt, rt.alloc(), 600, 2);
-    let mut bar = bar_at(rt.alloc(), 0);
+    let rt = &rt;
+    let alloc = rt.alloc();
+    let pieces = pieces_of_ones(rt, alloc, 600, 2);
+    let mut bar = bar_at(alloc, 0);
     let gate = Waves {
         passed: AtomicU64::new(0),
         early: AtomicU64::new(0),
     };
-    let made = doubled(&rt, rt.alloc(), pieces.as_slice(), &gate, &mut bar);
+    let made = doubled(rt, alloc, pieces.as_slice(), &gate, &mut bar);
     same!(rt; made.len(), 600);
     for answers in made.iter() {
         same!(rt; answers.as_slice(), [2, 2].as_slice());
@@ -164,8 +166,8 @@ fn six_hundred_pieces(rt: HostRuntime) {
 fn numbered<R: Abort>(rt: &R, alloc: Global, count: u32) -> Vec<Vec<u32>> {
     let mut pieces = Vec::new(alloc);
     for number in 0..count {
-        let piece = vec![in alloc; number, number].expect(rt, "granted");
-        pieces.push(piece).expect(rt, "granted");
+        let piece = vec![in alloc; number, number].granted(rt);
+        pieces.push(piece).granted(rt);
     }
     pieces
 }
@@ -173,18 +175,20 @@ fn numbered<R: Abort>(rt: &R, alloc: Global, count: u32) -> Vec<Vec<u32>> {
 /// Each of three hundred pieces has passed the gate, by its own number and once, before its first item is met.
 #[test]
 fn each_piece_passes_before_its_items(rt: HostRuntime) {
-    let pieces = numbered(&rt, rt.alloc(), 300);
-    let roll = Roll::of(&rt, rt.alloc(), 300);
-    let mut bar = bar_at(rt.alloc(), 0);
+    let rt = &rt;
+    let alloc = rt.alloc();
+    let pieces = numbered(rt, alloc, 300);
+    let roll = Roll::of(rt, alloc, 300);
+    let mut bar = bar_at(alloc, 0);
     let made = run_workers_with(
-        &rt,
-        rt.alloc(),
+        rt,
+        alloc,
         pieces.as_slice(),
         |piece: &u32| roll.passed(*piece),
         &roll,
         &mut bar,
     )
-    .expect(&rt, "granted");
+    .granted(rt);
     same!(rt; made.len(), 300);
     for answers in made.iter() {
         same!(rt; answers.as_slice(), [1, 1].as_slice());

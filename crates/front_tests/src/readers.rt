@@ -1,5 +1,6 @@
 //! Two threads that read through wrappers of one bar. (Each makes its own wrapper: a function that owns two is more than the prover can
 //! hold.)
+use crate::checks::Granted;
 use crate::fronts::{Bar, setup};
 use indicatif::{ProgressBar, ProgressBarIter};
 use std::io::{self, Read};
@@ -31,11 +32,13 @@ fn reads_along<R: Wait + Clone + Drop>(bar: &Bar<R>, bytes: &[u8]) -> Option<u64
 /// Two threads read 20,000 bytes each through wrappers of one bar, which stands at 40,000 then.
 #[test]
 fn two_readers_of_one_bar_lose_no_byte(rt: HostRuntime) {
+    let rt = &rt;
+    let alloc = rt.alloc();
     let bytes = [7u8; 20_000];
-    let setup = setup(&rt, rt.alloc(), 20);
-    let bar = ProgressBar::no_length(rt, rt.alloc(), setup).expect(&rt, "granted");
+    let setup = setup(rt, alloc, 20);
+    let bar = ProgressBar::no_length(*rt, alloc, setup).granted(rt);
     let read = join(
-        &rt,
+        rt,
         || reads_along(&bar, &bytes),
         || reads_along(&bar, &bytes),
     );

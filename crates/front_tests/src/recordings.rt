@@ -1,5 +1,6 @@
 //! What a board has kept: how many calls of a kind, and whether a fresh board that makes them gives the same answers and the same
 //! picture.
+use crate::checks::Granted;
 use crate::fronts::{Shared, target};
 use indicatif::style::Tracks;
 use indicatif::{BarCommand, Board, Call, Entry, InMemoryTerm, NoTracker, RecordReader, Recorded};
@@ -75,7 +76,7 @@ pub fn answers_so<R: Abort, K: Tracks>(
     entries: &[Entry<K>],
 ) {
     for entry in entries {
-        let call = entry.call.try_clone(alloc).expect(rt, "granted");
+        let call = entry.call.try_clone(alloc).granted(rt);
         let answer = board.call(call, entry.now);
         same!(rt; &answer, &entry.answer);
     }
@@ -87,8 +88,8 @@ pub fn show_the_same<R: Abort>(rt: &R, one: Option<&InMemoryTerm>, other: Option
 }
 
 fn rows_of<R: Abort>(rt: &R, term: Option<&InMemoryTerm>) -> Vec<String> {
-    let term = term.expect(rt, "a terminal");
-    term.picture().expect(rt, "granted")
+    let term = term.granted(rt);
+    term.picture().granted(rt)
 }
 
 /// A fresh board makes the calls that were kept with the same answers, and then shows the same rows.
@@ -108,9 +109,9 @@ impl<R: Abort + Drop> RecordReader<InMemoryTerm, NoTracker> for RunsAgain<R> {
 }
 
 fn runs_again<R: Abort>(rt: &R, alloc: Global, recorded: &Recording) {
-    let target = target(alloc).expect(rt, "granted");
+    let target = target(alloc).granted(rt);
     let board = Board::new(alloc, target, recorded.opening().board_id);
-    let mut fresh = Box::new(alloc, board).expect(rt, "granted");
+    let mut fresh = Box::new(alloc, board).granted(rt);
     answers_so(rt, &mut fresh, alloc, recorded.entries());
     show_the_same(rt, fresh.term(), recorded.board().term());
 }

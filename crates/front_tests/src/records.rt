@@ -1,4 +1,5 @@
 //! Boards that keep their history: a fresh board that makes the calls that were kept gives the same answers and the same picture.
+use crate::checks::Granted;
 use crate::recordings::{Recording, answers_so, show_the_same};
 use indicatif::{
     Answer, BarCommand, BarId, BarState, Board, Call, Candidate, Drawn, Entry, InMemoryTerm,
@@ -12,14 +13,14 @@ use std::thread::join;
 
 /// A target on a terminal in memory of so many rows and 10 columns.
 fn target<R: Abort>(rt: &R, alloc: Global, rows: u16) -> ProgressDrawTarget<InMemoryTerm> {
-    let term = InMemoryTerm::new(alloc, rows, 10).expect(rt, "granted");
+    let term = InMemoryTerm::new(alloc, rows, 10).granted(rt);
     ProgressDrawTarget::term_like(term)
 }
 
 /// A board of the id 1 that keeps its history.
 fn recorded_on<R: Abort>(rt: &R, alloc: Global, rows: u16) -> Box<Recording> {
     let recorded = Recorded::new(alloc, target(rt, alloc, rows), 1);
-    Box::new(alloc, recorded).expect(rt, "granted")
+    Box::new(alloc, recorded).granted(rt)
 }
 
 /// A bar whose one line is this text.
@@ -80,7 +81,7 @@ fn answers<R: Abort>(
     asked: Asked,
     wanted: &(Answer, &str),
 ) {
-    let call = call_of(alloc, asked).expect(rt, "granted");
+    let call = call_of(alloc, asked).granted(rt);
     let (answer, bar) = board.apply(call, 0);
     same!(rt; &answer, &wanted.0);
     holds!(rt; is_named(bar, wanted.1));
@@ -123,7 +124,7 @@ fn were_on<R: Abort>(rt: &R, entries: &[Entry<NoTracker>], size: Size) {
 fn is_replayed<R: Abort>(rt: &R, alloc: Global, recorded: &Recording, rows: u16) {
     let board_id = recorded.opening().board_id;
     let board = Board::new(alloc, target(rt, alloc, rows), board_id);
-    let mut fresh = Box::new(alloc, board).expect(rt, "granted");
+    let mut fresh = Box::new(alloc, board).granted(rt);
     answers_so(rt, &mut fresh, alloc, recorded.entries());
     show_the_same(rt, fresh.term(), recorded.board().term());
     were_on(rt, recorded.entries(), Size { columns: 10, rows });
@@ -173,11 +174,13 @@ const RUN: [(Asked, (Answer, &str)); 9] = [
 
 #[test]
 fn what_was_recorded_is_one_run(rt: HostRuntime) {
-    let mut board = recorded_on(&rt, rt.alloc(), 2);
-    all_answer(&rt, rt.alloc(), &mut board, &RUN);
+    let rt = &rt;
+    let alloc = rt.alloc();
+    let mut board = recorded_on(rt, alloc, 2);
+    all_answer(rt, alloc, &mut board, &RUN);
     same!(rt; board.entries().len(), 9);
     same!(rt; has_rows(board.board().term(), &["k", "l", "x", "y"]), Ok(true));
-    is_replayed(&rt, rt.alloc(), &board, 2);
+    is_replayed(rt, alloc, &board, 2);
 }
 
 const FOREIGN: InsertLocation = InsertLocation::Before(BarId {
@@ -207,10 +210,12 @@ const BACK: [(Asked, (Answer, &str)); 4] = [
 
 #[test]
 fn bars_that_come_back(rt: HostRuntime) {
-    let mut board = recorded_on(&rt, rt.alloc(), 4);
-    all_answer(&rt, rt.alloc(), &mut board, &BACK);
+    let rt = &rt;
+    let alloc = rt.alloc();
+    let mut board = recorded_on(rt, alloc, 4);
+    all_answer(rt, alloc, &mut board, &BACK);
     same!(rt; board.entries().len(), 4);
-    is_replayed(&rt, rt.alloc(), &board, 4);
+    is_replayed(rt, alloc, &board, 4);
 }
 
 /// Logs a text fifty times under the lock; it is drawn each time.
@@ -221,7 +226,7 @@ fn log_fifty<R: Wait + Abort>(
     text: &'static str,
 ) {
     for _ in 0..50u32 {
-        let call = call_of(alloc, Asked::Log(text)).expect(rt, "granted");
+        let call = call_of(alloc, Asked::Log(text)).granted(rt);
         let (answer, _) = board.lock(rt).apply(call, 0);
         same!(rt; answer, YES);
     }
@@ -239,14 +244,16 @@ fn are_logs(entries: &[Entry<NoTracker>]) -> bool {
 
 #[test]
 fn two_threads_log_on_one_board(rt: HostRuntime) {
-    let board = Mutex::new(recorded_on(&rt, rt.alloc(), 5));
+    let rt = &rt;
+    let alloc = rt.alloc();
+    let board = Mutex::new(recorded_on(rt, alloc, 5));
     join(
-        &rt,
-        || log_fifty(&rt, rt.alloc(), &board, "mine"),
-        || log_fifty(&rt, rt.alloc(), &board, "theirs"),
+        rt,
+        || log_fifty(rt, alloc, &board, "mine"),
+        || log_fifty(rt, alloc, &board, "theirs"),
     );
-    let recorded = board.lock(&rt);
+    let recorded = board.lock(rt);
     same!(rt; recorded.entries().len(), 100);
     holds!(rt; are_logs(recorded.entries()));
-    is_replayed(&rt, rt.alloc(), &recorded, 5);
+    is_replayed(rt, alloc, &recorded, 5);
 }

@@ -1,4 +1,5 @@
 //! Bars that their boards make or that something wraps, and threads that work on one bar at a time.
+use crate::checks::Granted;
 use crate::fronts::{Bar, Shared, bar_shows, board_shows, setup};
 use crate::ticking::{tick_off, ticks_on, waits};
 use indicatif::{
@@ -20,11 +21,12 @@ const HOUR: u64 = 3600 * SECOND;
 
 /// A board on a terminal of 6 rows and 20 columns that may be drawn 20 times a second, made when 100 seconds were told.
 fn board_at_100<R: Wait + Copy + Clone + Drop + Abort>(rt: R, alloc: Global) -> Shared<R> {
+    let rt = &rt;
     let now = 100 * SECOND;
-    let term = InMemoryTerm::new(alloc, 6, 20).expect(&rt, "granted");
-    let target = ProgressDrawTarget::term_like_with_hz(term, 20, now).expect(&rt, "granted");
+    let term = InMemoryTerm::new(alloc, 6, 20).granted(rt);
+    let target = ProgressDrawTarget::term_like_with_hz(term, 20, now).granted(rt);
     let clock = StepClock { next: now, step: 0 };
-    MultiProgress::new(rt, alloc, Setup { target, clock }, 1).expect(&rt, "granted")
+    MultiProgress::new(*rt, alloc, Setup { target, clock }, 1).granted(rt)
 }
 
 /// Gives a bar the style of a template.
@@ -34,21 +36,24 @@ fn dress<R: Wait + Copy + Clone + Drop + Abort>(
     bar: &Bar<R>,
     template: &str,
 ) {
-    let style = ProgressStyle::with_template(alloc, template).expect(&rt, "granted");
+    let rt = &rt;
+    let style = ProgressStyle::with_template(alloc, template).granted(rt);
     holds!(rt; bar.set_style(style).is_ok());
 }
 
 /// A board makes its bars itself: they stand one below the other, by its clock.
 #[test]
 fn a_board_makes_its_bars(rt: HostRuntime) {
-    let board = board_at_100(rt, rt.alloc());
-    let bar = board.new_bar(3).expect(&rt, "granted");
-    let spinner = board.new_spinner().expect(&rt, "granted");
-    dress(rt, rt.alloc(), &bar, "{pos}/{len}");
-    dress(rt, rt.alloc(), &spinner, "{msg}");
+    let rt = &rt;
+    let alloc = rt.alloc();
+    let board = board_at_100(*rt, alloc);
+    let bar = board.new_bar(3).granted(rt);
+    let spinner = board.new_spinner().granted(rt);
+    dress(*rt, alloc, &bar, "{pos}/{len}");
+    dress(*rt, alloc, &spinner, "{msg}");
     holds!(rt; spinner.set_message("waits").is_ok());
     same!(rt; bar.inc(1), Ok(Drawn::Yes));
-    board_shows(&rt, &board, "1/3\nwaits");
+    board_shows(rt, &board, "1/3\nwaits");
     same!(rt; spinner.length(), None);
 }
 
@@ -69,27 +74,30 @@ fn told<R: Wait + Clone + Drop>(
 /// A wrapper's bar is told before it moves, and what is told is seen by its other owners.
 #[test]
 fn a_wrappers_bar_is_told(rt: HostRuntime) {
-    let bar = bar_on(rt, rt.alloc());
+    let rt = &rt;
+    let alloc = rt.alloc();
+    let bar = bar_on(*rt, alloc);
     let items = 0..3u32;
-    let mut wrapped = bar.wrap_iter(items.into_iter()).expect(&rt, "granted");
-    let mut wrapped = told(rt.alloc(), wrapped).expect(&rt, "granted");
+    let mut wrapped = bar.wrap_iter(items.into_iter()).granted(rt);
+    let mut wrapped = told(alloc, wrapped).granted(rt);
     same!(rt; bar.position(), 7);
     while let Some(_item) = wrapped.next() {}
     same!(rt; bar.position(), 10);
     holds!(rt; bar.is_finished());
-    bar_shows(&rt, &bar, "a b 10");
+    bar_shows(rt, &bar, "a b 10");
 }
 
 /// So is its elapsed time: a machine that runs for an hour has room for an hour, and for no second more.
 #[test]
 fn a_wrappers_bar_begins_with_elapsed_time(rt: HostRuntime) {
+    let rt = &rt;
     let clock = StepClock {
         next: HOUR,
         step: 0,
     };
-    let bar: Bar<HostRuntime> = ProgressBar::hidden(rt, rt.alloc(), clock).expect(&rt, "granted");
-    let wrapped = bar.wrap_iter(0..3u32).expect(&rt, "granted");
-    let wrapped = wrapped.with_elapsed(HOUR).expect(&rt, "granted");
+    let bar: Bar<HostRuntime> = ProgressBar::hidden(*rt, rt.alloc(), clock).granted(rt);
+    let wrapped = bar.wrap_iter(0..3u32).granted(rt);
+    let wrapped = wrapped.with_elapsed(HOUR).granted(rt);
     same!(rt; bar.elapsed(), HOUR);
     let refused = wrapped.with_elapsed(HOUR + SECOND).err();
     same!(rt; refused, Some(Refusal::ElapsedBeyondClock));
@@ -100,7 +108,8 @@ const OFTEN: u64 = 1_000_000;
 
 /// A bar without a length.
 fn bar_on<R: Wait + Copy + Clone + Drop + Abort>(rt: R, alloc: Global) -> Bar<R> {
-    ProgressBar::no_length(rt, alloc, setup(&rt, alloc, 20)).expect(&rt, "granted")
+    let rt = &rt;
+    ProgressBar::no_length(*rt, alloc, setup(rt, alloc, 20)).granted(rt)
 }
 
 /// Tells a ticker of this interval on so many times, each in the place of the one before.
@@ -133,21 +142,23 @@ fn rests<R: Wait + time::Clock + Clone + Drop + Abort>(rt: &R, bar: &Bar<R>) {
 /// One thread tells a ticker on while another tells it off: both come to an end, and once it is off it is off.
 #[test]
 fn on_and_off_from_two_threads(rt: HostRuntime) {
-    let bar = bar_on(rt, rt.alloc());
-    let told = join(&rt, || tells_on(&bar, OFTEN, 200), || tells_off(&bar, 200));
+    let rt = &rt;
+    let bar = bar_on(*rt, rt.alloc());
+    let told = join(rt, || tells_on(&bar, OFTEN, 200), || tells_off(&bar, 200));
     same!(rt; told, (Ok(()), Ok(())));
     same!(rt; tick_off(&bar), Ok(()));
-    rests(&rt, &bar);
+    rests(rt, &bar);
 }
 
 /// Of ten tickers of an hour, each of which replaces the one before, none ticks more than once: that others are told off and end
 /// makes none of them tick before its hour is over.
 #[test]
 fn a_ticker_that_is_replaced_wakes_none(rt: HostRuntime) {
-    let bar = bar_on(rt, rt.alloc());
+    let rt = &rt;
+    let bar = bar_on(*rt, rt.alloc());
     same!(rt; tells_on(&bar, HOUR, 10), Ok(()));
-    holds!(rt; ticks_on(&rt, &bar, 0));
-    waits(&rt);
+    holds!(rt; ticks_on(rt, &bar, 0));
+    waits(rt);
     holds!(rt; bar.ticks() <= 10);
     same!(rt; tick_off(&bar), Ok(()));
 }

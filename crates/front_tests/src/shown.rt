@@ -1,4 +1,5 @@
 //! A terminal that others see: a writer whose bytes stand under a lock.
+use crate::checks::Granted;
 use indicatif::{Cells, ProgressDrawTarget, Refusal, Setup, StepClock, Term};
 use std::alloc::Global;
 use std::io::{self, Write};
@@ -31,7 +32,7 @@ impl<R: Wait + Drop> Write for Shown<R> {
 
 /// No bytes as yet.
 pub fn no_bytes<R: Abort>(rt: &R, alloc: Global) -> Bytes {
-    Arc::new(alloc, Mutex::new(Vec::new(alloc))).expect(rt, "granted")
+    Arc::new(alloc, Mutex::new(Vec::new(alloc))).granted(rt)
 }
 
 /// That terminal, of 4 rows and so many columns, with a clock that goes on by 1 with each reading.
@@ -40,7 +41,7 @@ pub fn setup_on<R: Wait + Drop + Abort>(
     bytes: &Bytes,
     cols: u16,
 ) -> Setup<Term<Shown<R>>, StepClock> {
-    let bytes = Arc::try_clone(bytes).expect(&rt, "granted");
+    let bytes = Arc::try_clone(bytes).granted(&rt);
     let writer = Shown { bytes, rt };
     Setup {
         target: ProgressDrawTarget::term_like(Term::new(writer, 4, cols)),
@@ -60,7 +61,7 @@ fn seen<R: Wait>(rt: &R, alloc: Global, bytes: &Mutex<Vec<u8>>) -> Result<String
 
 /// Ends the test where something else stands in that window.
 pub fn is_seen<R: Wait + Abort>(rt: &R, alloc: Global, bytes: &Mutex<Vec<u8>>, wanted: &str) {
-    let text = seen(rt, alloc, bytes).expect(rt, "granted");
+    let text = seen(rt, alloc, bytes).granted(rt);
     same!(rt; text.as_str(), wanted);
 }
 

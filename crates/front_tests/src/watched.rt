@@ -1,4 +1,5 @@
 //! Boards on a terminal that others see: what stands there while a closure runs, and what is written where the cursor only moves.
+use crate::checks::Granted;
 use crate::shown::{Bytes, Shown, is_seen, is_written, no_bytes, setup_on};
 use indicatif::{Drawn, MultiProgress, ProgressBar, ProgressStyle, StepClock, Term};
 use std::alloc::Global;
@@ -16,8 +17,9 @@ fn board_on<R: Wait + Copy + Clone + Drop + Abort>(
     bytes: &Bytes,
     cols: u16,
 ) -> Box<Board<R>> {
-    let board = MultiProgress::new(rt, alloc, setup_on(rt, bytes, cols), 1).expect(&rt, "granted");
-    Box::new(alloc, board).expect(&rt, "granted")
+    let rt = &rt;
+    let board = MultiProgress::new(*rt, alloc, setup_on(*rt, bytes, cols), 1).granted(rt);
+    Box::new(alloc, board).granted(rt)
 }
 
 /// A bar of the board whose one line is this text; it isn't drawn yet.
@@ -27,14 +29,16 @@ fn bar_of<R: Wait + Copy + Clone + Drop + Abort>(
     alloc: Global,
     text: &str,
 ) -> Bar<R> {
-    let bar = board.new_spinner().expect(&rt, "granted");
-    let style = ProgressStyle::with_template(alloc, "{msg}").expect(&rt, "granted");
-    let bar = bar.with_style(style).expect(&rt, "granted");
-    bar.with_message(text).expect(&rt, "granted")
+    let rt = &rt;
+    let bar = board.new_spinner().granted(rt);
+    let style = ProgressStyle::with_template(alloc, "{msg}").granted(rt);
+    let bar = bar.with_style(style).granted(rt);
+    bar.with_message(text).granted(rt)
 }
 
 /// A tick that draws. Its call promises nothing here.
 fn draws<R: Wait + Copy + Clone + Drop + Abort>(rt: R, bar: &Bar<R>) {
+    let rt = &rt;
     same!(rt; bar.tick(), Ok(Drawn::Yes));
 }
 
@@ -47,8 +51,9 @@ fn board_pauses<R: Wait + Copy + Clone + Drop + Abort>(
     alloc: Global,
     bytes: &Bytes,
 ) {
-    let bytes = Arc::try_clone(bytes).expect(&rt, "granted");
-    let (_, drawn) = board.suspend(move || is_seen(&rt, alloc, &bytes, ""));
+    let rt = &rt;
+    let bytes = Arc::try_clone(bytes).granted(rt);
+    let (_, drawn) = board.suspend(move || is_seen(rt, alloc, &bytes, ""));
     same!(rt; drawn, Ok(Drawn::Yes));
 }
 
@@ -59,42 +64,48 @@ fn bar_pauses<R: Wait + Copy + Clone + Drop + Abort>(
     alloc: Global,
     bytes: &Bytes,
 ) {
-    let bytes = Arc::try_clone(bytes).expect(&rt, "granted");
-    let (_, drawn) = bar.suspend(move || is_seen(&rt, alloc, &bytes, ""));
+    let rt = &rt;
+    let bytes = Arc::try_clone(bytes).granted(rt);
+    let (_, drawn) = bar.suspend(move || is_seen(rt, alloc, &bytes, ""));
     same!(rt; drawn, Ok(Drawn::Yes));
 }
 
 /// A board's bars stand there before and behind a pause of the board or of one of them, and not while the closure runs.
 #[test]
 fn bars_are_taken_back_while_a_closure_runs(rt: HostRuntime) {
-    let bytes = no_bytes(&rt, rt.alloc());
-    let board = board_on(rt, rt.alloc(), &bytes, 10);
-    let one = bar_of(&board, rt, rt.alloc(), "a");
-    let other = bar_of(&board, rt, rt.alloc(), "b");
-    draws(rt, &one);
-    draws(rt, &other);
-    is_seen(&rt, rt.alloc(), &bytes, "a\nb");
-    board_pauses(&board, rt, rt.alloc(), &bytes);
-    is_seen(&rt, rt.alloc(), &bytes, "a\nb");
-    bar_pauses(&one, rt, rt.alloc(), &bytes);
-    is_seen(&rt, rt.alloc(), &bytes, "a\nb");
+    let rt = &rt;
+    let alloc = rt.alloc();
+    let bytes = no_bytes(rt, alloc);
+    let board = board_on(*rt, alloc, &bytes, 10);
+    let one = bar_of(&board, *rt, alloc, "a");
+    let other = bar_of(&board, *rt, alloc, "b");
+    draws(*rt, &one);
+    draws(*rt, &other);
+    is_seen(rt, alloc, &bytes, "a\nb");
+    board_pauses(&board, *rt, alloc, &bytes);
+    is_seen(rt, alloc, &bytes, "a\nb");
+    bar_pauses(&one, *rt, alloc, &bytes);
+    is_seen(rt, alloc, &bytes, "a\nb");
 }
 
 /// A bar on that terminal that stands alone.
 fn alone<R: Wait + Copy + Clone + Drop + Abort>(rt: R, alloc: Global, bytes: &Bytes) -> Bar<R> {
-    let bar = ProgressBar::new(rt, alloc, 10, setup_on(rt, bytes, 10)).expect(&rt, "granted");
-    let style = ProgressStyle::with_template(alloc, "{pos}/{len}").expect(&rt, "granted");
-    bar.with_style(style).expect(&rt, "granted")
+    let rt = &rt;
+    let bar = ProgressBar::new(*rt, alloc, 10, setup_on(*rt, bytes, 10)).granted(rt);
+    let style = ProgressStyle::with_template(alloc, "{pos}/{len}").granted(rt);
+    bar.with_style(style).granted(rt)
 }
 
 /// So is a bar that stands alone.
 #[test]
 fn a_bar_is_taken_back_while_a_closure_runs(rt: HostRuntime) {
-    let bytes = no_bytes(&rt, rt.alloc());
-    let bar = alone(rt, rt.alloc(), &bytes);
-    draws(rt, &bar);
-    bar_pauses(&bar, rt, rt.alloc(), &bytes);
-    is_seen(&rt, rt.alloc(), &bytes, "0/10");
+    let rt = &rt;
+    let alloc = rt.alloc();
+    let bytes = no_bytes(rt, alloc);
+    let bar = alone(*rt, alloc, &bytes);
+    draws(*rt, &bar);
+    bar_pauses(&bar, *rt, alloc, &bytes);
+    is_seen(rt, alloc, &bytes, "0/10");
 }
 
 // ---- a cursor that only moves
@@ -103,18 +114,20 @@ fn a_bar_is_taken_back_while_a_closure_runs(rt: HostRuntime) {
 /// row and empties none. Once that is off again, a draw writes what changed alone.
 #[test]
 fn a_cursor_only_moves(rt: HostRuntime) {
-    let bytes = no_bytes(&rt, rt.alloc());
-    let board = board_on(rt, rt.alloc(), &bytes, 2);
+    let rt = &rt;
+    let alloc = rt.alloc();
+    let bytes = no_bytes(rt, alloc);
+    let board = board_on(*rt, alloc, &bytes, 2);
     same!(rt; board.set_move_cursor(true), Ok(()));
-    let one = bar_of(&board, rt, rt.alloc(), "ab");
-    let other = bar_of(&board, rt, rt.alloc(), "cd");
-    draws(rt, &one);
-    is_written(&rt, &bytes, "\rab");
-    draws(rt, &other);
-    is_written(&rt, &bytes, "\rab\rabcd");
-    draws(rt, &one);
-    is_written(&rt, &bytes, "\rab\rabcd\u{1b}[1A\rabcd");
+    let one = bar_of(&board, *rt, alloc, "ab");
+    let other = bar_of(&board, *rt, alloc, "cd");
+    draws(*rt, &one);
+    is_written(rt, &bytes, "\rab");
+    draws(*rt, &other);
+    is_written(rt, &bytes, "\rab\rabcd");
+    draws(*rt, &one);
+    is_written(rt, &bytes, "\rab\rabcd\u{1b}[1A\rabcd");
     same!(rt; board.set_move_cursor(false), Ok(()));
-    draws(rt, &one);
-    is_written(&rt, &bytes, "\rab\rabcd\u{1b}[1A\rabcd");
+    draws(*rt, &one);
+    is_written(rt, &bytes, "\rab\rabcd\u{1b}[1A\rabcd");
 }

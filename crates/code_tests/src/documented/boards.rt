@@ -1,4 +1,5 @@
 //! Examples of a board and of sums.
+use crate::checks::Granted;
 use indicatif_bar::state::BarState;
 use indicatif_bar::style::{NoTracker, ProgressStyle};
 use indicatif_board::bridge::emit;
@@ -15,7 +16,7 @@ type Bars = Board<NoTracker, InMemoryTerm>;
 
 /// A terminal of 4 rows and 20 columns.
 fn terminal(rt: &impl Abort, alloc: Global) -> InMemoryTerm {
-    InMemoryTerm::new(alloc, 4, 20).expect(rt, "granted")
+    InMemoryTerm::new(alloc, 4, 20).granted(rt)
 }
 
 fn board_of(rt: &impl Abort, alloc: Global) -> Bars {
@@ -25,50 +26,55 @@ fn board_of(rt: &impl Abort, alloc: Global) -> Bars {
 
 /// A bar that shows this text.
 fn bar_saying(rt: &impl Abort, alloc: Global, text: &str) -> BarState<NoTracker> {
-    let style = ProgressStyle::with_template(alloc, text).expect(rt, "granted");
-    BarState::styled(alloc, style, None, 0).expect(rt, "granted")
+    let style = ProgressStyle::with_template(alloc, text).granted(rt);
+    BarState::styled(alloc, style, None, 0).granted(rt)
 }
 
 /// A board's terminal shows this.
 fn shows(rt: &impl Abort, board: Bars, contents: &str) {
-    let term = board.term().expect(rt, "no terminal");
-    same!(*rt; term.contents().expect(rt, "granted").as_str(), contents);
+    let term = board.term().granted(rt);
+    same!(rt; term.contents().granted(rt).as_str(), contents);
 }
 
 #[test]
 fn text_above_the_bars(rt: HostRuntime) {
+    let rt = &rt;
     let (alloc, now) = (rt.alloc(), 0);
-    let term = terminal(&rt, alloc);
+    let term = terminal(rt, alloc);
     let mut board: Board<NoTracker, _> = Board::new(alloc, ProgressDrawTarget::term_like(term), 1);
-    board.println("a.txt", now).expect(&rt, "granted");
-    shows(&rt, board, "a.txt");
+    board.println("a.txt", now).granted(rt);
+    shows(rt, board, "a.txt");
 }
 
 #[test]
 fn text_on_fewer_columns(rt: HostRuntime) {
+    let rt = &rt;
     let now = 0;
-    let mut board = board_of(&rt, rt.alloc());
-    board.println("hello", now).expect(&rt, "granted");
-    board.resize(4, 3).expect(&rt, "granted"); // it stands on two rows from now on: `hel`, `lo`
-    shows(&rt, board, "hel\nlo");
+    let mut board = board_of(rt, rt.alloc());
+    board.println("hello", now).granted(rt);
+    board.resize(4, 3).granted(rt); // it stands on two rows from now on: `hel`, `lo`
+    shows(rt, board, "hel\nlo");
 }
 
 #[test]
 fn emitted_line(rt: HostRuntime) {
+    let rt = &rt;
     let (alloc, now) = (rt.alloc(), 0);
-    let mut board = board_of(&rt, alloc);
-    let drawn = emit(alloc, &mut board, Level::Error, "no such file", now).expect(&rt, "granted");
+    let mut board = board_of(rt, alloc);
+    let drawn = emit(alloc, &mut board, Level::Error, "no such file", now).granted(rt);
     same!(rt; drawn, Drawn::Yes);
-    shows(&rt, board, "ERROR no such file");
+    shows(rt, board, "ERROR no such file");
 }
 
 #[test]
 fn order_of_bars(rt: HostRuntime) {
-    let mut board = board_of(&rt, rt.alloc());
+    let rt = &rt;
+    let alloc = rt.alloc();
+    let mut board = board_of(rt, alloc);
     board.set_move_cursor(true);
-    take_in(&rt, rt.alloc(), &mut board);
-    turn_away(&rt, rt.alloc(), &mut board);
-    stack(&rt, rt.alloc(), &mut board);
+    take_in(rt, alloc, &mut board);
+    turn_away(rt, alloc, &mut board);
+    stack(rt, alloc, &mut board);
     same!(rt; board.order(), [0, 2, 1].as_slice());
 }
 
@@ -78,8 +84,8 @@ fn take_in(rt: &impl Abort, alloc: Global, board: &mut Bars) -> BarId {
     let id = board
         .add(Candidate::New(bar))
         .map_err(|turned| turned.refusal)
-        .expect(rt, "granted");
-    holds!(*rt; board.insert(0, Candidate::Member(id)).is_ok_and(|again| again == id));
+        .granted(rt);
+    holds!(rt; board.insert(0, Candidate::Member(id)).is_ok_and(|again| again == id));
     id
 }
 
@@ -103,7 +109,7 @@ fn stack(rt: &impl Abort, alloc: Global, board: &mut Bars) {
     let first = board
         .add(Candidate::New(bar))
         .map_err(|turned| turned.refusal)
-        .expect(rt, "granted");
+        .granted(rt);
     board.call(
         Call::Insert {
             at: InsertLocation::Before(first),
@@ -115,7 +121,8 @@ fn stack(rt: &impl Abort, alloc: Global, board: &mut Bars) {
 
 #[test]
 fn bar_of_another_board(rt: HostRuntime) {
-    let mut board = board_of(&rt, rt.alloc());
+    let rt = &rt;
+    let mut board = board_of(rt, rt.alloc());
     let elsewhere = BarId {
         board: 0,
         number: 1,
@@ -125,10 +132,12 @@ fn bar_of_another_board(rt: HostRuntime) {
 
 #[test]
 fn answers_of_calls(rt: HostRuntime) {
+    let rt = &rt;
+    let alloc = rt.alloc();
     let now = 0;
-    let mut board = board_of(&rt, rt.alloc());
-    let id = take_in(&rt, rt.alloc(), &mut board);
-    log_and_clear(&rt, rt.alloc(), &mut board);
+    let mut board = board_of(rt, alloc);
+    let id = take_in(rt, alloc, &mut board);
+    log_and_clear(rt, alloc, &mut board);
     let (answer, removed) = board.apply(Call::Remove(id), now);
     same!(rt; answer, Answer::Done);
     holds!(rt; removed.is_some());
@@ -137,18 +146,19 @@ fn answers_of_calls(rt: HostRuntime) {
 
 fn log_and_clear(rt: &impl Abort, alloc: Global, board: &mut Bars) {
     let now = 0;
-    let text = String::from_str(alloc, "log").expect(rt, "granted");
-    same!(*rt; board.call(Call::Log(text), now), Answer::Drawn(Drawn::Yes));
+    let text = String::from_str(alloc, "log").granted(rt);
+    same!(rt; board.call(Call::Log(text), now), Answer::Drawn(Drawn::Yes));
     let answer = board.call(Call::Clear, now);
     let again = answer.same();
-    same!(*rt; answer, Answer::Drawn(Drawn::Yes));
-    same!(*rt; again, Answer::Drawn(Drawn::Yes));
+    same!(rt; answer, Answer::Drawn(Drawn::Yes));
+    same!(rt; again, Answer::Drawn(Drawn::Yes));
 }
 
 #[test]
 fn copy_of_a_call(rt: HostRuntime) {
+    let rt = &rt;
     let (alloc, call) = (rt.alloc(), Call::<NoTracker>::Redraw);
-    let again = call.try_clone(alloc).expect(&rt, "granted");
+    let again = call.try_clone(alloc).granted(rt);
     holds!(rt; matches!(again, Call::Redraw));
     drop(call);
     drop(again);
@@ -156,19 +166,21 @@ fn copy_of_a_call(rt: HostRuntime) {
 
 #[test]
 fn copy_of_a_candidate(rt: HostRuntime) {
+    let rt = &rt;
     let id = BarId {
         board: 1,
         number: 0,
     };
     let candidate = Candidate::<NoTracker>::Member(id);
-    let again = candidate.try_clone().expect(&rt, "granted");
+    let again = candidate.try_clone().granted(rt);
     holds!(rt; matches!(again, Candidate::Member(_)));
 }
 
 #[test]
 fn sum_of_a_worker(rt: HostRuntime) {
+    let rt = &rt;
     let alloc = rt.alloc();
-    let (done, mut worker) = Done::new(alloc).expect(&rt, "granted");
+    let (done, mut worker) = Done::new(alloc).granted(rt);
     worker.add(&done, 5);
     same!(rt; done.close(worker), 5);
 }

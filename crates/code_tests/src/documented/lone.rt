@@ -1,4 +1,5 @@
 //! Examples of a bar on its terminal.
+use crate::checks::Granted;
 use indicatif_bar::lone::{LoneBar, LoneCall};
 use indicatif_bar::state::{BarCommand, BarState};
 use indicatif_bar::style::{NoTracker, ProgressStyle, Tracks};
@@ -13,56 +14,58 @@ type Bar = LoneBar<NoTracker, InMemoryTerm>;
 
 /// A bar's terminal shows this.
 fn shows(rt: &impl Abort, bar: Box<Bar>, contents: &str) {
-    let term = bar.term().expect(rt, "no terminal");
-    same!(*rt; term.contents().expect(rt, "granted").as_str(), contents);
+    let term = bar.term().granted(rt);
+    same!(rt; term.contents().granted(rt).as_str(), contents);
 }
 
 /// A bar on a terminal of 4 rows and 20 columns, a name above it.
 fn shown(rt: &impl Abort, alloc: Global) -> Box<Bar> {
     let now = 0;
-    let term = InMemoryTerm::new(alloc, 4, 20).expect(rt, "granted");
+    let term = InMemoryTerm::new(alloc, 4, 20).granted(rt);
     let mut bar = LoneBar::new(
-        BarState::new(alloc, Some(10), now).expect(rt, "granted"),
+        BarState::new(alloc, Some(10), now).granted(rt),
         ProgressDrawTarget::term_like(term),
     );
-    bar.set_message("copying", now).expect(rt, "granted");
-    bar.println("a.txt", now).expect(rt, "granted");
-    Box::new(alloc, bar).expect(rt, "granted")
+    bar.set_message("copying", now).granted(rt);
+    bar.println("a.txt", now).granted(rt);
+    Box::new(alloc, bar).granted(rt)
 }
 
 #[test]
 fn hidden_bar(rt: HostRuntime) {
-    let record = BarState::new(rt.alloc(), Some(10), 0).expect(&rt, "granted");
+    let rt = &rt;
+    let record = BarState::new(rt.alloc(), Some(10), 0).granted(rt);
     let mut bar: Bar = LoneBar::new(record, ProgressDrawTarget::hidden());
-    let drawn = bar.tick(0).expect(&rt, "granted");
+    let drawn = bar.tick(0).granted(rt);
     same!(rt; drawn, Drawn::Hidden);
 }
 
 #[test]
 fn name_above_a_bar(rt: HostRuntime) {
-    shows(&rt, shown(&rt, rt.alloc()), "a.txt\n░░░░░░░░░░░░░░░ 0/10");
+    let rt = &rt;
+    shows(rt, shown(rt, rt.alloc()), "a.txt\n░░░░░░░░░░░░░░░ 0/10");
 }
 
 #[test]
 fn other_style(rt: HostRuntime) {
+    let rt = &rt;
     let (alloc, now) = (rt.alloc(), 0);
-    let mut bar = shown(&rt, alloc);
+    let mut bar = shown(rt, alloc);
     bar.set_move_cursor(true);
-    let style = ProgressStyle::with_template(alloc, "{pos} of {len}").expect(&rt, "granted");
-    let drawn = bar.with_style(style, now).expect(&rt, "granted");
+    let style = ProgressStyle::with_template(alloc, "{pos} of {len}").granted(rt);
+    let drawn = bar.with_style(style, now).granted(rt);
     same!(rt; drawn, Drawn::Limited);
-    draws_now(&rt, &mut bar);
-    shows(&rt, bar, "a.txt\n0 of 10");
+    draws_now(rt, &mut bar);
+    shows(rt, bar, "a.txt\n0 of 10");
 }
 
 #[test]
 fn elapsed_time(rt: HostRuntime) {
-    let mut bar = shown(&rt, rt.alloc());
-    let drawn = bar
-        .with_elapsed(3_000_000_000, 4_000_000_000)
-        .expect(&rt, "granted");
+    let rt = &rt;
+    let mut bar = shown(rt, rt.alloc());
+    let drawn = bar.with_elapsed(3_000_000_000, 4_000_000_000).granted(rt);
     same!(rt; drawn, Drawn::Limited);
-    draws_now(&rt, &mut bar);
+    draws_now(rt, &mut bar);
     same!(rt; step(&mut bar, 6_000_000_000), Ok(Drawn::Yes));
 }
 
@@ -73,7 +76,7 @@ fn draws_now(rt: &impl Abort, bar: &mut Bar) {
         step: 1,
     };
     let opened = clock.now();
-    same!(*rt; bar.tick(opened).expect(rt, "granted"), Drawn::Yes);
+    same!(rt; bar.tick(opened).granted(rt), Drawn::Yes);
 }
 
 /// A step of a bar with any keys.
@@ -86,48 +89,51 @@ fn step<K: Tracks, T: TermLike + Drop>(
 
 /// A tick, a line and a clear.
 fn calls_of(rt: &impl Abort, alloc: Global) -> Vec<(LoneCall<NoTracker>, Moment)> {
-    let log = LoneCall::Log(String::from_str(alloc, "a.txt").expect(rt, "granted"));
+    let log = LoneCall::Log(String::from_str(alloc, "a.txt").granted(rt));
     let calls = vec![in alloc;
         (LoneCall::Bar(BarCommand::Tick), 0),
         (log, 0),
         (LoneCall::Clear, 5),
     ]
-    .expect(rt, "granted");
+    .granted(rt);
     calls
 }
 
 /// These are three, and each was drawn.
 fn are_drawn(rt: &impl Abort, answers: &[Result<Drawn, Refusal>]) {
     let drawn = [Ok(Drawn::Yes), Ok(Drawn::Yes), Ok(Drawn::Yes)];
-    holds!(*rt; answers == drawn.as_slice());
+    holds!(rt; answers == drawn.as_slice());
 }
 
 #[test]
 fn three_calls(rt: HostRuntime) {
-    let mut bar = shown(&rt, rt.alloc());
-    let calls = calls_of(&rt, rt.alloc());
-    let answers = bar.run(calls).expect(&rt, "granted");
-    are_drawn(&rt, &answers);
-    shows(&rt, bar, "a.txt\na.txt");
+    let rt = &rt;
+    let alloc = rt.alloc();
+    let mut bar = shown(rt, alloc);
+    let calls = calls_of(rt, alloc);
+    let answers = bar.run(calls).granted(rt);
+    are_drawn(rt, &answers);
+    shows(rt, bar, "a.txt\na.txt");
 }
 
 /// A bar of a text of 13 columns on 10 of them.
 fn wide(rt: &impl Abort, alloc: Global) -> Box<Bar> {
-    let style = ProgressStyle::with_template(alloc, "progress bars").expect(rt, "granted");
-    let record = BarState::styled(alloc, style, None, 0).expect(rt, "granted");
-    let term = InMemoryTerm::new(alloc, 4, 10).expect(rt, "granted");
+    let style = ProgressStyle::with_template(alloc, "progress bars").granted(rt);
+    let record = BarState::styled(alloc, style, None, 0).granted(rt);
+    let term = InMemoryTerm::new(alloc, 4, 10).granted(rt);
     let bar = LoneBar::new(record, ProgressDrawTarget::term_like(term));
-    Box::new(alloc, bar).expect(rt, "granted")
+    Box::new(alloc, bar).granted(rt)
 }
 
 /// It is drawn on 10 columns, then on 5 and on 20.
 #[test]
 fn terminal_of_new_sizes(rt: HostRuntime) {
+    let rt = &rt;
     let now = 0;
-    let mut bar = wide(&rt, rt.alloc());
-    bar.tick(now).expect(&rt, "granted");
-    bar.resize(4, 5).expect(&rt, "granted"); // `progress bars` stands on three rows: `progr`, `ess b`, `ars`
-    bar.resize(4, 20).expect(&rt, "granted"); // and still does
-    bar.tick(now).expect(&rt, "granted"); // stands on one row again
-    shows(&rt, bar, "progress bars");
+    let mut bar = wide(rt, rt.alloc());
+    bar.tick(now).granted(rt);
+    bar.resize(4, 5).granted(rt); // `progress bars` stands on three rows: `progr`, `ess b`, `ars`
+    bar.resize(4, 20).granted(rt); // and still does
+    bar.tick(now).granted(rt); // stands on one row again
+    shows(rt, bar, "progress bars");
 }

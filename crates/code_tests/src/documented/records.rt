@@ -2,6 +2,7 @@
 ghost use Rattle.std.specs.Prelude.{◌-◌, decimal, string_bytes};
 ghost use Rattle.indicatif_bar.specs.Trackers.{telling};
 
+use crate::checks::Granted;
 use indicatif_bar::state::{
     Ask, BarCommand, BarState, Change, ProgressFinish, ProgressState, SpareLines,
 };
@@ -17,16 +18,16 @@ fn style_of(rt: &impl Abort, alloc: Global) -> ProgressStyle<NoTracker> {
     let style: ProgressStyle<NoTracker> = ProgressStyle::with_template(
         alloc,
         "{bar:10} {pos}/{len}",
-    ).expect(rt, "granted")
+    ).granted(rt)
         .progress_chars("=> ")
-        .expect(rt, "granted");
+        .granted(rt);
     style
 }
 
 /// A bar of four steps, at this position.
 fn bar_at(rt: &impl Abort, alloc: Global, position: u64) -> Box<BarState<NoTracker>> {
-    let bar = BarState::styled(alloc, style_of(rt, alloc), Some(4), 0).expect(rt, "granted");
-    let mut bar = Box::new(alloc, bar).expect(rt, "granted");
+    let bar = BarState::styled(alloc, style_of(rt, alloc), Some(4), 0).granted(rt);
+    let mut bar = Box::new(alloc, bar).granted(rt);
     bar.set_position(position, 0);
     bar
 }
@@ -34,50 +35,53 @@ fn bar_at(rt: &impl Abort, alloc: Global, position: u64) -> Box<BarState<NoTrack
 /// These are one line, of this text.
 fn say(rt: &impl Abort, lines: &[LineType], text: &str) {
     match lines {
-        [line] => same!(*rt; line.as_str(), text),
-        _ => same!(*rt; (text, lines.len()), (text, 1)),
+        [line] => same!(rt; line.as_str(), text),
+        _ => same!(rt; (text, lines.len()), (text, 1)),
     }
 }
 
 /// A bar's lines are one, of this text.
 fn says<K: ProgressTracker>(rt: &impl Abort, bar: &BarState<K>, text: &str) {
-    say(rt, &bar.lines(0, 80).expect(rt, "granted"), text);
+    say(rt, &bar.lines(0, 80).granted(rt), text);
 }
 
 #[test]
 fn first_step(rt: HostRuntime) {
+    let rt = &rt;
     let alloc = rt.alloc();
-    let style = style_of(&rt, alloc);
-    let mut bar = BarState::styled(alloc, style, Some(10), 0).expect(&rt, "granted");
+    let style = style_of(rt, alloc);
+    let mut bar = BarState::styled(alloc, style, Some(10), 0).granted(rt);
     let ask = bar.inc(1, 0);
     same!(rt; ask, Ask::Unforced);
 }
 
 #[test]
 fn bar_without_keys_of_its_own(rt: HostRuntime) {
+    let rt = &rt;
     let (alloc, now) = (rt.alloc(), 0);
-    let bar = BarState::<NoTracker>::new(alloc, Some(10), now).expect(&rt, "granted");
+    let bar = BarState::<NoTracker>::new(alloc, Some(10), now).granted(rt);
     same!(rt; bar.state().pos(), 0);
 }
 
 #[test]
 fn change_of_both_numbers(rt: HostRuntime) {
-    let mut bar = bar_at(&rt, rt.alloc(), 1);
+    let rt = &rt;
+    let mut bar = bar_at(rt, rt.alloc(), 1);
     bar.set_length(10, 0);
     let change = Change {
         pos: Some(3),
         len: Some(4),
     };
-    bar.apply(BarCommand::Update(change), 0)
-        .expect(&rt, "granted");
+    bar.apply(BarCommand::Update(change), 0).granted(rt);
     same!(rt; (bar.state().pos(), bar.state().len()), (3, Some(4)));
 }
 
 #[test]
 fn command_as_a_value(rt: HostRuntime) {
+    let rt = &rt;
     let now = 0;
-    let mut bar = bar_at(&rt, rt.alloc(), 3);
-    let ask = bar.apply(BarCommand::Inc(2), now).expect(&rt, "granted");
+    let mut bar = bar_at(rt, rt.alloc(), 3);
+    let ask = bar.apply(BarCommand::Inc(2), now).granted(rt);
     same!(rt; (bar.state().pos(), ask), (5, Ask::Unforced));
 }
 
@@ -87,29 +91,33 @@ fn copy_of(
     alloc: Global,
     command: BarCommand<NoTracker>,
 ) -> BarCommand<NoTracker> {
-    let again = command.try_clone(alloc).expect(rt, "granted");
+    let again = command.try_clone(alloc).granted(rt);
     again
 }
 
 #[test]
 fn copy_of_a_command(rt: HostRuntime) {
-    let mut bar = bar_at(&rt, rt.alloc(), 5);
-    let again = copy_of(&rt, rt.alloc(), BarCommand::Inc(2));
-    bar.apply(again, 0).expect(&rt, "granted");
+    let rt = &rt;
+    let alloc = rt.alloc();
+    let mut bar = bar_at(rt, alloc, 5);
+    let again = copy_of(rt, alloc, BarCommand::Inc(2));
+    bar.apply(again, 0).granted(rt);
     same!(rt; bar.state().pos(), 7);
 }
 
 #[test]
 fn asks_of_draws(rt: HostRuntime) {
+    let rt = &rt;
     let now = 0;
-    let mut bar = bar_at(&rt, rt.alloc(), 3);
+    let mut bar = bar_at(rt, rt.alloc(), 3);
     same!(rt; bar.tick(now), Ask::Unforced);
     same!(rt; bar.force_draw(now), Ask::Forced);
 }
 
 #[test]
 fn rate_since_a_reset(rt: HostRuntime) {
-    let mut bar = bar_at(&rt, rt.alloc(), 0);
+    let rt = &rt;
+    let mut bar = bar_at(rt, rt.alloc(), 0);
     bar.set_position(2, 1_000_000_000);
     bar.reset_eta(1_000_000_000);
     bar.set_position(3, 2_000_000_000);
@@ -119,46 +127,51 @@ fn rate_since_a_reset(rt: HostRuntime) {
 
 #[test]
 fn copy_of_a_bar(rt: HostRuntime) {
+    let rt = &rt;
     let now = 0;
-    let mut bar = bar_at(&rt, rt.alloc(), 3);
-    let before = bar.try_clone().expect(&rt, "granted");
+    let mut bar = bar_at(rt, rt.alloc(), 3);
+    let before = bar.try_clone().granted(rt);
     bar.inc(1, now);
     same!(rt; (before.state().pos(), bar.state().pos()), (3, 4));
 }
 
 #[test]
 fn finish_that_leaves_the_bar(rt: HostRuntime) {
+    let rt = &rt;
     let now = 0;
-    let mut bar = bar_at(&rt, rt.alloc(), 3);
+    let mut bar = bar_at(rt, rt.alloc(), 3);
     bar.with_finish(ProgressFinish::AndLeave, now);
-    bar.finish_using_style(now).expect(&rt, "granted");
+    bar.finish_using_style(now).granted(rt);
     same!(rt; (bar.state().pos(), bar.state().is_finished()), (4, true));
 }
 
 #[test]
 fn lines_in_the_room_of_others(rt: HostRuntime) {
+    let rt = &rt;
     let (alloc, now) = (rt.alloc(), 0);
-    let bar = bar_at(&rt, alloc, 4);
+    let bar = bar_at(rt, alloc, 4);
     let mut spare = SpareLines::new(alloc);
-    let lines = bar.lines_in(&mut spare, now, 80).expect(&rt, "granted");
-    say(&rt, &lines, "========== 4/4");
-    let before = bar.lines_in(&mut spare, 0, 80).expect(&rt, "granted");
+    let lines = bar.lines_in(&mut spare, now, 80).granted(rt);
+    say(rt, &lines, "========== 4/4");
+    let before = bar.lines_in(&mut spare, 0, 80).granted(rt);
     spare.store(before);
-    let lines = bar.lines_in(&mut spare, 1, 80).expect(&rt, "granted");
-    say(&rt, &lines, "========== 4/4");
+    let lines = bar.lines_in(&mut spare, 1, 80).granted(rt);
+    say(rt, &lines, "========== 4/4");
 }
 
 #[test]
 fn style_made_from_another(rt: HostRuntime) {
-    let bar = bar_at(&rt, rt.alloc(), 4);
+    let rt = &rt;
+    let alloc = rt.alloc();
+    let bar = bar_at(rt, alloc, 4);
     let style = bar
         .style()
         .try_clone()
-        .expect(&rt, "granted")
+        .granted(rt)
         .template("{pos}")
-        .expect(&rt, "granted");
-    let other = BarState::styled(rt.alloc(), style, Some(10), 0).expect(&rt, "granted");
-    says(&rt, &other, "0");
+        .granted(rt);
+    let other = BarState::styled(alloc, style, Some(10), 0).granted(rt);
+    says(rt, &other, "0");
 }
 
 /// Tells how many steps of so many are left.
@@ -188,12 +201,12 @@ impl ProgressTracker for Left {
 /// A bar of files that shows how many of 10 are left.
 fn counting(rt: &impl Abort, alloc: Global) -> Box<BarState<Left>> {
     let style = ProgressStyle::with_template(alloc, "{msg} {left}")
-        .expect(rt, "granted")
+        .granted(rt)
         .with_key("left", Left { of: 10 })
-        .expect(rt, "granted");
-    let mut bar = BarState::styled(alloc, style, None, 0).expect(rt, "granted");
-    bar.set_message("files", 0).expect(rt, "granted");
-    Box::new(alloc, bar).expect(rt, "granted")
+        .granted(rt);
+    let mut bar = BarState::styled(alloc, style, None, 0).granted(rt);
+    bar.set_message("files", 0).granted(rt);
+    Box::new(alloc, bar).granted(rt)
 }
 
 /// How many files are done, and what the bar shows: the key follows the position, and stays at 0 past the end.
@@ -201,10 +214,11 @@ const FILES: &[(u64, &str)] = &[(0, "files 10"), (3, "files 7"), (12, "files 0")
 
 #[test]
 fn a_tracker_of_what_is_left(rt: HostRuntime) {
-    let mut bar = counting(&rt, rt.alloc());
+    let rt = &rt;
+    let mut bar = counting(rt, rt.alloc());
     for (position, wanted) in FILES {
         bar.set_position(*position, 0);
-        says(&rt, &bar, wanted);
+        says(rt, &bar, wanted);
     }
 }
 
@@ -227,22 +241,23 @@ fn ready(rt: &impl Abort, alloc: Global) -> FnTracker<Always> {
     let tracker = FnTracker::new(
         alloc,
         Always {
-            text: String::from_str(alloc, "ready").expect(rt, "granted"),
+            text: String::from_str(alloc, "ready").granted(rt),
         },
     )
-    .expect(rt, "granted");
+    .granted(rt);
     tracker
 }
 
 /// A bar that says that it is ready.
 #[test]
 fn key_with_a_text(rt: HostRuntime) {
+    let rt = &rt;
     let alloc = rt.alloc();
-    let tracker = ready(&rt, alloc);
+    let tracker = ready(rt, alloc);
     let style = ProgressStyle::with_template(alloc, "{word}!")
-        .expect(&rt, "granted")
+        .granted(rt)
         .with_key("word", tracker)
-        .expect(&rt, "granted");
-    let bar = BarState::styled(alloc, style, None, 0).expect(&rt, "granted");
-    says(&rt, &bar, "ready!");
+        .granted(rt);
+    let bar = BarState::styled(alloc, style, None, 0).granted(rt);
+    says(rt, &bar, "ready!");
 }

@@ -1,4 +1,5 @@
 //! Examples of `indicatif_text`.
+use crate::checks::Granted;
 use indicatif_text::columns::{Moment, pieces};
 use indicatif_text::template::{Alignment, Part, Template};
 use std::alloc::Global;
@@ -6,29 +7,32 @@ use std::process::Abort;
 
 #[test]
 fn moment_of_a_second(rt: HostRuntime) {
+    let rt = &rt;
     let second: Moment = 1_000_000_000;
     same!(rt; second, 1_000_000_000);
 }
 
 #[test]
 fn text_without_its_colours(rt: HostRuntime) {
+    let rt = &rt;
     let text = "a\u{1b}[1mb";
     let mut out = String::new(rt.alloc());
     for piece in pieces(text) {
         if !piece.colour {
-            out.push_str(piece.text).expect(&rt, "granted");
+            out.push_str(piece.text).granted(rt);
         }
     }
     same!(rt; out.as_str(), "ab");
 }
 
 fn template_of(rt: &impl Abort, alloc: Global) -> Template {
-    Template::parse(alloc, "{k:>2}:\n{x}").expect(rt, "granted")
+    Template::parse(alloc, "{k:>2}:\n{x}").granted(rt)
 }
 
 #[test]
 fn placeholder_at_the_right(rt: HostRuntime) {
-    let template = template_of(&rt, rt.alloc());
+    let rt = &rt;
+    let template = template_of(rt, rt.alloc());
     holds!(rt; is_right(&template));
 }
 
@@ -43,13 +47,15 @@ fn is_right(template: &Template) -> bool {
 /// A template's literals, and the names of its keys.
 #[test]
 fn parts_in_their_order(rt: HostRuntime) {
-    let template = template_of(&rt, rt.alloc());
-    let mut out = String::new(rt.alloc());
+    let rt = &rt;
+    let alloc = rt.alloc();
+    let template = template_of(rt, alloc);
+    let mut out = String::new(alloc);
     for part in template.parts() {
         match part {
-            Part::Literal(text) => out.push_str(text).expect(&rt, "granted"),
-            Part::NewLine => out.push('\n').expect(&rt, "granted"),
-            Part::Placeholder { key, .. } => out.push_str(key).expect(&rt, "granted"),
+            Part::Literal(text) => out.push_str(text).granted(rt),
+            Part::NewLine => out.push('\n').granted(rt),
+            Part::Placeholder { key, .. } => out.push_str(key).granted(rt),
         }
     }
     same!(rt; out.as_str(), "k:\nx");

@@ -1,4 +1,5 @@
 //! What is asked of the machine.
+use crate::checks::Granted;
 use indicatif::machine::{
     MachineClock, Shares, StderrBar, StderrSetup, StreamTerm, TerminalSetup, facts_of, on_stderr,
     sized_stderr, sized_target, style_on_stderr, told_setup, wants_colors,
@@ -13,13 +14,14 @@ use std::time::Duration;
 
 #[test]
 fn a_clock_and_facts(rt: HostRuntime) {
-    let mut clock = MachineClock::new(rt);
+    let rt = &rt;
+    let mut clock = MachineClock::new(*rt);
     let opened = clock.now();
     holds!(rt; opened <= clock.now());
-    let mut facts = facts_of(&rt, &rt.stderr()).expect(&rt, "granted");
+    let mut facts = facts_of(rt, &rt.stderr()).granted(rt);
     facts.cols = 20;
     same!(rt; facts.cols, 20);
-    let setup = told_setup(&rt, rt.stderr(), facts).expect(&rt, "granted");
+    let setup = told_setup(rt, rt.stderr(), facts).granted(rt);
 }
 
 /// What is told of a terminal without a name.
@@ -35,18 +37,20 @@ fn unnamed() -> Facts {
 /// A terminal that is told another size; two letters, and what ends their row; and a terminal without a name, which is hidden.
 #[test]
 fn rows_of_their_own(rt: HostRuntime) {
-    let mut own = OwnRows::new(Term::new(Vec::new(rt.alloc()), 24, 79));
-    own.resize(50, 131).expect(&rt, "granted");
+    let rt = &rt;
+    let alloc = rt.alloc();
+    let mut own = OwnRows::new(Term::new(Vec::new(alloc), 24, 79));
+    own.resize(50, 131).granted(rt);
     same!(rt; own.width(), 131);
-    let writer: Vec<u8> = Vec::new(rt.alloc());
+    let writer: Vec<u8> = Vec::new(alloc);
     let term = OwnRows::left_to_terminal(Term::new(writer, 24, 80));
     let mut own = term;
-    own.write_line("ab").expect(&rt, "granted");
+    own.write_line("ab").granted(rt);
     let writer = own.term().writer();
     same!(rt; writer.len(), 4);
-    let (writer, facts, now) = (Vec::new(rt.alloc()), unnamed(), 0);
+    let (writer, facts, now) = (Vec::new(alloc), unnamed(), 0);
     let term = OwnRows::new(Term::new(writer, 24, 79));
-    let target = ProgressDrawTarget::term(term, facts, 20, now).expect(&rt, "granted");
+    let target = ProgressDrawTarget::term(term, facts, 20, now).granted(rt);
     holds!(rt; target.is_hidden());
 }
 
@@ -57,12 +61,11 @@ fn last_spinner(style: &ProgressStyle<NoTracker>) -> usize {
 
 #[test]
 fn a_style_for_standard_error(rt: HostRuntime) {
-    let style = style_on_stderr(&rt, "[{bar:40.cyan/blue}] {pos}/{len} {msg}").expect(
-        &rt, "granted",
-    );
+    let rt = &rt;
+    let style = style_on_stderr(rt, "[{bar:40.cyan/blue}] {pos}/{len} {msg}").granted(rt);
     let style = style
-        .with_colors(wants_colors(&rt, &rt.stderr()).expect(&rt, "granted"))
-        .expect(&rt, "granted");
+        .with_colors(wants_colors(rt, &rt.stderr()).granted(rt))
+        .granted(rt);
     same!(rt; last_spinner(&style), 1);
 }
 
@@ -70,20 +73,22 @@ fn a_style_for_standard_error(rt: HostRuntime) {
 /// hidden too; and a list with a bar of its own.
 #[test]
 fn bars_of_one_owner_on_standard_error(rt: HostRuntime) {
+    let rt = &rt;
+    let alloc = rt.alloc();
     let facts = unnamed();
-    let setup: TerminalSetup<Stderr> = told_setup(&rt, rt.stderr(), facts).expect(&rt, "granted");
+    let setup: TerminalSetup<Stderr> = told_setup(rt, rt.stderr(), facts).granted(rt);
     holds!(rt; setup.target.is_hidden());
-    let bar = BarState::<NoTracker>::new(rt.alloc(), Some(3), 0).expect(&rt, "granted");
-    let setup: StderrSetup = on_stderr(&rt).expect(&rt, "granted");
+    let bar = BarState::<NoTracker>::new(alloc, Some(3), 0).granted(rt);
+    let setup: StderrSetup = on_stderr(rt).granted(rt);
     let bar = LoneBar::new(bar, setup.target);
     same!(rt; bar.bar().state().pos(), 0);
-    let target = sized_target(&rt, rt.stdout(), 50, 132).expect(&rt, "granted");
+    let target = sized_target(rt, rt.stdout(), 50, 132).granted(rt);
     holds!(rt; target.is_hidden());
-    let list = vec![in rt.alloc(); 7u64].expect(&rt, "granted");
+    let list = vec![in alloc; 7u64].granted(rt);
     let mut wrapped = list
         .into_iter()
-        .progress(rt.alloc(), on_stderr(&rt).expect(&rt, "granted"))
-        .expect(&rt, "granted");
+        .progress(alloc, on_stderr(rt).granted(rt))
+        .granted(rt);
     same!(rt; wrapped.next(), Some(7));
 }
 
@@ -111,16 +116,18 @@ pub fn shown<R: Shares>(
 /// A bar that goes on by three, and a board whose terminal gets another size.
 #[test]
 fn shared_bars_on_standard_error(rt: HostRuntime) {
-    let setup = on_stderr(&rt).expect(&rt, "granted");
-    let bar = ProgressBar::new(rt, rt.alloc(), 3, setup).expect(&rt, "granted");
+    let rt = &rt;
+    let alloc = rt.alloc();
+    let setup = on_stderr(rt).granted(rt);
+    let bar = ProgressBar::new(*rt, alloc, 3, setup).granted(rt);
     holds!(rt; copy(&bar).is_ok());
-    work(&rt, &bar, 2).expect(&rt, "granted");
+    work(rt, &bar, 2).granted(rt);
     same!(rt; bar.position(), 3);
-    let setup = on_stderr(&rt).expect(&rt, "granted");
-    let board = MultiProgress::new(rt, rt.alloc(), setup, 1).expect(&rt, "granted");
-    board.clear().expect(&rt, "granted");
+    let setup = on_stderr(rt).granted(rt);
+    let board = MultiProgress::new(*rt, alloc, setup, 1).granted(rt);
+    board.clear().granted(rt);
     board
-        .set_draw_target(sized_stderr(&rt, 50, 132).expect(&rt, "granted"))
-        .expect(&rt, "granted");
+        .set_draw_target(sized_stderr(rt, 50, 132).granted(rt))
+        .granted(rt);
     holds!(rt; board.is_hidden());
 }

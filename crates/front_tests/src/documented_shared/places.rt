@@ -3,6 +3,7 @@ use indicatif::{MaxRingBuf, SeekMax};
 
 #[test]
 fn the_greatest_of_the_last_place(rt: HostRuntime) {
+    let rt = &rt;
     let mut places = MaxRingBuf::<1>::new();
     places.update(7);
     places.update(3);
@@ -11,6 +12,7 @@ fn the_greatest_of_the_last_place(rt: HostRuntime) {
 
 #[test]
 fn the_greatest_of_seeks(rt: HostRuntime) {
+    let rt = &rt;
     let mut seeks = SeekMax::<5, 10>::new();
     same!(rt; seeks.update_seek(100), 100);
     same!(rt; seeks.update_seq(100, 10), 110);

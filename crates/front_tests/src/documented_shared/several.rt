@@ -1,4 +1,5 @@
 //! A board that is shared, its history, and a log above its bars.
+use crate::checks::Granted;
 use crate::documented_shared::bars::setup_of;
 use indicatif::bridge::LogBridge;
 use indicatif::style::Tracks;
@@ -24,26 +25,29 @@ fn warn_above<R: Wait + Copy + Clone + Drop + Abort>(
     rt: R,
     board: &MultiProgress<InMemoryTerm, StepClock, R>,
 ) {
-    let bridge = LogBridge::new(board.clone().expect(&rt, "granted"));
-    let rt = Logged::new(rt, Level::Info, bridge);
+    let rt = &rt;
+    let bridge = LogBridge::new(board.clone().granted(rt));
+    let rt = Logged::new(*rt, Level::Info, bridge);
     warn!(rt; "low disk");
 }
 
 /// From the second line on a draw moves the cursor over rows that stay. The board keeps no history.
 #[test]
 fn lines_above_a_bar(rt: HostRuntime) {
-    let setup = setup_of(&rt, rt.alloc());
-    let board = MultiProgress::new(rt, rt.alloc(), setup, 1).expect(&rt, "granted");
+    let rt = &rt;
+    let alloc = rt.alloc();
+    let setup = setup_of(rt, alloc);
+    let board = MultiProgress::new(*rt, alloc, setup, 1).granted(rt);
     let clock = StepClock { next: 0, step: 1 };
     let bar = board
-        .add(ProgressBar::hidden(rt, rt.alloc(), clock).expect(&rt, "granted"))
-        .expect(&rt, "granted");
+        .add(ProgressBar::hidden(*rt, alloc, clock).granted(rt))
+        .granted(rt);
     holds!(rt; !bar.is_hidden());
-    board.println("a.txt").expect(&rt, "granted");
-    board.set_move_cursor(true).expect(&rt, "granted");
-    warn_above(rt, &board);
+    board.println("a.txt").granted(rt);
+    board.set_move_cursor(true).granted(rt);
+    warn_above(*rt, &board);
     let shown = board.with_term(|term| term.map(|term| term.contents()));
-    let shown = shown.expect(&rt, "a terminal").expect(&rt, "granted");
+    let shown = shown.granted(rt).granted(rt);
     same!(rt; shown.as_str(), "a.txt\nWARN  low disk");
     same!(rt; board.with_record(Length), 0);
 }

@@ -1,4 +1,5 @@
 //! What a bar wraps.
+use crate::checks::Granted;
 use crate::documented_shared::bars::setup_of;
 use crate::fronts::Bar;
 use futures::Stream;
@@ -14,7 +15,7 @@ use tokio::io::{AsyncRead, AsyncWrite};
 
 /// Wraps a stream, which the bar goes along with.
 pub fn streamed<S: Stream + Drop, R: Wait + Clone + Drop + Abort>(rt: &R, bar: &Bar<R>, stream: S) {
-    let mut wrapped = bar.wrap_stream(stream).expect(rt, "granted");
+    let mut wrapped = bar.wrap_stream(stream).granted(rt);
 }
 
 /// Wraps a reader that is polled.
@@ -23,7 +24,7 @@ pub fn read_along<S: AsyncRead + Drop, R: Wait + Clone + Drop + Abort>(
     bar: &Bar<R>,
     socket: S,
 ) {
-    let mut wrapped = bar.wrap_async_read(socket).expect(rt, "granted");
+    let mut wrapped = bar.wrap_async_read(socket).granted(rt);
 }
 
 /// Wraps a writer that is polled.
@@ -32,13 +33,13 @@ pub fn written_along<S: AsyncWrite + Drop, R: Wait + Clone + Drop + Abort>(
     bar: &Bar<R>,
     socket: S,
 ) {
-    let mut wrapped = bar.wrap_async_write(socket).expect(rt, "granted");
+    let mut wrapped = bar.wrap_async_write(socket).granted(rt);
 }
 
 /// A bar of two steps, of its own, made from parts.
 fn own_of_two<R: Abort>(rt: &R, alloc: Global) -> OwnedBar<NoTracker, InMemoryTerm, StepClock> {
     let Setup { target, clock: _ } = setup_of(rt, alloc);
-    let state = BarState::new(alloc, Some(2), 0).expect(rt, "granted");
+    let state = BarState::new(alloc, Some(2), 0).granted(rt);
     let bar = OwnedBar::new(
         LoneBar::new(state, target),
         StepClock {
@@ -51,7 +52,7 @@ fn own_of_two<R: Abort>(rt: &R, alloc: Global) -> OwnedBar<NoTracker, InMemoryTe
 
 /// Two items, 7 and 8.
 fn two_items<R: Abort>(rt: &R, alloc: Global) -> Vec<u64> {
-    vec![in alloc; 7u64, 8].expect(rt, "granted")
+    vec![in alloc; 7u64, 8].granted(rt)
 }
 
 /// Goes through all items with a bar of any kind; how many there are, and the bar.
@@ -81,13 +82,15 @@ fn first_of<P: Moves + Drop>(list: Vec<u64>, bar: P) -> (Option<u64>, P) {
 
 #[test]
 fn a_bar_of_its_own_is_moved(rt: HostRuntime) {
-    let bar = own_of_two(&rt, rt.alloc());
-    let (first, mut bar) = first_of(two_items(&rt, rt.alloc()), bar);
+    let rt = &rt;
+    let alloc = rt.alloc();
+    let bar = own_of_two(rt, alloc);
+    let (first, mut bar) = first_of(two_items(rt, alloc), bar);
     same!(rt; first, Some(7));
     same!(rt; bar.reading().position, 1);
-    bar.make_move(Move::Advance(1)).expect(&rt, "granted");
+    bar.make_move(Move::Advance(1)).granted(rt);
     same!(rt; bar.reading().position, 2);
-    let (count, bar) = looped(two_items(&rt, rt.alloc()), own_of_two(&rt, rt.alloc()));
+    let (count, bar) = looped(two_items(rt, alloc), own_of_two(rt, alloc));
     same!(rt; count, 2);
     same!(rt; bar.reading().position, 2);
     holds!(rt; bar.reading().finished);
@@ -95,31 +98,26 @@ fn a_bar_of_its_own_is_moved(rt: HostRuntime) {
 
 #[test]
 fn all_items_of_a_list(rt: HostRuntime) {
+    let rt = &rt;
     let alloc = rt.alloc();
-    let list = two_items(&rt, alloc);
-    let term = InMemoryTerm::new(alloc, 4, 20).expect(&rt, "granted");
+    let list = two_items(rt, alloc);
+    let term = InMemoryTerm::new(alloc, 4, 20).granted(rt);
     let clock = StepClock { next: 0, step: 1 };
     let setup = Setup {
         target: ProgressDrawTarget::term_like(term),
         clock,
     };
-    let mut wrapped = list
-        .into_iter()
-        .progress(alloc, setup)
-        .expect(&rt, "granted");
+    let mut wrapped = list.into_iter().progress(alloc, setup).granted(rt);
     same!(rt; counted(&mut wrapped), 2);
 }
 
 #[test]
 fn the_first_item_of_a_list_of_known_length(rt: HostRuntime) {
+    let rt = &rt;
     let alloc = rt.alloc();
-    let list = two_items(&rt, alloc);
-    let setup = setup_of(&rt, alloc);
-    let Some(mut wrapped) = list
-        .into_iter()
-        .try_progress(alloc, setup)
-        .expect(&rt, "granted")
-    else {
+    let list = two_items(rt, alloc);
+    let setup = setup_of(rt, alloc);
+    let Some(mut wrapped) = list.into_iter().try_progress(alloc, setup).granted(rt) else {
         panic!(rt; "no bar is made")
     };
     same!(rt; wrapped.next(), Some(7));
