@@ -28,6 +28,9 @@ printf '%s\n' '#!/bin/sh' 'piece() { head -c 1M /dev/zero; sleep 0.2; }' 'for tu
   'for turn in 1 2 3 4; do piece; done' > "$folder/slow"
 chmod +x "$folder/slow"
 
+# the repository whose programs are built
+home=$root
+
 # built PROGRAM WORD ..: builds it, if a page names it, by running it with words at which it succeeds
 built() {
   local name=$1 printed
@@ -37,14 +40,25 @@ built() {
     ln -s "$PROGRAMS/$name" "$folder/$name"
     return
   fi
-  if ! printed=$(cd "$root/crates/$name" && rt run -- "$@" 2>&1 < /dev/null); then
+  if ! printed=$(cd "$home/crates/$name" && rt run -- "$@" 2>&1 < /dev/null); then
     printf '%s\n' "$printed" | tail -5 >&2
     exit 2
   fi
-  ln -s "$root/crates/$name/out/$name" "$folder/$name"
+  ln -s "$home/crates/$name/out/$name" "$folder/$name"
+}
+
+# the README's program, as `readme` of a repository with copies of the libraries
+built_readme() {
+  local copy=$folder/repository program=$folder/repository/crates/readme/src
+  mkdir -p "$program"
+  cp "$root/HANDLES" "$copy"
+  cp -r "$root"/crates/indicatif* "$copy/crates"
+  { grep '^indicatif' "$root/crates.txt"; echo 'readme may_wait=1: indicatif anyhow'; } > "$copy/crates.txt"
+  { echo '#![tactic(auto)]'; grep -v '^#\[test\]$' "$root/crates/front_tests/src/readme.rt"; } > "$program/main.rt"
+  home=$copy built readme
 }
 pages=("$@")
-built example_readme
+built_readme
 built examples fine
 built bars demo
 built meter --help

@@ -5,7 +5,7 @@ usage: tools/pages.py [--write]   (at the root of the repository)
 
 - Each row of a table of docs/TEMPLATES.md is one row of crates/rows/data/templates_page.txt, which `crates/rows` plays. Each key of
   crates/indicatif_bar/specs/Keys.antt has a row there, and each word of crates/indicatif_text/specs/StyleWords.antt stands on the page.
-- The README's program is that of crates/example_readme.
+- The README's program is that of crates/front_tests/src/readme.rt, but for `#[test]`.
 - Each call, clause, law and file that a table of docs/PROVED.md names is there; so are the edit and the callers of each row of its table
   of wrong bodies.
 - The same of docs/REFUSALS.md, which names each public call of the libraries: those of public types and traits, and free ones that a
@@ -44,6 +44,8 @@ HEAD = """# The tables of docs/TEMPLATES.md, written by tools/pages.py: one bar 
 """
 # columns, template, characters, colours, tab width, position, length, message, prefix, moment, whether finished
 BAR = ["40", None, "-", None, "8", "1500000", "6000000", "copying", "[1/3]", "10000000000", "0"]
+README = "crates/front_tests/src/readme.rt"
+README_HEAD = "use anyhow::Result;"
 PROVED = pathlib.Path("docs/PROVED.md")
 REFUSALS = pathlib.Path("docs/REFUSALS.md")
 LIBRARIES = ["indicatif_text", "indicatif_term", "indicatif_bar", "indicatif_board", "indicatif"]
@@ -114,7 +116,7 @@ def program(text, head):
     indent = len(lines[start]) - len(lines[start].lstrip())
     cut = [line[indent:] for line in lines[start:]]
     end = next(i for i, line in enumerate(cut) if line == "}")
-    return [line for line in cut[: end + 1] if not line.strip().startswith("//")]
+    return [line for line in cut[: end + 1] if not line.strip().startswith("//") and line != "#[test]"]
 
 
 # docs/PROVED.md
@@ -684,6 +686,8 @@ class Sources:
 
     def __init__(self):
         self.code = sources(["*/src/**/*.rt"], True)
+        # the README's program stands alone on the pages
+        self.code.append(bare(["#![tactic(auto)]", *program(read(README), README_HEAD)], True))
         self.spaceless = [without_space("\n".join(it)) for it in self.code]
         self.specs = sources(["*/specs/**/*.antt"], False)
         self.shown = sources(["*/stdout", "*rows/data/*.txt"], False)
@@ -838,9 +842,9 @@ def main():
     faults = []
     if not ROWS.exists() or ROWS.read_text(encoding="utf-8") != rows:
         faults.append(f"{ROWS} has other rows than {PAGE}: run tools/pages.py --write, and play them")
-    texts = [read(it) for it in ("README.md", "crates/example_readme/src/main.rt")]
-    if len({tuple(program(it, "use anyhow::Result;")) for it in texts}) != 1:
-        faults.append("README.md has another program than crates/example_readme")
+    texts = [read(it) for it in ("README.md", README)]
+    if len({tuple(program(it, README_HEAD)) for it in texts}) != 1:
+        faults.append(f"README.md has another program than {README}")
     if len(texts[0].splitlines()) > 90:
         faults.append("README.md has more than 90 lines")
     faults += faults_of_templates()

@@ -12,7 +12,8 @@
 //! - `machines`: what is asked of the machine. `made`: iterators that get a bar when they are wrapped.
 //! - `bridges`: lines of a log above a board's bars.
 //! - `carried`: tests of the crate `indicatif` that need code. `carried_tickers`: those of tickers. `carried_trackers`: those of trackers.
-//! - `counted`: threads that count for a bar. `documented_shared`: the examples of the documentation comments.
+//! - `counted`: threads that count for a bar. `documented_shared`: the examples of the documentation comments. `readme`: the README's
+//!   program.
 //! - `ticking`: a bar's ticker, looked at from outside. `intervals`: how often it ticks. `keyed`: shared bars with a key of the tests' own.
 //!   `odd_keys`: keys that write what no line holds.
 //! - `lists`: lists, block by block. `own_bars`: lists with a bar of their own. `pieces`: pieces in threads of their own. They use the bar
@@ -83,6 +84,8 @@ mod owners;
 mod pieces;
 #[cfg(test)]
 mod readers;
+#[cfg(test)]
+mod readme;
 #[cfg(test)]
 mod recordings;
 #[cfg(test)]
