@@ -27,7 +27,8 @@ usage: tools/pages.py [--write]   (at the root of the repository)
   crates/rows/data/program.txt, which gives the lines below it.
 - The lines of each example in a documentation comment of the libraries stand in one file of a program or a test that the gate runs: an
   `assert_eq!(a, b)` as that, as `same!(rt; a, b)` or as `a == b`, an `assert!(a)` as that, as `holds!(rt; a)` or as `a`, an
-  `assert!(a == b)` also as `same!(rt; a, b)`, a `?` as that or as `.granted(rt)`; `{ .. }` stands for any block.
+  `assert!(a == b)` also as `same!(rt; a, b)`, a `?` as that, as `.granted(rt)` or as `.expect(rt, "granted")`; `{ .. }` stands for any
+  block.
   The runtime may stand there by value or by reference, and `rt.alloc()` under a name.
 - What isn't compared here: blocks of `rust` (the Rust crate's code) and of `diagram`, other commands, and those of `gallery`, which
   have a picture that tools/gallery.sh compares.
@@ -762,7 +763,7 @@ def without_space(text):
     """Code without comments, white space, and commas before a bracket; asserts without the runtime; a test's checks as asserts and `?`."""
     text = re.sub(r"(^|\s)//.*$", "", text, flags=re.M)
     text = re.sub(r",([)\]}])", r"\1", re.sub(r"\s+", "", text))
-    text = re.sub(r"\.granted\(&?rt\)", "?", text)
+    text = re.sub(r'\.(granted\(&?rt|expect\(&?rt,"granted")\)', "?", text)
     text = re.sub(r"\bsame!\(\*?rt;", "assert_eq!(", text)
     text = re.sub(r"\bholds!\(\*?rt;", "assert!(", text)
     text = re.sub(r"(assert(?:_eq)?!\()rt;", r"\1", text)

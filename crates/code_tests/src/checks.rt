@@ -32,7 +32,7 @@ pub fn is_so_for<R: Abort>(rt: &R, case: &str, holds: bool) {
     }
 }
 
-/// What a test is sure to get.
+/// What a test is sure to get. (Where a call below asks something of the value, `expect` tells which one it is.)
 pub trait Granted<T> {
     /// The value; ends the test where there is none.
     fn granted<R: Abort>(self, rt: &R) -> T;

@@ -1,7 +1,6 @@
 //! Workers that add to one sum: in two threads, on one, and divided among many.
 ghost use Rattle.std.specs.Prelude.{◌≡◌, ◌+◌, All};
 
-use crate::checks::Granted;
 use indicatif_board::done::{BarWorker, Done};
 use std::process::Abort;
 use std::thread::join;
@@ -30,8 +29,8 @@ fn a_thousand_times(done: &Done, mut worker: BarWorker) -> Worked
 #[test]
 fn two_threads_add_a_thousand_times(rt: HostRuntime) {
     let rt = &rt;
-    let (done, worker) = Done::new(rt.alloc()).granted(rt);
-    let (mine, theirs) = worker.split(&done).granted(rt);
+    let (done, worker) = Done::new(rt.alloc()).expect(rt, "granted");
+    let (mine, theirs) = worker.split(&done).expect(rt, "granted");
     let (mine, theirs) = join(
         rt,
         || a_thousand_times(&done, mine),
@@ -46,8 +45,8 @@ fn two_threads_add_a_thousand_times(rt: HostRuntime) {
 #[test]
 fn a_total_is_read_from_the_shared_word(rt: HostRuntime) {
     let rt = &rt;
-    let (done, worker) = Done::new(rt.alloc()).granted(rt);
-    let (mut first, mut second) = worker.split(&done).granted(rt);
+    let (done, worker) = Done::new(rt.alloc()).expect(rt, "granted");
+    let (mut first, mut second) = worker.split(&done).expect(rt, "granted");
     first.add(&done, 5);
     same!(rt; second.total(&done), 5);
     second.add(&done, 2);
@@ -59,8 +58,8 @@ fn a_total_is_read_from_the_shared_word(rt: HostRuntime) {
 #[test]
 fn a_total_is_read_anew_each_time(rt: HostRuntime) {
     let rt = &rt;
-    let (done, worker) = Done::new(rt.alloc()).granted(rt);
-    let (mut first, mut second) = worker.split(&done).granted(rt);
+    let (done, worker) = Done::new(rt.alloc()).expect(rt, "granted");
+    let (mut first, mut second) = worker.split(&done).expect(rt, "granted");
     first.add(&done, 5);
     same!(rt; second.total(&done), 5);
     first.add(&done, 4);
@@ -72,7 +71,7 @@ fn a_total_is_read_anew_each_time(rt: HostRuntime) {
 #[test]
 fn a_sum_of_nothing_is_closed_at_once(rt: HostRuntime) {
     let rt = &rt;
-    let (done, mut worker) = Done::new(rt.alloc()).granted(rt);
+    let (done, mut worker) = Done::new(rt.alloc()).expect(rt, "granted");
     same!(rt; worker.total(&done), 0);
     same!(rt; done.close(worker), 0);
 }
@@ -80,9 +79,9 @@ fn a_sum_of_nothing_is_closed_at_once(rt: HostRuntime) {
 #[test]
 fn a_sum_wraps_at_2_to_the_64(rt: HostRuntime) {
     let rt = &rt;
-    let (done, mut worker) = Done::new(rt.alloc()).granted(rt);
+    let (done, mut worker) = Done::new(rt.alloc()).expect(rt, "granted");
     worker.add(&done, u64::MAX - 1);
-    let (mut first, mut second) = worker.split(&done).granted(rt);
+    let (mut first, mut second) = worker.split(&done).expect(rt, "granted");
     first.add(&done, 1);
     second.add(&done, 2);
     let mut worker = first.join(second, &done);
@@ -107,7 +106,7 @@ fn last_of_a_hundred_splits(rt: &impl Abort, done: &Done, worker: BarWorker) -> 
 #[test]
 fn a_hundred_splits_in_a_row(rt: HostRuntime) {
     let rt = &rt;
-    let (done, worker) = Done::new(rt.alloc()).granted(rt);
+    let (done, worker) = Done::new(rt.alloc()).expect(rt, "granted");
     let mut last = last_of_a_hundred_splits(rt, &done, worker);
     same!(rt; last.total(&done), 4950);
 }
@@ -125,9 +124,9 @@ fn each_adds_two(done: &Done, workers: Vec<BarWorker>)
 fn a_worker_for_each_piece(rt: HostRuntime) {
     let rt = &rt;
     let alloc = rt.alloc();
-    let (done, worker) = Done::new(alloc).granted(rt);
-    let (mut mine, theirs) = worker.split(&done).granted(rt);
-    let workers = theirs.split_among(alloc, &done, 99).granted(rt);
+    let (done, worker) = Done::new(alloc).expect(rt, "granted");
+    let (mut mine, theirs) = worker.split(&done).expect(rt, "granted");
+    let workers = theirs.split_among(alloc, &done, 99).expect(rt, "granted");
     same!(rt; workers.len(), 99);
     each_adds_two(&done, workers);
     same!(rt; mine.total(&done), 198);
@@ -137,9 +136,9 @@ fn a_worker_for_each_piece(rt: HostRuntime) {
 fn pieces_are_joined_again(rt: HostRuntime) {
     let rt = &rt;
     let alloc = rt.alloc();
-    let (done, mut worker) = Done::new(alloc).granted(rt);
+    let (done, mut worker) = Done::new(alloc).expect(rt, "granted");
     worker.add(&done, 3);
-    let workers = worker.split_among(alloc, &done, 5).granted(rt);
+    let workers = worker.split_among(alloc, &done, 5).expect(rt, "granted");
     let Some(mut all) = BarWorker::join_all(workers, &done) else {
         panic!(rt; "five workers are some")
     };

@@ -18,7 +18,7 @@ pub fn is_so<R: Abort>(rt: &R, holds: bool) {
     }
 }
 
-/// What a test is sure to get.
+/// What a test is sure to get. (Where a call below asks something of the value, `expect` tells which one it is.)
 pub trait Granted<T> {
     /// The value; ends the test where there is none.
     fn granted<R: Abort>(self, rt: &R) -> T;

@@ -180,7 +180,7 @@ fn copy_of_a_candidate(rt: HostRuntime) {
 fn sum_of_a_worker(rt: HostRuntime) {
     let rt = &rt;
     let alloc = rt.alloc();
-    let (done, mut worker) = Done::new(alloc).granted(rt);
+    let (done, mut worker) = Done::new(alloc).expect(rt, "granted");
     worker.add(&done, 5);
     same!(rt; done.close(worker), 5);
 }
