@@ -24,8 +24,8 @@ fn bar_at<R: Wait + Copy + Clone + Drop + Abort>(rt: R, alloc: Global, position:
 fn a_bar_absorbs_past_2_to_the_64(rt: HostRuntime) {
     let rt = &rt;
     let bar = bar_at(*rt, rt.alloc(), u64::MAX - 1);
-    let (done, worker) = bar.worker().granted(rt);
-    let (mut mine, mut theirs) = worker.split(&done).granted(rt);
+    let (done, worker) = bar.worker().expect(rt, "granted");
+    let (mut mine, mut theirs) = worker.split(&done).expect(rt, "granted");
     mine.add(&done, 1);
     theirs.add(&done, 2);
     same!(rt; bar.position(), u64::MAX - 1);
@@ -42,7 +42,7 @@ fn what_was_added_is_drawn(rt: HostRuntime) {
     let alloc = rt.alloc();
     let style = ProgressStyle::with_template(alloc, "{pos} done").granted(rt);
     let bar = bar_at(*rt, alloc, 0).with_style(style).granted(rt);
-    let (done, mut worker) = bar.worker().granted(rt);
+    let (done, mut worker) = bar.worker().expect(rt, "granted");
     worker.add(&done, 40);
     same!(rt; worker.total(&done), 40);
     worker.add(&done, 2);
@@ -67,8 +67,8 @@ fn a_thousand_times(done: &Done, mut worker: BarWorker) -> BarWorker
 fn two_threads_count_for_a_bar(rt: HostRuntime) {
     let rt = &rt;
     let bar = bar_at(*rt, rt.alloc(), 5);
-    let (done, worker) = bar.worker().granted(rt);
-    let (mine, theirs) = worker.split(&done).granted(rt);
+    let (done, worker) = bar.worker().expect(rt, "granted");
+    let (mine, theirs) = worker.split(&done).expect(rt, "granted");
     let (mine, theirs) = join(
         rt,
         || a_thousand_times(&done, mine),
@@ -84,11 +84,11 @@ fn pieces_over_a_shared_bar(rt: HostRuntime) {
     let rt = &rt;
     let alloc = rt.alloc();
     let pieces = vec![in alloc;
-        vec![in alloc; 1u32, 2].granted(rt),
-        vec![in alloc; 3u32].granted(rt),
+        vec![in alloc; 1u32, 2].expect(rt, "granted"),
+        vec![in alloc; 3u32].expect(rt, "granted"),
         Vec::new(alloc),
     ]
-    .granted(rt);
+    .expect(rt, "granted");
     let bar = bar_at(*rt, alloc, 0);
     let made = run_workers(
         rt,
@@ -98,7 +98,7 @@ fn pieces_over_a_shared_bar(rt: HostRuntime) {
         &Open,
         &bar,
     )
-    .granted(rt);
+    .expect(rt, "granted");
     same!(rt; made[0].as_slice(), [2, 4].as_slice());
     same!(rt; made[1].as_slice(), [6].as_slice());
     holds!(rt; made[2].is_empty());
@@ -106,7 +106,7 @@ fn pieces_over_a_shared_bar(rt: HostRuntime) {
     let mut owner = another_of(rt, &bar);
     let double = |x: &u32| x.wrapping_mul(2);
     let made = run_workers_with(rt, alloc, pieces.as_slice(), double, &Open, &mut owner);
-    same!(rt; made.granted(rt).len(), 3);
+    same!(rt; made.expect(rt, "granted").len(), 3);
     same!(rt; bar.position(), 6);
 }
 

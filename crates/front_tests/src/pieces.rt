@@ -43,11 +43,11 @@ fn answers_stand_in_the_order_of_the_pieces(rt: HostRuntime) {
     let rt = &rt;
     let alloc = rt.alloc();
     let pieces = vec![in alloc;
-        vec![in alloc; 1u32, 2].granted(rt),
-        vec![in alloc; 3u32].granted(rt),
+        vec![in alloc; 1u32, 2].expect(rt, "granted"),
+        vec![in alloc; 3u32].expect(rt, "granted"),
         Vec::new(alloc),
     ]
-    .granted(rt);
+    .expect(rt, "granted");
     let mut bar = bar_at(alloc, 0);
     let gate = Turnstile {
         passed: AtomicU64::new(0),
@@ -61,7 +61,7 @@ fn answers_stand_in_the_order_of_the_pieces(rt: HostRuntime) {
         &gate,
         &mut bar,
     )
-    .granted(rt);
+    .expect(rt, "granted");
     same!(rt; made.len(), 3);
     same!(rt; made[0].as_slice(), [2, 4].as_slice());
     same!(rt; made[1].as_slice(), [6].as_slice());
