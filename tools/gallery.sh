@@ -54,7 +54,7 @@ built_readme() {
   cp "$root/HANDLES" "$copy"
   cp -r "$root"/crates/indicatif* "$copy/crates"
   { grep '^indicatif' "$root/crates.txt"; echo 'readme may_wait=1: indicatif anyhow'; } > "$copy/crates.txt"
-  { echo '#![tactic(auto)]'; grep -v '^#\[test\]$' "$root/crates/front_tests/src/readme.rt"; } > "$program/main.rt"
+  { echo '#![tactic(auto)]'; grep -v '^#\[test\]$' "$root/crates/code_tests/src/readme.rt"; } > "$program/main.rt"
   home=$copy built readme
 }
 pages=("$@")

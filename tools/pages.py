@@ -5,7 +5,7 @@ usage: tools/pages.py [--write]   (at the root of the repository)
 
 - Each row of a table of docs/TEMPLATES.md is one row of crates/rows/data/templates_page.txt, which `crates/rows` plays. Each key of
   crates/indicatif_bar/specs/Keys.antt has a row there, and each word of crates/indicatif_text/specs/StyleWords.antt stands on the page.
-- The README's program is that of crates/front_tests/src/readme.rt, but for `#[test]`.
+- The README's program is that of crates/code_tests/src/readme.rt, but for `#[test]`.
 - Each call, clause, law and file that a table of docs/PROVED.md names is there; so are the edit and the callers of each row of its table
   of wrong bodies.
 - The same of docs/REFUSALS.md, which names each public call of the libraries: those of public types and traits, and free ones that a
@@ -45,7 +45,7 @@ HEAD = """# The tables of docs/TEMPLATES.md, written by tools/pages.py: one bar 
 """
 # columns, template, characters, colours, tab width, position, length, message, prefix, moment, whether finished
 BAR = ["40", None, "-", None, "8", "1500000", "6000000", "copying", "[1/3]", "10000000000", "0"]
-README = "crates/front_tests/src/readme.rt"
+README = "crates/code_tests/src/readme.rt"
 README_HEAD = "use anyhow::Result;"
 PROVED = pathlib.Path("docs/PROVED.md")
 REFUSALS = pathlib.Path("docs/REFUSALS.md")
@@ -417,10 +417,10 @@ def faults_of_values(page, rows):
 
 
 def stands_at(name, place):
-    """Whether a test stands in a file of rows, below its name, or in a module of front_tests."""
+    """Whether a test stands in a file of rows, below its name, or in a module of code_tests."""
     if place.endswith(".txt"):
         return re.search(rf"^# {name}\b", read(f"crates/rows/data/{place}"), re.M)
-    return re.search(rf"\bfn {name}\b", read(f"crates/front_tests/src/{place}.rt"))
+    return re.search(rf"\bfn {name}\b", read(f"crates/code_tests/src/{place}.rt"))
 
 
 def faults_of_carried(page):

@@ -1,7 +1,7 @@
 //! What a lone bar answers where each call of its terminal fails in turn, or where memory is refused; and boxed terminals.
 use crate::checks::Granted;
 use crate::failing_term::FailsOnce;
-use crate::shown::{SCRIPT, STILL, Shown, Step};
+use crate::lone_shown::{SCRIPT, STILL, Shown, Step};
 use indicatif_term::in_memory::{Cells, InMemoryTerm};
 use indicatif_term::term_like::{Term, TermLike};
 use indicatif_text::columns::{Drawn, Refusal};

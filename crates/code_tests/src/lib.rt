@@ -1,16 +1,38 @@
-//! Tests that need code. They have trackers, closures and terminals of their own, formatters with options in their `{}`, references that
-//! calls return, sums of workers, histories, and memory that is refused. All other tests are rows of data (crate `rows`). Expected values
-//! come from outside.
+//! Tests that need code: they have trackers, closures, threads, terminals and types of their own. All other tests are rows of data (crates
+//! `rows` and `front_rows`). Expected values come from outside.
+//!
+//! Of the four lower libraries:
 //!
 //! - `named`: each command of a bar as a call, compared with the same command as a value.
 //! - `values`: what bars and targets return, and closures that they take.
 //! - `faults`, `writers`: a terminal of which each call fails once, and a writer that fails at each byte; boxed terminals, buffers, want
-//!   of memory. `failing_term`: that terminal. `shown`: a bar on a terminal.
+//!   of memory. `failing_term`: that terminal. `lone_shown`: a bar on a terminal.
 //! - `histories`: boards that keep their history. `sums`: workers that add to one sum.
 //! - `played`: which lines of a file are rows, and which of them agree.
 //! - `styles`, `term`, `text`: keys of a template, what targets hand out, numbers and formatters. `words`: those of a command line.
-//! - `documented`: the examples of the libraries' documentation that say what comes.
-//! - `checks`: what `same!`, `holds!` and `granted` do.
+//! - `documented`: the examples of these libraries' documentation that say what comes.
+//!
+//! Of `indicatif`:
+//!
+//! - `fronts`: bars and boards for tests, and what they show. `recordings`: what a board has recorded.
+//! - `shown`: a terminal that others see. `owners`: what the last owner of a bar leaves there. `watched`: boards there, while a closure
+//!   runs, and where the cursor only moves. `bars`: bars in threads, pauses and bounds.
+//! - `boards`: boards that threads share. `records`: a board with its history that nobody shares.
+//! - `shared`: boards that make their bars, what is said of a wrapper's bar, and threads at one bar. `readers`: two readers of one bar.
+//!   `ways`: each way to make a bar.
+//! - `closures`: what is done under a lock. `given_up`: what threads of tickers give up, and calls that find no memory, over a runtime
+//!   that is counted (`lent`).
+//! - `machines`: what is asked of the machine. `made`: iterators that get a bar when they are wrapped.
+//! - `bridges`: lines of a log above a board's bars.
+//! - `carried`: tests of the crate `indicatif` that need code. `carried_tickers`: those of tickers. `carried_trackers`: those of trackers.
+//! - `counted`: threads that count for a bar. `documented_shared`: the examples of the documentation comments. `readme`: the README's
+//!   program.
+//! - `ticking`: a bar's ticker, looked at from outside. `intervals`: how often it ticks. `keyed`: shared bars with a key of the tests' own.
+//!   `odd_keys`: keys that write what no line holds.
+//! - `lists`: lists, block by block. `own_bars`: lists with a bar of their own. `pieces`: pieces in threads of their own. They use the bar
+//!   of `stepped`, and `gates`.
+//!
+//! `checks`: what `same!`, `holds!` and `granted` do.
 #![tactic(auto)]
 
 /// Whether a value is the one that is wanted.
@@ -30,21 +52,79 @@ macro_rules! holds {
 }
 
 #[cfg(test)]
+mod bars;
+#[cfg(test)]
+mod boards;
+#[cfg(test)]
+mod bridges;
+#[cfg(test)]
+mod carried;
+#[cfg(test)]
+mod carried_tickers;
+#[cfg(test)]
+mod carried_trackers;
+#[cfg(test)]
 mod checks;
 #[cfg(test)]
+mod closures;
+#[cfg(test)]
+mod counted;
+#[cfg(test)]
 mod documented;
+#[cfg(test)]
+mod documented_shared;
 #[cfg(test)]
 mod failing_term;
 #[cfg(test)]
 mod faults;
 #[cfg(test)]
+mod fronts;
+#[cfg(test)]
+mod gates;
+#[cfg(test)]
+mod given_up;
+#[cfg(test)]
 mod histories;
+#[cfg(test)]
+mod intervals;
+#[cfg(test)]
+mod keyed;
+#[cfg(test)]
+mod lent;
+#[cfg(test)]
+mod lists;
+#[cfg(test)]
+mod lone_shown;
+#[cfg(test)]
+mod machines;
+#[cfg(test)]
+mod made;
 #[cfg(test)]
 mod named;
 #[cfg(test)]
+mod odd_keys;
+#[cfg(test)]
+mod own_bars;
+#[cfg(test)]
+mod owners;
+#[cfg(test)]
+mod pieces;
+#[cfg(test)]
 mod played;
 #[cfg(test)]
+mod readers;
+#[cfg(test)]
+mod readme;
+#[cfg(test)]
+mod recordings;
+#[cfg(test)]
+mod records;
+#[cfg(test)]
+mod shared;
+#[cfg(test)]
 mod shown;
+#[cfg(test)]
+mod stepped;
 #[cfg(test)]
 mod styles;
 #[cfg(test)]
@@ -54,7 +134,13 @@ mod term;
 #[cfg(test)]
 mod text;
 #[cfg(test)]
+mod ticking;
+#[cfg(test)]
 mod values;
+#[cfg(test)]
+mod watched;
+#[cfg(test)]
+mod ways;
 #[cfg(test)]
 mod words;
 #[cfg(test)]

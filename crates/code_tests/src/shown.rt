@@ -1,70 +1,71 @@
-//! A bar on a terminal whose calls promise nothing here, so that a test of many calls is proved call by call: what the prover knows
-//! of one call isn't carried through all that follow it. It stands in a box, so that each way out of a test drops it by one call.
-use indicatif_bar::lone::LoneBar;
-use indicatif_bar::state::BarState;
-use indicatif_bar::style::{NoTracker, ProgressStyle};
-use indicatif_term::draw_target::ProgressDrawTarget;
-use indicatif_term::term_like::TermLike;
-use indicatif_text::columns::{Drawn, Refusal};
+//! A terminal that others see: a writer whose bytes stand under a lock.
+use crate::checks::Granted;
+use indicatif::{Cells, ProgressDrawTarget, Refusal, Setup, StepClock, Term};
 use std::alloc::Global;
+use std::io::{self, Write};
+use std::process::Abort;
+use std::sync::{Arc, Mutex, Wait};
 
-/// A bar on a terminal.
+/// A writer whose bytes stand under a lock.
 #[derive(Drop)]
-pub struct Shown<T: Drop> {
-    bar: Box<LoneBar<NoTracker, T>>,
+pub struct Shown<R: Wait + Drop> {
+    bytes: Bytes,
+    rt: R,
 }
 
-/// A record that says this.
-fn state_of(alloc: Global, message: &str) -> Result<BarState<NoTracker>, Refusal> {
-    let style = ProgressStyle::with_template(alloc, "{msg}")?;
-    let mut state = BarState::styled(alloc, style, None, 0)?;
-    state.set_message(message, 0)?;
-    Ok(state)
-}
+/// These bytes.
+pub type Bytes = Arc<Mutex<Vec<u8>>, Global>;
 
-impl<T: TermLike + Drop> Shown<T> {
-    /// A bar that says this on this terminal.
-    pub fn on(alloc: Global, message: &str, term: T) -> Result<Shown<T>, Refusal> {
-        let state = state_of(alloc, message)?;
-        let bar = Box::new(
-            alloc,
-            LoneBar::new(state, ProgressDrawTarget::term_like(term)),
-        )?;
-        Ok(Shown { bar })
-    }
-
-    /// The terminal.
-    pub fn term(&self) -> Option<&T> {
-        self.bar.term()
-    }
-
-    /// Makes a call.
-    pub fn makes(&mut self, step: Step) -> Result<Drawn, Refusal> {
-        match step {
-            Step::Tick => self.bar.tick(0),
-            Step::Message(text) => self.bar.set_message(text, 0),
-            Step::Log(text) => self.bar.println(text, 0),
+impl<R: Wait + Drop> Write for Shown<R> {
+    fn write(&mut self, buf: &[u8]) -> io::Result<usize> {
+        let mut bytes = self.bytes.lock(&self.rt);
+        match bytes.extend_from_slice(buf) {
+            Ok(()) => Ok(buf.len()),
+            Err(_) => Err(io::Error::from(io::ErrorKind::OutOfMemory)),
         }
     }
+
+    fn flush(&mut self) -> io::Result<()> {
+        Ok(())
+    }
 }
 
-/// A call of a bar.
-#[derive(Clone, Copy, Drop)]
-pub enum Step {
-    Tick,
-    Message(&'static str),
-    Log(&'static str),
+/// No bytes as yet.
+pub fn no_bytes<R: Abort>(rt: &R, alloc: Global) -> Bytes {
+    Arc::new(alloc, Mutex::new(Vec::new(alloc))).granted(rt)
 }
 
-/// The calls of a bar that first says `ab`, and the rows that each draw writes.
-pub const SCRIPT: &[(Step, &str)] = &[
-    (Step::Tick, "ab"),
-    (Step::Log("l1"), "l1\nab"),
-    (Step::Message("c\nd"), "c\nd"),
-    (Step::Log("l2"), "l2\nc\nd"),
-    (Step::Tick, "c\nd"),
-    (Step::Message("e"), "e"),
-];
+/// That terminal, of 4 rows and so many columns, with a clock that goes on by 1 with each reading.
+pub fn setup_on<R: Wait + Drop + Abort>(
+    rt: R,
+    bytes: &Bytes,
+    cols: u16,
+) -> Setup<Term<Shown<R>>, StepClock> {
+    let bytes = Arc::try_clone(bytes).granted(&rt);
+    let writer = Shown { bytes, rt };
+    Setup {
+        target: ProgressDrawTarget::term_like(Term::new(writer, 4, cols)),
+        clock: StepClock { next: 0, step: 1 },
+    }
+}
 
-/// The place in the script of the tick that changes no line: the log before it wrote all of them. Such a drawing writes nothing.
-pub const STILL: usize = 4;
+/// The window of 4 rows and 10 columns after these bytes.
+fn seen<R: Wait>(rt: &R, alloc: Global, bytes: &Mutex<Vec<u8>>) -> Result<String, Refusal> {
+    let mut cells = Box::new(alloc, Cells::new(alloc, 4, 10)?)?;
+    let fed = cells.feed(bytes.lock(rt).as_slice());
+    match fed {
+        Ok(()) => cells.contents(),
+        Err((_, refusal)) => Err(refusal),
+    }
+}
+
+/// Ends the test where something else stands in that window.
+pub fn is_seen<R: Wait + Abort>(rt: &R, alloc: Global, bytes: &Mutex<Vec<u8>>, wanted: &str) {
+    let text = seen(rt, alloc, bytes).granted(rt);
+    same!(rt; text.as_str(), wanted);
+}
+
+/// Ends the test where the bytes are others.
+pub fn is_written<R: Wait + Abort>(rt: &R, bytes: &Mutex<Vec<u8>>, wanted: &str) {
+    same!(rt; bytes.lock(rt).as_slice(), wanted.as_bytes());
+}

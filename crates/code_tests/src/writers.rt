@@ -1,6 +1,6 @@
 //! What a terminal hands on to its writer, and what it makes of the writer's answers.
 use crate::checks::Granted;
-use crate::shown::{SCRIPT, STILL, Shown, Step};
+use crate::lone_shown::{SCRIPT, STILL, Shown, Step};
 use indicatif_term::in_memory::Cells;
 use indicatif_term::term_like::{Term, TermLike};
 use indicatif_text::columns::{Drawn, Refusal};

@@ -1,0 +1,70 @@
+//! A bar on a terminal whose calls promise nothing here, so that a test of many calls is proved call by call: what the prover knows
+//! of one call isn't carried through all that follow it. It stands in a box, so that each way out of a test drops it by one call.
+use indicatif_bar::lone::LoneBar;
+use indicatif_bar::state::BarState;
+use indicatif_bar::style::{NoTracker, ProgressStyle};
+use indicatif_term::draw_target::ProgressDrawTarget;
+use indicatif_term::term_like::TermLike;
+use indicatif_text::columns::{Drawn, Refusal};
+use std::alloc::Global;
+
+/// A bar on a terminal.
+#[derive(Drop)]
+pub struct Shown<T: Drop> {
+    bar: Box<LoneBar<NoTracker, T>>,
+}
+
+/// A record that says this.
+fn state_of(alloc: Global, message: &str) -> Result<BarState<NoTracker>, Refusal> {
+    let style = ProgressStyle::with_template(alloc, "{msg}")?;
+    let mut state = BarState::styled(alloc, style, None, 0)?;
+    state.set_message(message, 0)?;
+    Ok(state)
+}
+
+impl<T: TermLike + Drop> Shown<T> {
+    /// A bar that says this on this terminal.
+    pub fn on(alloc: Global, message: &str, term: T) -> Result<Shown<T>, Refusal> {
+        let state = state_of(alloc, message)?;
+        let bar = Box::new(
+            alloc,
+            LoneBar::new(state, ProgressDrawTarget::term_like(term)),
+        )?;
+        Ok(Shown { bar })
+    }
+
+    /// The terminal.
+    pub fn term(&self) -> Option<&T> {
+        self.bar.term()
+    }
+
+    /// Makes a call.
+    pub fn makes(&mut self, step: Step) -> Result<Drawn, Refusal> {
+        match step {
+            Step::Tick => self.bar.tick(0),
+            Step::Message(text) => self.bar.set_message(text, 0),
+            Step::Log(text) => self.bar.println(text, 0),
+        }
+    }
+}
+
+/// A call of a bar.
+#[derive(Clone, Copy, Drop)]
+pub enum Step {
+    Tick,
+    Message(&'static str),
+    Log(&'static str),
+}
+
+/// The calls of a bar that first says `ab`, and the rows that each draw writes.
+pub const SCRIPT: &[(Step, &str)] = &[
+    (Step::Tick, "ab"),
+    (Step::Log("l1"), "l1\nab"),
+    (Step::Message("c\nd"), "c\nd"),
+    (Step::Log("l2"), "l2\nc\nd"),
+    (Step::Tick, "c\nd"),
+    (Step::Message("e"), "e"),
+];
+
+/// The place in the script of the tick that changes no line: the log before it wrote all of them. Such a drawing writes nothing.
+pub const STILL: usize = 4;
