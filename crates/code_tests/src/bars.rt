@@ -31,7 +31,7 @@ type Boxed = Box<dyn TermLike + Drop>;
 
 fn boxed_setup<R: Abort>(rt: &R, alloc: Global) -> Setup<Boxed, StepClock> {
     let term = InMemoryTerm::new(alloc, 4, 20).granted(rt);
-    let term: Boxed = Box::new(alloc, term).granted(rt);
+    let term: Boxed = Box::new(alloc, term).expect(rt, "granted");
     Setup {
         target: ProgressDrawTarget::term_like(term),
         clock: StepClock { next: 0, step: 0 },
@@ -43,7 +43,7 @@ fn a_boxed_terminal(rt: HostRuntime) {
     let rt = &rt;
     let alloc = rt.alloc();
     let setup = boxed_setup(rt, alloc);
-    let bar = ProgressBar::no_length(*rt, alloc, setup).granted(rt);
+    let bar = ProgressBar::no_length(*rt, alloc, setup).expect(rt, "granted");
     same!(rt; bar.inc(2), Ok(Drawn::Yes));
     same!(rt; bar.position(), 2);
 }
@@ -52,8 +52,8 @@ fn a_boxed_terminal(rt: HostRuntime) {
 fn record<R: Abort>(rt: &R, alloc: Global) -> Box<BarState<NoTracker>> {
     let style = ProgressStyle::with_template(alloc, "{spinner} {msg}").granted(rt);
     let style = style.tick_strings(&["-", "+", "ok"]).granted(rt);
-    let bar = BarState::styled(alloc, style, None, 0).granted(rt);
-    Box::new(alloc, bar).granted(rt)
+    let bar = BarState::styled(alloc, style, None, 0).expect(rt, "granted");
+    Box::new(alloc, bar).expect(rt, "granted")
 }
 
 /// The style of a record is read, and what is made of it, a style with two other texts, leaves the record as it is.
@@ -79,7 +79,7 @@ fn debug_texts(rt: HostRuntime) {
     let bar = alone(*rt, alloc, "{pos}");
     let text = format!(in alloc; "{bar:?}").granted(rt);
     same!(rt; text.as_str(), "ProgressBar");
-    let wrapped = bar.wrap_read("ab".as_bytes()).granted(rt);
+    let wrapped = bar.wrap_read("ab".as_bytes()).expect(rt, "granted");
     let text = format!(in alloc; "{wrapped:?}").granted(rt);
     let beginning = "ProgressBarIter { it: [97, 98], progress: ProgressBar, ";
     holds!(rt; text.as_str().starts_with(beginning));

@@ -73,7 +73,7 @@ fn a_board_crosses_threads(rt: HostRuntime) {
     let (own, rt) = (rt, &rt);
     let board = recorded(*rt, rt.alloc());
     crosses(&*board);
-    let other = board.clone().granted(rt);
+    let other = board.clone().expect(rt, "granted");
     let adds = move || adds_and_logs(&other, own, own.alloc(), "theirs");
     let child = thread::spawn(rt, adds).granted(rt);
     let mine = adds_and_logs(&board, *rt, rt.alloc(), "mine");
@@ -135,7 +135,7 @@ fn player_on<R: Wait + Copy + Clone + Drop + Abort>(
 ) -> Box<Player<R>> {
     let rt = &rt;
     let bar = bar_on(board, *rt, alloc, "bar");
-    Box::new(alloc, Player { bar, removals: 0 }).granted(rt)
+    Box::new(alloc, Player { bar, removals: 0 }).expect(rt, "granted")
 }
 
 impl<R: Wait + Copy + Clone + Drop + Abort> Player<R> {
@@ -150,8 +150,8 @@ impl<R: Wait + Copy + Clone + Drop + Abort> Player<R> {
         same!(rt; board.remove(&self.bar), Ok(()));
         self.removals = self.removals.saturating_add(1);
         let _ = self.bar.set_message("moved");
-        let owner = self.bar.clone().granted(rt);
-        self.bar = board.insert(0, owner).granted(rt);
+        let owner = self.bar.clone().expect(rt, "granted");
+        self.bar = board.insert(0, owner).expect(rt, "granted");
     }
 
     /// A call by a number.
@@ -170,8 +170,8 @@ fn toss<R: Wait + Copy + Clone + Drop + Abort>(board: &Shared<R>, rt: R, bar: &B
     let rt = &rt;
     same!(rt; board.remove(bar), Ok(()));
     let _ = bar.inc(1);
-    let owner = bar.clone().granted(rt);
-    let _ = board.add(owner).granted(rt);
+    let owner = bar.clone().expect(rt, "granted");
+    let _ = board.add(owner).expect(rt, "granted");
 }
 
 /// A board, and a bar of it that all threads have.
@@ -185,7 +185,7 @@ fn stage_on<R: Wait + Copy + Clone + Drop + Abort>(rt: R, alloc: Global) -> Box<
     let rt = &rt;
     let board = Box::into_inner(recorded(*rt, alloc));
     let common = bar_on(&board, *rt, alloc, "all");
-    Box::new(alloc, Stage { board, common }).granted(rt)
+    Box::new(alloc, Stage { board, common }).expect(rt, "granted")
 }
 
 /// A fixed generator of numbers: Marsaglia's xorshift of 64 bits, with the shifts 13, 7 and 17.

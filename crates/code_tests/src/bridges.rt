@@ -28,7 +28,7 @@ fn records_stand_above_the_bars(rt: HostRuntime) {
     let bar = bar_on(&board, *rt, alloc, "x");
     same!(rt; bar.tick(), Ok(Drawn::Yes));
     let before = counted(&board, Kind::Any);
-    let bridge = LogBridge::new((*board).clone().granted(rt));
+    let bridge = LogBridge::new((*board).clone().expect(rt, "granted"));
     warn_twice(&Logged::new(*rt, Level::Trace, bridge));
     same!(rt; counted(&board, Kind::Any).wrapping_sub(before), 2);
     same!(rt; counted(&board, Kind::Log("WARN  low disk")), 1);
@@ -69,7 +69,7 @@ fn two_threads_log_through_a_bridge(rt: HostRuntime) {
     let board = recorded(*rt, alloc);
     let one = bar_on(&board, *rt, alloc, "one");
     let other = bar_on(&board, *rt, alloc, "other");
-    let bridge = LogBridge::new((*board).clone().granted(rt));
+    let bridge = LogBridge::new((*board).clone().expect(rt, "granted"));
     let log = Logged::new(*rt, Level::Info, bridge);
     log_beside_ticks(rt, &log, (&one, &other));
     same!(rt; counted(&board, Kind::Log("INFO  mine")), 20);
@@ -89,7 +89,7 @@ fn log_each_level<L: Log>(rt: &L) {
 /// A filter lets warnings and errors through; how many records were missed.
 fn filtered<R: Wait + Copy + Clone + Drop + Abort>(rt: R, board: &Shared<R>) -> u64 {
     let rt = &rt;
-    let bridge = LogBridge::new(board.clone().granted(rt)).with_filter(LevelFilter::Warn);
+    let bridge = LogBridge::new(board.clone().expect(rt, "granted")).with_filter(LevelFilter::Warn);
     let log = Logged::new(*rt, Level::Trace, bridge);
     log_each_level(&log);
     log.sink().missed()
@@ -98,7 +98,7 @@ fn filtered<R: Wait + Copy + Clone + Drop + Abort>(rt: R, board: &Shared<R>) -> 
 /// The level may stand before each line of a text.
 fn on_each_line<R: Wait + Copy + Clone + Drop + Abort>(rt: R, board: &Shared<R>) {
     let rt = &rt;
-    let bridge = LogBridge::with_form(board.clone().granted(rt), LevelOnEachLine);
+    let bridge = LogBridge::with_form(board.clone().expect(rt, "granted"), LevelOnEachLine);
     log_each_level(&Logged::new(*rt, Level::Trace, bridge));
 }
 
@@ -114,7 +114,7 @@ impl LineForm for TextAlone {
 
 fn in_own_form<R: Wait + Copy + Clone + Drop + Abort>(rt: R, board: &Shared<R>) {
     let rt = &rt;
-    let bridge = LogBridge::with_form(board.clone().granted(rt), TextAlone);
+    let bridge = LogBridge::with_form(board.clone().expect(rt, "granted"), TextAlone);
     log_each_level(&Logged::new(*rt, Level::Trace, bridge));
 }
 
@@ -173,7 +173,7 @@ fn breaking_after<R: Wait + Copy + Clone + Drop + Abort>(
     let target = ProgressDrawTarget::term_like(Term::new(Wire { cells, left }, 4, 20));
     let clock = StepClock { next: 0, step: 1 };
     let board = MultiProgress::with_draw_target(*rt, alloc, target, clock, 1);
-    Box::new(alloc, board.granted(rt)).granted(rt)
+    Box::new(alloc, board.expect(rt, "granted")).expect(rt, "granted")
 }
 
 fn contents(term: Option<&Term<Wire>>) -> Option<String> {
@@ -185,7 +185,7 @@ fn contents(term: Option<&Term<Wire>>) -> Option<String> {
 fn a_record_that_failed_is_missed(rt: HostRuntime) {
     let rt = &rt;
     let board = breaking_after(*rt, rt.alloc(), 0);
-    let bridge = LogBridge::new((*board).clone().granted(rt));
+    let bridge = LogBridge::new((*board).clone().expect(rt, "granted"));
     let log = Logged::new(*rt, Level::Trace, bridge);
     warn!(log; "one");
     same!(rt; log.sink().missed(), 1);
@@ -202,9 +202,9 @@ type Own = Board<NoTracker, InMemoryTerm>;
 /// A board that shows the bar `x`.
 fn showing_x<R: Abort>(rt: &R, alloc: Global) -> Box<Own> {
     let style = ProgressStyle::with_template(alloc, "x").granted(rt);
-    let bar = BarState::styled(alloc, style, None, 0).granted(rt);
+    let bar = BarState::styled(alloc, style, None, 0).expect(rt, "granted");
     let board = Board::new(alloc, setup(rt, alloc, 20).target, 1);
-    let mut board = Box::new(alloc, board).granted(rt);
+    let mut board = Box::new(alloc, board).expect(rt, "granted");
     let _ = board.add(Candidate::New(bar));
     holds!(rt; board.redraw(0).is_ok());
     board
@@ -239,7 +239,7 @@ fn a_hidden_board_drops_lines(rt: HostRuntime) {
     let rt = &rt;
     let alloc = rt.alloc();
     let hidden = Board::new(alloc, ProgressDrawTarget::hidden(), 1);
-    let mut board: Box<Own> = Box::new(alloc, hidden).granted(rt);
+    let mut board: Box<Own> = Box::new(alloc, hidden).expect(rt, "granted");
     same!(rt; emit(alloc, &mut board, Level::Info, "i", 0), Ok(Drawn::Hidden));
     board.set_draw_target(setup(rt, alloc, 20).target);
     holds!(rt; board.redraw(0).is_ok());

@@ -26,7 +26,7 @@ pub fn setup<R: Abort>(rt: &R, alloc: Global) -> Setup<InMemoryTerm, StepClock> 
 /// A bar of this length that stands alone.
 fn bar_of<R: Wait + Copy + Clone + Drop + Abort>(rt: R, alloc: Global, len: u64) -> Bar<R> {
     let rt = &rt;
-    ProgressBar::new(*rt, alloc, len, setup(rt, alloc)).granted(rt)
+    ProgressBar::new(*rt, alloc, len, setup(rt, alloc)).expect(rt, "granted")
 }
 
 /// The same for generic code to move.
@@ -39,7 +39,7 @@ fn led_of<R: Wait + Copy + Clone + Drop + Abort>(rt: R, alloc: Global, len: u64)
 /// A board on such a terminal.
 pub fn board_on<R: Wait + Copy + Clone + Drop + Abort>(rt: R, alloc: Global) -> Shared<R> {
     let rt = &rt;
-    MultiProgress::new(*rt, alloc, setup(rt, alloc), 1).granted(rt)
+    MultiProgress::new(*rt, alloc, setup(rt, alloc), 1).expect(rt, "granted")
 }
 
 // ---- bars and boards
@@ -52,7 +52,11 @@ fn late_pb_drop(rt: HostRuntime) {
     let alloc = rt.alloc();
     let bar = bar_of(*rt, alloc, 10);
     let board = board_on(*rt, alloc);
-    drop(board.add(bar.clone().granted(rt)).granted(rt));
+    drop(
+        board
+            .add(bar.clone().expect(rt, "granted"))
+            .expect(rt, "granted"),
+    );
     holds!(rt; bar.tick().is_ok());
     let row = "░░░░░░░░░░░░░░░░░░░░░░░░░░░░░░░░░░░░░░░░░░░░░░░░░░░░░░░░░░░░░░░░░░░░░░░░░░░ 0/10";
     board_shows(rt, &board, row);
@@ -66,8 +70,8 @@ fn multi_is_hidden(rt: HostRuntime) {
         target: ProgressDrawTarget::hidden(),
         clock: StepClock { next: 0, step: 0 },
     };
-    let board = MultiProgress::new(*rt, alloc, hidden, 1).granted(rt);
-    let bar = board.add(bar_of(*rt, alloc, 100)).granted(rt);
+    let board = MultiProgress::new(*rt, alloc, hidden, 1).expect(rt, "granted");
+    let bar = board.add(bar_of(*rt, alloc, 100)).expect(rt, "granted");
     holds!(rt; board.is_hidden());
     holds!(rt; bar.is_hidden());
 }
@@ -80,7 +84,7 @@ fn progress_bar_sync_send(rt: HostRuntime) {
     let alloc = rt.alloc();
     let bar = bar_of(*rt, alloc, 1);
     crosses(&bar);
-    let weak = bar.downgrade().granted(rt);
+    let weak = bar.downgrade().expect(rt, "granted");
     crosses(&weak);
     let board = board_on(*rt, alloc);
     crosses(&board);
@@ -97,7 +101,7 @@ fn test_weak_pb(rt: HostRuntime) {
     let rt = &rt;
     let alloc = rt.alloc();
     let bar = bar_of(*rt, alloc, 0);
-    let weak = Box::new(alloc, bar.downgrade().granted(rt)).granted(rt);
+    let weak = Box::new(alloc, bar.downgrade().expect(rt, "granted")).expect(rt, "granted");
     holds!(rt; is_there(&weak));
     drop(bar);
     holds!(rt; !is_there(&weak));
@@ -109,7 +113,7 @@ fn multi_progress_println_bar_with_target(rt: HostRuntime) {
     let rt = &rt;
     let alloc = rt.alloc();
     let board = board_on(*rt, alloc);
-    let bar = board.add(bar_of(*rt, alloc, 10)).granted(rt);
+    let bar = board.add(bar_of(*rt, alloc, 10)).expect(rt, "granted");
     board_shows(rt, &board, "");
     holds!(rt; bar.println("message printed :)").is_ok());
     holds!(rt; bar.inc(2).is_ok());
@@ -177,7 +181,7 @@ fn doubles<R: Abort, P: Moves + Drop>(
 
 /// The same of a list with a bar of its own.
 fn owned_doubles<R: Abort>(rt: &R, alloc: Global, list: Result<Owned, Refusal>) {
-    let mut list = Box::new(alloc, list.granted(rt)).granted(rt);
+    let mut list = Box::new(alloc, list.expect(rt, "granted")).expect(rt, "granted");
     doubles(rt, alloc, &mut list);
 }
 
@@ -236,7 +240,7 @@ fn it_can_wrap_a_reader(rt: HostRuntime) {
     let alloc = rt.alloc();
     let bar = bar_of(*rt, alloc, 34);
     let bytes = READ.as_bytes();
-    let mut wrapped = bar.wrap_read(bytes).granted(rt);
+    let mut wrapped = bar.wrap_read(bytes).expect(rt, "granted");
     same!(rt; read(rt, alloc, &mut wrapped).as_slice(), bytes);
     same!(rt; bar.position(), 34);
 }
@@ -255,7 +259,7 @@ fn it_can_wrap_a_writer(rt: HostRuntime) {
     let rt = &rt;
     let alloc = rt.alloc();
     let bar = bar_of(*rt, alloc, 26);
-    let mut wrapped = bar.wrap_write(Vec::new(alloc)).granted(rt);
+    let mut wrapped = bar.wrap_write(Vec::new(alloc)).expect(rt, "granted");
     write(rt, &mut wrapped);
     let (written, _) = wrapped.into_inner();
     same!(rt; written.as_slice(), TEXT_READ.as_bytes());

@@ -56,7 +56,7 @@ fn ticking<R: Wait + Threads + time::Clock + Copy + Clone + Drop + Abort + Send 
         target: ProgressDrawTarget::term_like(term),
         clock: StepClock { next: 0, step: 0 },
     };
-    let bar = ProgressBar::new_spinner(rt, alloc, setup).granted(&rt);
+    let bar = ProgressBar::new_spinner(rt, alloc, setup).expect(&rt, "granted");
     same!(&rt; bar.enable_steady_tick(50 * MILLISECOND), Ok(()));
     bar
 }
@@ -99,7 +99,7 @@ fn ticker_thread_terminates_on_drop_2(rt: HostRuntime) {
     let alloc = rt.alloc();
     let writes = no_writes(rt, alloc);
     let bar = ticking(*rt, alloc, &writes);
-    let other = bar.clone().granted(rt);
+    let other = bar.clone().expect(rt, "granted");
     goes_on(rt, &bar);
     drop(bar);
     goes_on(rt, &other);
@@ -113,10 +113,10 @@ fn ticker_thread_terminates_on_drop_2(rt: HostRuntime) {
 fn saying<R: Wait + Copy + Clone + Drop + Abort>(rt: R, alloc: Global, text: &str) -> Bar<R> {
     let rt = &rt;
     let clock = StepClock { next: 0, step: 0 };
-    let spinner = ProgressBar::hidden(*rt, alloc, clock).granted(rt);
+    let spinner = ProgressBar::hidden(*rt, alloc, clock).expect(rt, "granted");
     let style = ProgressStyle::default_spinner(alloc).granted(rt);
-    let spinner = spinner.with_style(style).granted(rt);
-    spinner.with_message(text).granted(rt)
+    let spinner = spinner.with_style(style).expect(rt, "granted");
+    spinner.with_message(text).expect(rt, "granted")
 }
 
 /// A spinner on the board that stays once its owner is dropped, with a ticker of 100 milliseconds.
@@ -129,7 +129,9 @@ fn staying<R: Wait + Threads + time::Clock + Copy + Clone + Drop + Abort + Send 
     let rt = &rt;
     let text = format!(in alloc; "doing stuff {number}").granted(rt);
     let spinner = saying(*rt, alloc, text.as_str()).with_finish(ProgressFinish::AndLeave);
-    let spinner = board.add(spinner.granted(rt)).granted(rt);
+    let spinner = board
+        .add(spinner.expect(rt, "granted"))
+        .expect(rt, "granted");
     same!(rt; spinner.enable_steady_tick(100 * MILLISECOND), Ok(()));
     spinner
 }

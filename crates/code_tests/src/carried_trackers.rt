@@ -36,7 +36,7 @@ fn with_key<R: Abort>(
     (name, text): (&str, &'static str),
 ) -> Look {
     let tracker = FnTracker::new(alloc, Says { alloc, text }).granted(rt);
-    look.with_key(name, tracker).granted(rt)
+    look.with_key(name, tracker).expect(rt, "granted")
 }
 
 /// The style of a template, with colours or without.
@@ -47,7 +47,7 @@ fn look_of<R: Abort>(rt: &R, alloc: Global, template: &str, colours: bool) -> Lo
 
 /// The one line of a bar of 10 in this style is this, on 80 columns.
 fn shows<R: Abort>(rt: &R, alloc: Global, look: Look, wanted: &str) {
-    let bar = BarState::styled(alloc, look, Some(10), 0).granted(rt);
+    let bar = BarState::styled(alloc, look, Some(10), 0).expect(rt, "granted");
     is_line(rt, &bar, 80, wanted);
 }
 
@@ -156,10 +156,10 @@ fn tracked<R: Abort>(rt: &R, alloc: Global) -> Box<BarState<TestTracker>> {
         pos: 0,
     };
     let style = ProgressStyle::with_template(alloc, "{{ {foo} }}").granted(rt);
-    let style = style.with_key("foo", tracker).granted(rt);
+    let style = style.with_key("foo", tracker).expect(rt, "granted");
     let style = style.progress_chars("#>-").granted(rt);
-    let bar = BarState::styled(alloc, style, Some(1), 0).granted(rt);
-    Box::new(alloc, bar).granted(rt)
+    let bar = BarState::styled(alloc, style, Some(1), 0).expect(rt, "granted");
+    Box::new(alloc, bar).expect(rt, "granted")
 }
 
 #[test]

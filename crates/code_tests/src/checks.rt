@@ -32,7 +32,8 @@ pub fn is_so_for<R: Abort>(rt: &R, case: &str, holds: bool) {
     }
 }
 
-/// What a test is sure to get. (Where a call below asks something of the value, `expect` tells which one it is.)
+/// What a test is sure to get. A test calls `expect` where a call below it asks something of the value, and for a value whose type has
+/// parameters, as a shared bar: there a trait's call takes longer to prove.
 pub trait Granted<T> {
     /// The value; ends the test where there is none.
     fn granted<R: Abort>(self, rt: &R) -> T;

@@ -16,8 +16,8 @@ use std::thread::join;
 /// A bar without a length at this position, on a terminal of 4 rows and 20 columns.
 fn bar_at<R: Wait + Copy + Clone + Drop + Abort>(rt: R, alloc: Global, position: u64) -> Bar<R> {
     let rt = &rt;
-    let bar = ProgressBar::no_length(*rt, alloc, setup(rt, alloc, 20)).granted(rt);
-    bar.with_position(position).granted(rt)
+    let bar = ProgressBar::no_length(*rt, alloc, setup(rt, alloc, 20)).expect(rt, "granted");
+    bar.with_position(position).expect(rt, "granted")
 }
 
 #[test]
@@ -41,7 +41,9 @@ fn what_was_added_is_drawn(rt: HostRuntime) {
     let rt = &rt;
     let alloc = rt.alloc();
     let style = ProgressStyle::with_template(alloc, "{pos} done").granted(rt);
-    let bar = bar_at(*rt, alloc, 0).with_style(style).granted(rt);
+    let bar = bar_at(*rt, alloc, 0)
+        .with_style(style)
+        .expect(rt, "granted");
     let (done, mut worker) = bar.worker().expect(rt, "granted");
     worker.add(&done, 40);
     same!(rt; worker.total(&done), 40);

@@ -37,7 +37,7 @@ impl<R: Wait + Clone + Drop> Moves for Led<R> {
 
 /// Another owner of a bar.
 pub fn another_of<R: Wait + Copy + Clone + Drop + Abort>(rt: &R, bar: &Bar<R>) -> Led<R> {
-    let bar = bar.clone().granted(rt);
+    let bar = bar.clone().expect(rt, "granted");
     Led { bar }
 }
 
@@ -62,8 +62,8 @@ pub fn setup<R: Abort>(rt: &R, alloc: Global, cols: u16) -> Setup<InMemoryTerm, 
 pub fn recorded<R: Wait + Copy + Clone + Drop + Abort>(rt: R, alloc: Global) -> Box<Shared<R>> {
     let rt = &rt;
     let Setup { target, clock } = setup(rt, alloc, 10);
-    let board = MultiProgress::recorded(*rt, alloc, target, clock, 1).granted(rt);
-    Box::new(alloc, board).granted(rt)
+    let board = MultiProgress::recorded(*rt, alloc, target, clock, 1).expect(rt, "granted");
+    Box::new(alloc, board).expect(rt, "granted")
 }
 
 /// A bar that stands alone, in the style of a template.
@@ -73,9 +73,9 @@ pub fn alone<R: Wait + Copy + Clone + Drop + Abort>(
     template: &str,
 ) -> Bar<R> {
     let rt = &rt;
-    let bar = ProgressBar::no_length(*rt, alloc, setup(rt, alloc, 10)).granted(rt);
+    let bar = ProgressBar::no_length(*rt, alloc, setup(rt, alloc, 10)).expect(rt, "granted");
     let style = ProgressStyle::with_template(alloc, template).granted(rt);
-    bar.with_style(style).granted(rt)
+    bar.with_style(style).expect(rt, "granted")
 }
 
 /// A bar behind all others of a board, whose one line is this text.
@@ -87,7 +87,7 @@ pub fn bar_on<R: Wait + Copy + Clone + Drop + Abort>(
 ) -> Bar<R> {
     let rt = &rt;
     let bar = alone(*rt, alloc, "{msg}").with_message(text);
-    board.add(bar.granted(rt)).granted(rt)
+    board.add(bar.expect(rt, "granted")).expect(rt, "granted")
 }
 
 /// What stands on a terminal.

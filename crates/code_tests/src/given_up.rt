@@ -1,5 +1,4 @@
 //! What is given up: by threads of tickers that are told to end, and by calls that find no memory for another owner.
-use crate::checks::Granted;
 use crate::fronts::setup;
 use crate::lent::{Count, Lent, first};
 use crate::ticking::{tick_off, ticks_on};
@@ -21,7 +20,7 @@ fn counted_bar<R: Wait + Copy + Drop + Abort>(
     let rt = &rt;
     let (lent, count) = first(*rt, alloc);
     let bar = ProgressBar::no_length(lent, alloc, setup(rt, alloc, 10));
-    (bar.granted(rt), count)
+    (bar.expect(rt, "granted"), count)
 }
 
 // ---- threads of tickers
@@ -75,15 +74,15 @@ fn threads_of_tickers_end(rt: HostRuntime) {
 fn no_memory_for_another_owner(rt: HostRuntime) {
     let rt = &rt;
     let (bar, count) = counted_bar(*rt, rt.alloc());
-    let weak = bar.downgrade().granted(rt);
+    let weak = bar.downgrade().expect(rt, "granted");
     count.refuse(true);
     holds!(rt; weak.upgrade().is_err());
     holds!(rt; bar.clone().is_err());
     holds!(rt; bar.downgrade().is_err());
     count.refuse(false);
-    holds!(rt; weak.upgrade().granted(rt).is_some());
+    holds!(rt; weak.upgrade().expect(rt, "granted").is_some());
     bar.release();
-    holds!(rt; weak.upgrade().granted(rt).is_none());
+    holds!(rt; weak.upgrade().expect(rt, "granted").is_none());
     drop(weak);
     same!(rt; count.living(), 0);
 }

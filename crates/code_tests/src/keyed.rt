@@ -64,8 +64,8 @@ fn files<R: Wait + Copy + Clone + Drop + Abort>(rt: R, alloc: Global) -> Keyed<R
     let rt = &rt;
     let setup = setup(alloc).granted(rt);
     let style = style(alloc).granted(rt);
-    let bar = ProgressBar::styled(*rt, alloc, style, Some(10), setup).granted(rt);
-    bar.with_message("files").granted(rt)
+    let bar = ProgressBar::styled(*rt, alloc, style, Some(10), setup).expect(rt, "granted");
+    bar.with_message("files").expect(rt, "granted")
 }
 
 /// It follows the position, whoever owns the bar, and stays at 0 past the end. Another thread moves the bar, and then the key with it. A style
@@ -74,7 +74,7 @@ fn files<R: Wait + Copy + Clone + Drop + Abort>(rt: R, alloc: Global) -> Keyed<R
 fn what_is_left(rt: HostRuntime) {
     let rt = &rt;
     let bar = files(*rt, rt.alloc());
-    let other = bar.clone().granted(rt);
+    let other = bar.clone().expect(rt, "granted");
     for (position, wanted) in [(12, "files 0"), (3, "files 7"), (0, "files 10")] {
         holds!(rt; other.set_position(position).is_ok());
         bar_shows(rt, &bar, wanted);
@@ -96,20 +96,23 @@ fn made_by<R: Wait + Copy + Clone + Drop + Abort>(
     alloc: Global,
 ) -> Keyed<R> {
     let rt = &rt;
-    let bar = board.new_bar(10).granted(rt);
+    let bar = board.new_bar(10).expect(rt, "granted");
     let style = style(alloc).granted(rt);
-    let bar = bar.with_style(style).granted(rt);
-    bar.with_message("a").granted(rt)
+    let bar = bar.with_style(style).expect(rt, "granted");
+    bar.with_message("a").expect(rt, "granted")
 }
 
 /// The second of a board's two bars moves by 2.
 fn shows_two<R: Wait + Copy + Clone + Drop + Abort>(rt: R, alloc: Global) {
     let rt = &rt;
-    let board: Several<R> = MultiProgress::keyed(*rt, alloc, setup(alloc).granted(rt), 1).granted(
-        rt,
-    );
+    let board: Several<R> = MultiProgress::keyed(
+        *rt,
+        alloc,
+        setup(alloc).expect(rt, "granted"),
+        1,
+    ).granted(rt);
     let first = made_by(&board, *rt, alloc);
-    let second = board.add(files(*rt, alloc)).granted(rt);
+    let second = board.add(files(*rt, alloc)).expect(rt, "granted");
     holds!(rt; first.tick().is_ok());
     holds!(rt; second.inc(2).is_ok());
     board_shows(rt, &board, "a 10\nfiles 8");
@@ -129,7 +132,7 @@ fn in_a_loop(rt: HostRuntime) {
     let setup = setup(alloc).granted(rt);
     let style = style(alloc).granted(rt);
     let wrapped = items.progress_with_style(alloc, style, setup);
-    let mut wrapped = Box::new(alloc, wrapped.granted(rt)).granted(rt);
+    let mut wrapped = Box::new(alloc, wrapped.expect(rt, "granted")).expect(rt, "granted");
     let _ = wrapped.next();
     let _ = wrapped.next();
     let text = contents(wrapped.progress.bar().term()).granted(rt);

@@ -280,7 +280,7 @@ fn shared_bar<R: Wait + Copy + Clone + Drop + Abort>(rt: R, alloc: Global) -> Ba
         target: ProgressDrawTarget::hidden(),
         clock: StepClock { next: 0, step: 1 },
     };
-    ProgressBar::new(*rt, alloc, 40, setup).granted(rt)
+    ProgressBar::new(*rt, alloc, 40, setup).expect(rt, "granted")
 }
 
 /// Whether one who looks at a shared bar so often sees it within a block of four.

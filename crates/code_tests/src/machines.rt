@@ -87,7 +87,7 @@ fn the_programs_own_streams(rt: HostRuntime) {
     same!(rt; setup.target.is_hidden(), out);
     let err = is_hidden_by(&facts_of(rt, &rt.stderr()).granted(rt));
     same!(rt; on_stderr(rt).granted(rt).target.is_hidden(), err);
-    let board = board_on(*rt, on_stderr(rt).granted(rt)).granted(rt);
+    let board = board_on(*rt, on_stderr(rt).expect(rt, "granted")).expect(rt, "granted");
     same!(rt; board.is_hidden(), err);
 }
 
@@ -98,8 +98,8 @@ fn board_on<R: Shares>(rt: R, setup: StderrSetup) -> Result<StderrBoard<R>, Refu
 
 /// A bar with the message `x` has this one line in a style.
 fn shows<R: Abort>(rt: &R, alloc: Global, style: ProgressStyle<NoTracker>, wanted: &str) {
-    let bar = BarState::styled(alloc, style, None, 0).granted(rt);
-    let mut bar = Box::new(alloc, bar).granted(rt);
+    let bar = BarState::styled(alloc, style, None, 0).expect(rt, "granted");
+    let mut bar = Box::new(alloc, bar).expect(rt, "granted");
     holds!(rt; bar.set_message("x", 0).is_ok());
     let lines = bar.lines(0, 20).granted(rt);
     same!(rt; lines.len(), 1);
@@ -132,7 +132,7 @@ fn bar_of<R: Abort>(rt: &R, alloc: Global, setup: TerminalSetup<Vec<u8>>) -> Tim
     let Setup { target, mut clock } = setup;
     let now = clock.now();
     let state = BarState::new(alloc, None, now).granted(rt);
-    let bar = Box::new(alloc, LoneBar::new(state, target)).granted(rt);
+    let bar = Box::new(alloc, LoneBar::new(state, target)).expect(rt, "granted");
     Timed { bar, now }
 }
 
@@ -217,7 +217,7 @@ fn a_bar_by_a_clock_of_a_machine(rt: HostRuntime) {
         *rt,
         rt.alloc(),
         clock,
-    ).granted(rt);
+    ).expect(rt, "granted");
     holds!(rt; bar.set_elapsed(HOUR).is_ok());
     same!(rt; bar.elapsed(), HOUR);
     same!(rt; bar.set_elapsed(HOUR + 1), Err(Refusal::ElapsedBeyondClock));

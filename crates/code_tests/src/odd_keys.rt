@@ -26,9 +26,11 @@ fn saying<R: Wait + Copy + Clone + Drop + Abort>(
     let rt = &rt;
     let key = FnTracker::new(alloc, Says { alloc, text }).granted(rt);
     let style = ProgressStyle::with_template(alloc, "{t}").granted(rt);
-    let style = style.with_key("t", key).granted(rt);
+    let style = style.with_key("t", key).expect(rt, "granted");
     let bar = ProgressBar::styled(*rt, alloc, style, Some(4), setup(rt, alloc, 10));
-    bar.granted(rt).with_tab_width(2).granted(rt)
+    bar.expect(rt, "granted")
+        .with_tab_width(2)
+        .expect(rt, "granted")
 }
 
 /// Makes the calls of a history on a fresh board, where they answer the same; what it shows then.
@@ -50,7 +52,7 @@ impl<R: Abort + Drop> RecordReader<InMemoryTerm, Telling> for PlaysAgain<R> {
 fn played_again<R: Abort>(rt: &R, alloc: Global, recorded: &Recording) -> String {
     let target = target(alloc).granted(rt);
     let board = Board::new(alloc, target, recorded.opening().board_id);
-    let mut fresh = Box::new(alloc, board).granted(rt);
+    let mut fresh = Box::new(alloc, board).expect(rt, "granted");
     answers_so(rt, &mut fresh, alloc, recorded.entries());
     contents(fresh.term()).granted(rt)
 }
@@ -63,8 +65,8 @@ fn shown<R: Wait + Copy + Clone + Drop + Abort>(
 ) -> (String, String) {
     let rt = &rt;
     let board = MultiProgress::keyed_recorded(*rt, alloc, setup(rt, alloc, 10), 1);
-    let board: Box<Shared<R>> = Box::new(alloc, board.granted(rt)).granted(rt);
-    let bar = board.add(saying(*rt, alloc, text)).granted(rt);
+    let board: Box<Shared<R>> = Box::new(alloc, board.expect(rt, "granted")).expect(rt, "granted");
+    let bar = board.add(saying(*rt, alloc, text)).expect(rt, "granted");
     same!(rt; bar.tick(), Ok(Drawn::Yes));
     let shown = board.with_term(|term| contents(term)).granted(rt);
     (shown, board.with_record(PlaysAgain { rt: *rt, alloc }))

@@ -19,9 +19,9 @@ fn bar_on<R: Wait + Copy + Clone + Drop + Abort>(
     template: &str,
 ) -> Bar<R> {
     let rt = &rt;
-    let bar = ProgressBar::new(*rt, alloc, 10, setup_on(*rt, bytes, 10)).granted(rt);
+    let bar = ProgressBar::new(*rt, alloc, 10, setup_on(*rt, bytes, 10)).expect(rt, "granted");
     let style = ProgressStyle::with_template(alloc, template).granted(rt);
-    bar.with_style(style).granted(rt)
+    bar.with_style(style).expect(rt, "granted")
 }
 
 // ---- owners
@@ -35,7 +35,7 @@ fn ending<R: Wait + Copy + Clone + Drop + Abort>(
 ) -> Bar<R> {
     let rt = &rt;
     let bar = bar_on(*rt, alloc, bytes, "{pos}/{len}");
-    bar.with_finish(finish).granted(rt)
+    bar.with_finish(finish).expect(rt, "granted")
 }
 
 /// An owner that isn't the last leaves the bar as it is, and the last one finishes it by its stored finish.
@@ -45,7 +45,7 @@ fn the_last_release_finishes(rt: HostRuntime) {
     let alloc = rt.alloc();
     let bytes = no_bytes(rt, alloc);
     let bar = ending(*rt, alloc, &bytes, ProgressFinish::AndLeave);
-    let other = bar.clone().granted(rt);
+    let other = bar.clone().expect(rt, "granted");
     same!(rt; bar.set_position(3), Ok(Drawn::Yes));
     bar.release();
     holds!(rt; !other.is_finished());
@@ -89,7 +89,7 @@ fn board_on<R: Wait + Copy + Clone + Drop + Abort>(
     bytes: &Bytes,
 ) -> MultiProgress<Term<Shown<R>>, StepClock, R> {
     let rt = &rt;
-    MultiProgress::new(*rt, alloc, setup_on(*rt, bytes, 10), 1).granted(rt)
+    MultiProgress::new(*rt, alloc, setup_on(*rt, bytes, 10), 1).expect(rt, "granted")
 }
 
 /// What a bar drew on its own target stays there: once it has another one, and once a board has taken it in.
@@ -106,7 +106,7 @@ fn what_was_drawn_stays(rt: HostRuntime) {
     same!(rt; bar.set_position(2), Ok(Drawn::Yes));
     let third = no_bytes(rt, alloc);
     let board = board_on(*rt, alloc, &third);
-    let bar = board.add(bar).granted(rt);
+    let bar = board.add(bar).expect(rt, "granted");
     same!(rt; bar.set_position(3), Ok(Drawn::Yes));
     is_seen(rt, alloc, &first, "1");
     is_seen(rt, alloc, &second, "2");
@@ -131,8 +131,8 @@ fn threads_advance_through_clones(rt: HostRuntime) {
     let rt = &rt;
     let bytes = no_bytes(rt, rt.alloc());
     let bar = bar_on(*rt, rt.alloc(), &bytes, "{pos}");
-    let other = bar.clone().granted(rt);
-    let third = bar.clone().granted(rt);
+    let other = bar.clone().expect(rt, "granted");
+    let third = bar.clone().expect(rt, "granted");
     let child = thread::spawn(rt, move || advance(&third, 500)).granted(rt);
     let refused = join(rt, || advance(&bar, 250), || advance(&other, 250));
     same!(rt; refused, (0, 0));
@@ -152,7 +152,7 @@ fn two_threads_tick(rt: HostRuntime) {
     same!(rt; bar.set_message("hello"), Ok(Drawn::Yes));
     same!(rt; bar.tick(), Ok(Drawn::Yes));
     same!(rt; bar.set_message("progress bars"), Ok(Drawn::Yes));
-    let other = bar.clone().granted(rt);
+    let other = bar.clone().expect(rt, "granted");
     let ticked = join(rt, || bar.tick().is_ok(), || other.tick().is_ok());
     same!(rt; ticked, (true, true));
     is_seen(rt, alloc, &bytes, "progress b\nars");

@@ -1,6 +1,5 @@
 //! Two threads that read through wrappers of one bar. (Each makes its own wrapper: a function that owns two is more than the prover can
 //! hold.)
-use crate::checks::Granted;
 use crate::fronts::{Bar, setup};
 use indicatif::{ProgressBar, ProgressBarIter};
 use std::io::{self, Read};
@@ -36,7 +35,7 @@ fn two_readers_of_one_bar_lose_no_byte(rt: HostRuntime) {
     let alloc = rt.alloc();
     let bytes = [7u8; 20_000];
     let setup = setup(rt, alloc, 20);
-    let bar = ProgressBar::no_length(*rt, alloc, setup).granted(rt);
+    let bar = ProgressBar::no_length(*rt, alloc, setup).expect(rt, "granted");
     let read = join(
         rt,
         || reads_along(&bar, &bytes),

@@ -111,7 +111,7 @@ impl<R: Abort + Drop> RecordReader<InMemoryTerm, NoTracker> for RunsAgain<R> {
 fn runs_again<R: Abort>(rt: &R, alloc: Global, recorded: &Recording) {
     let target = target(alloc).granted(rt);
     let board = Board::new(alloc, target, recorded.opening().board_id);
-    let mut fresh = Box::new(alloc, board).granted(rt);
+    let mut fresh = Box::new(alloc, board).expect(rt, "granted");
     answers_so(rt, &mut fresh, alloc, recorded.entries());
     show_the_same(rt, fresh.term(), recorded.board().term());
 }

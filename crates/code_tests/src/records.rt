@@ -20,7 +20,7 @@ fn target<R: Abort>(rt: &R, alloc: Global, rows: u16) -> ProgressDrawTarget<InMe
 /// A board of the id 1 that keeps its history.
 fn recorded_on<R: Abort>(rt: &R, alloc: Global, rows: u16) -> Box<Recording> {
     let recorded = Recorded::new(alloc, target(rt, alloc, rows), 1);
-    Box::new(alloc, recorded).granted(rt)
+    Box::new(alloc, recorded).expect(rt, "granted")
 }
 
 /// A bar whose one line is this text.
@@ -124,7 +124,7 @@ fn were_on<R: Abort>(rt: &R, entries: &[Entry<NoTracker>], size: Size) {
 fn is_replayed<R: Abort>(rt: &R, alloc: Global, recorded: &Recording, rows: u16) {
     let board_id = recorded.opening().board_id;
     let board = Board::new(alloc, target(rt, alloc, rows), board_id);
-    let mut fresh = Box::new(alloc, board).granted(rt);
+    let mut fresh = Box::new(alloc, board).expect(rt, "granted");
     answers_so(rt, &mut fresh, alloc, recorded.entries());
     show_the_same(rt, fresh.term(), recorded.board().term());
     were_on(rt, recorded.entries(), Size { columns: 10, rows });

@@ -26,7 +26,7 @@ fn board_at_100<R: Wait + Copy + Clone + Drop + Abort>(rt: R, alloc: Global) -> 
     let term = InMemoryTerm::new(alloc, 6, 20).granted(rt);
     let target = ProgressDrawTarget::term_like_with_hz(term, 20, now).granted(rt);
     let clock = StepClock { next: now, step: 0 };
-    MultiProgress::new(*rt, alloc, Setup { target, clock }, 1).granted(rt)
+    MultiProgress::new(*rt, alloc, Setup { target, clock }, 1).expect(rt, "granted")
 }
 
 /// Gives a bar the style of a template.
@@ -47,8 +47,8 @@ fn a_board_makes_its_bars(rt: HostRuntime) {
     let rt = &rt;
     let alloc = rt.alloc();
     let board = board_at_100(*rt, alloc);
-    let bar = board.new_bar(3).granted(rt);
-    let spinner = board.new_spinner().granted(rt);
+    let bar = board.new_bar(3).expect(rt, "granted");
+    let spinner = board.new_spinner().expect(rt, "granted");
     dress(*rt, alloc, &bar, "{pos}/{len}");
     dress(*rt, alloc, &spinner, "{msg}");
     holds!(rt; spinner.set_message("waits").is_ok());
@@ -78,7 +78,7 @@ fn a_wrappers_bar_is_told(rt: HostRuntime) {
     let alloc = rt.alloc();
     let bar = bar_on(*rt, alloc);
     let items = 0..3u32;
-    let mut wrapped = bar.wrap_iter(items.into_iter()).granted(rt);
+    let mut wrapped = bar.wrap_iter(items.into_iter()).expect(rt, "granted");
     let mut wrapped = told(alloc, wrapped).granted(rt);
     same!(rt; bar.position(), 7);
     while let Some(_item) = wrapped.next() {}
@@ -95,9 +95,9 @@ fn a_wrappers_bar_begins_with_elapsed_time(rt: HostRuntime) {
         next: HOUR,
         step: 0,
     };
-    let bar: Bar<HostRuntime> = ProgressBar::hidden(*rt, rt.alloc(), clock).granted(rt);
-    let wrapped = bar.wrap_iter(0..3u32).granted(rt);
-    let wrapped = wrapped.with_elapsed(HOUR).granted(rt);
+    let bar: Bar<HostRuntime> = ProgressBar::hidden(*rt, rt.alloc(), clock).expect(rt, "granted");
+    let wrapped = bar.wrap_iter(0..3u32).expect(rt, "granted");
+    let wrapped = wrapped.with_elapsed(HOUR).expect(rt, "granted");
     same!(rt; bar.elapsed(), HOUR);
     let refused = wrapped.with_elapsed(HOUR + SECOND).err();
     same!(rt; refused, Some(Refusal::ElapsedBeyondClock));
@@ -109,7 +109,7 @@ const OFTEN: u64 = 1_000_000;
 /// A bar without a length.
 fn bar_on<R: Wait + Copy + Clone + Drop + Abort>(rt: R, alloc: Global) -> Bar<R> {
     let rt = &rt;
-    ProgressBar::no_length(*rt, alloc, setup(rt, alloc, 20)).granted(rt)
+    ProgressBar::no_length(*rt, alloc, setup(rt, alloc, 20)).expect(rt, "granted")
 }
 
 /// Tells a ticker of this interval on so many times, each in the place of the one before.

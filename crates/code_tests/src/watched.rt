@@ -18,8 +18,8 @@ fn board_on<R: Wait + Copy + Clone + Drop + Abort>(
     cols: u16,
 ) -> Box<Board<R>> {
     let rt = &rt;
-    let board = MultiProgress::new(*rt, alloc, setup_on(*rt, bytes, cols), 1).granted(rt);
-    Box::new(alloc, board).granted(rt)
+    let board = MultiProgress::new(*rt, alloc, setup_on(*rt, bytes, cols), 1).expect(rt, "granted");
+    Box::new(alloc, board).expect(rt, "granted")
 }
 
 /// A bar of the board whose one line is this text; it isn't drawn yet.
@@ -30,10 +30,10 @@ fn bar_of<R: Wait + Copy + Clone + Drop + Abort>(
     text: &str,
 ) -> Bar<R> {
     let rt = &rt;
-    let bar = board.new_spinner().granted(rt);
+    let bar = board.new_spinner().expect(rt, "granted");
     let style = ProgressStyle::with_template(alloc, "{msg}").granted(rt);
-    let bar = bar.with_style(style).granted(rt);
-    bar.with_message(text).granted(rt)
+    let bar = bar.with_style(style).expect(rt, "granted");
+    bar.with_message(text).expect(rt, "granted")
 }
 
 /// A tick that draws. Its call promises nothing here.
@@ -91,9 +91,9 @@ fn bars_are_taken_back_while_a_closure_runs(rt: HostRuntime) {
 /// A bar on that terminal that stands alone.
 fn alone<R: Wait + Copy + Clone + Drop + Abort>(rt: R, alloc: Global, bytes: &Bytes) -> Bar<R> {
     let rt = &rt;
-    let bar = ProgressBar::new(*rt, alloc, 10, setup_on(*rt, bytes, 10)).granted(rt);
+    let bar = ProgressBar::new(*rt, alloc, 10, setup_on(*rt, bytes, 10)).expect(rt, "granted");
     let style = ProgressStyle::with_template(alloc, "{pos}/{len}").granted(rt);
-    bar.with_style(style).granted(rt)
+    bar.with_style(style).expect(rt, "granted")
 }
 
 /// So is a bar that stands alone.

@@ -24,12 +24,12 @@ fn begins_so<R: Wait + Copy + Clone + Drop + Abort>(
 fn bars(rt: HostRuntime) {
     let rt = &rt;
     let alloc = rt.alloc();
-    let bar = ProgressBar::new(*rt, alloc, 7, setup(rt, alloc, 10)).granted(rt);
+    let bar = ProgressBar::new(*rt, alloc, 7, setup(rt, alloc, 10)).expect(rt, "granted");
     begins_so(*rt, &bar, Some(7), "░░░░░░ 0/7");
-    let bar = ProgressBar::no_length(*rt, alloc, setup(rt, alloc, 10)).granted(rt);
+    let bar = ProgressBar::no_length(*rt, alloc, setup(rt, alloc, 10)).expect(rt, "granted");
     begins_so(*rt, &bar, None, "░░░░░░ 0/0");
-    let bar = ProgressBar::new_spinner(*rt, alloc, setup(rt, alloc, 10)).granted(rt);
-    let bar = bar.with_message("m").granted(rt);
+    let bar = ProgressBar::new_spinner(*rt, alloc, setup(rt, alloc, 10)).expect(rt, "granted");
+    let bar = bar.with_message("m").expect(rt, "granted");
     begins_so(*rt, &bar, None, "⠁ m");
 }
 
@@ -40,9 +40,9 @@ fn bars_on_a_target_or_of_a_style(rt: HostRuntime) {
     for (len, wanted) in [(Some(7), "░░░░░░ 0/7"), (None, "░░░░░░ 0/0")] {
         let Setup { target, clock } = setup(rt, alloc, 10);
         let bar = ProgressBar::with_draw_target(*rt, alloc, len, target, clock);
-        begins_so(*rt, &bar.granted(rt), len, wanted);
+        begins_so(*rt, &bar.expect(rt, "granted"), len, wanted);
     }
     let style = ProgressStyle::with_template(alloc, "{pos} of {len}").granted(rt);
     let bar = ProgressBar::styled(*rt, alloc, style, Some(7), setup(rt, alloc, 10));
-    begins_so(*rt, &bar.granted(rt), Some(7), "0 of 7");
+    begins_so(*rt, &bar.expect(rt, "granted"), Some(7), "0 of 7");
 }

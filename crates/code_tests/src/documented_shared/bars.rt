@@ -22,15 +22,15 @@ fn owners_of_a_bar(rt: HostRuntime) {
     let rt = &rt;
     let alloc = rt.alloc();
     let setup = setup_of(rt, alloc);
-    let bar = ProgressBar::new(*rt, alloc, 100, setup).granted(rt);
-    let other = bar.clone().granted(rt);
+    let bar = ProgressBar::new(*rt, alloc, 100, setup).expect(rt, "granted");
+    let other = bar.clone().expect(rt, "granted");
     bar.inc(1).granted(rt);
     same!(rt; other.position(), 1);
     let style = bar.style().granted(rt).template("{pos}").granted(rt);
     let drawn = bar.set_style(style).granted(rt);
     same!(rt; drawn, Drawn::Limited);
-    let weak = bar.downgrade().granted(rt);
-    if let Some(bar) = weak.upgrade().granted(rt) {
+    let weak = bar.downgrade().expect(rt, "granted");
+    if let Some(bar) = weak.upgrade().expect(rt, "granted") {
         bar.set_position(3).granted(rt);
     }
     same!(rt; other.position(), 3);

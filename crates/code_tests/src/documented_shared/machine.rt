@@ -87,8 +87,8 @@ fn bars_of_one_owner_on_standard_error(rt: HostRuntime) {
     let list = vec![in alloc; 7u64].granted(rt);
     let mut wrapped = list
         .into_iter()
-        .progress(alloc, on_stderr(rt).granted(rt))
-        .granted(rt);
+        .progress(alloc, on_stderr(rt).expect(rt, "granted"))
+        .expect(rt, "granted");
     same!(rt; wrapped.next(), Some(7));
 }
 
@@ -119,12 +119,12 @@ fn shared_bars_on_standard_error(rt: HostRuntime) {
     let rt = &rt;
     let alloc = rt.alloc();
     let setup = on_stderr(rt).granted(rt);
-    let bar = ProgressBar::new(*rt, alloc, 3, setup).granted(rt);
+    let bar = ProgressBar::new(*rt, alloc, 3, setup).expect(rt, "granted");
     holds!(rt; copy(&bar).is_ok());
     work(rt, &bar, 2).granted(rt);
     same!(rt; bar.position(), 3);
     let setup = on_stderr(rt).granted(rt);
-    let board = MultiProgress::new(*rt, alloc, setup, 1).granted(rt);
+    let board = MultiProgress::new(*rt, alloc, setup, 1).expect(rt, "granted");
     board.clear().granted(rt);
     board
         .set_draw_target(sized_stderr(rt, 50, 132).granted(rt))

@@ -26,7 +26,7 @@ fn warn_above<R: Wait + Copy + Clone + Drop + Abort>(
     board: &MultiProgress<InMemoryTerm, StepClock, R>,
 ) {
     let rt = &rt;
-    let bridge = LogBridge::new(board.clone().granted(rt));
+    let bridge = LogBridge::new(board.clone().expect(rt, "granted"));
     let rt = Logged::new(*rt, Level::Info, bridge);
     warn!(rt; "low disk");
 }
@@ -37,11 +37,11 @@ fn lines_above_a_bar(rt: HostRuntime) {
     let rt = &rt;
     let alloc = rt.alloc();
     let setup = setup_of(rt, alloc);
-    let board = MultiProgress::new(*rt, alloc, setup, 1).granted(rt);
+    let board = MultiProgress::new(*rt, alloc, setup, 1).expect(rt, "granted");
     let clock = StepClock { next: 0, step: 1 };
     let bar = board
-        .add(ProgressBar::hidden(*rt, alloc, clock).granted(rt))
-        .granted(rt);
+        .add(ProgressBar::hidden(*rt, alloc, clock).expect(rt, "granted"))
+        .expect(rt, "granted");
     holds!(rt; !bar.is_hidden());
     board.println("a.txt").granted(rt);
     board.set_move_cursor(true).granted(rt);

@@ -15,7 +15,7 @@ use tokio::io::{AsyncRead, AsyncWrite};
 
 /// Wraps a stream, which the bar goes along with.
 pub fn streamed<S: Stream + Drop, R: Wait + Clone + Drop + Abort>(rt: &R, bar: &Bar<R>, stream: S) {
-    let mut wrapped = bar.wrap_stream(stream).granted(rt);
+    let mut wrapped = bar.wrap_stream(stream).expect(rt, "granted");
 }
 
 /// Wraps a reader that is polled.
@@ -24,7 +24,7 @@ pub fn read_along<S: AsyncRead + Drop, R: Wait + Clone + Drop + Abort>(
     bar: &Bar<R>,
     socket: S,
 ) {
-    let mut wrapped = bar.wrap_async_read(socket).granted(rt);
+    let mut wrapped = bar.wrap_async_read(socket).expect(rt, "granted");
 }
 
 /// Wraps a writer that is polled.
@@ -33,7 +33,7 @@ pub fn written_along<S: AsyncWrite + Drop, R: Wait + Clone + Drop + Abort>(
     bar: &Bar<R>,
     socket: S,
 ) {
-    let mut wrapped = bar.wrap_async_write(socket).granted(rt);
+    let mut wrapped = bar.wrap_async_write(socket).expect(rt, "granted");
 }
 
 /// A bar of two steps, of its own, made from parts.
@@ -107,7 +107,10 @@ fn all_items_of_a_list(rt: HostRuntime) {
         target: ProgressDrawTarget::term_like(term),
         clock,
     };
-    let mut wrapped = list.into_iter().progress(alloc, setup).granted(rt);
+    let mut wrapped = list
+        .into_iter()
+        .progress(alloc, setup)
+        .expect(rt, "granted");
     same!(rt; counted(&mut wrapped), 2);
 }
 
@@ -117,7 +120,11 @@ fn the_first_item_of_a_list_of_known_length(rt: HostRuntime) {
     let alloc = rt.alloc();
     let list = two_items(rt, alloc);
     let setup = setup_of(rt, alloc);
-    let Some(mut wrapped) = list.into_iter().try_progress(alloc, setup).granted(rt) else {
+    let Some(mut wrapped) = list
+        .into_iter()
+        .try_progress(alloc, setup)
+        .expect(rt, "granted")
+    else {
         panic!(rt; "no bar is made")
     };
     same!(rt; wrapped.next(), Some(7));
