@@ -1,8 +1,5 @@
 //! A writer that keeps its bytes and fails as it is told to.
-ghost use Rattle.std.specs.Prelude.{None, false};
-ghost use Rattle.indicatif_term.specs.Writers.{view_behind};
-
-use indicatif_term::term_like::{Resize, Term, TermLike};
+use indicatif_term::term_like::Term;
 use indicatif_text::columns::Refusal;
 use std::alloc::Global;
 use std::cell::{Cell, RefCell};
@@ -180,67 +177,8 @@ impl Write for Wire {
     }
 }
 
-/// A terminal behind such a writer, in a type without parameters, so that functions with bars on it are proved faster.
-#[derive(Drop)]
-pub struct Behind {
-    term: Term<Wire>,
-}
-
-impl TermLike for Behind {
-    ghost view = { λ behind. view_behind (λ _. None) behind.term };
-
-    fn width(&self) -> u16 {
-        self.term.width()
-    }
-
-    fn height(&self) -> u16 {
-        self.term.height()
-    }
-
-    fn faults(&self) -> u64 {
-        self.term.faults()
-    }
-
-    fn move_cursor_up(&mut self, n: usize) -> io::Result<()> {
-        self.term.move_cursor_up(n)
-    }
-
-    fn move_cursor_down(&mut self, n: usize) -> io::Result<()> {
-        self.term.move_cursor_down(n)
-    }
-
-    fn move_cursor_right(&mut self, n: usize) -> io::Result<()> {
-        self.term.move_cursor_right(n)
-    }
-
-    fn move_cursor_left(&mut self, n: usize) -> io::Result<()> {
-        self.term.move_cursor_left(n)
-    }
-
-    fn write_line(&mut self, s: &str) -> io::Result<()> {
-        self.term.write_line(s)
-    }
-
-    fn write_str(&mut self, s: &str) -> io::Result<()> {
-        self.term.write_str(s)
-    }
-
-    fn clear_line(&mut self) -> io::Result<()> {
-        self.term.clear_line()
-    }
-
-    fn flush(&mut self) -> io::Result<()> {
-        self.term.flush()
-    }
-}
-
-impl Resize for Behind {
-    ghost takes_memory = { false };
-
-    fn resize(&mut self, rows: u16, cols: u16) -> Result<(), Refusal> {
-        self.term.resize(rows, cols)
-    }
-}
+/// A terminal behind such a writer.
+pub type Behind = Term<Wire>;
 
 /// How large a terminal is.
 #[derive(Clone, Copy, Debug, Drop, PartialEq, Eq)]
@@ -255,8 +193,6 @@ impl Size {
     /// A terminal of this size before a record.
     pub fn terminal(self, record: &Rc<Record>) -> Result<Behind, Refusal> {
         let wire = Wire(record.clone()?);
-        Ok(Behind {
-            term: Term::new(wire, self.rows, self.cols),
-        })
+        Ok(Term::new(wire, self.rows, self.cols))
     }
 }
