@@ -20,10 +20,10 @@ fn copy<R: Shares>(
     work.enable_steady_tick(50_000_000)?;
     for name in ["a.txt", "b.txt", "c.txt"] {
         sleep(rt, Duration::from_millis(200));
-        files.inc(1)?;
         info!(log; "copied {name}");
+        files.inc(1)?;
     }
-    warn!(log; "low disk");
+    warn!(log; "no d.txt");
     work.disable_steady_tick()?;
     work.finish_with_message("copied")?;
     files.finish()?;
@@ -32,7 +32,7 @@ fn copy<R: Shares>(
 
 pub fn main<R: Shares>(rt: R, host: &HostRuntime) -> Result<()> {
     let board = MultiProgress::new(rt, rt.alloc(), on_stderr(host)?, 1)?;
-    let files = board.new_bar(3)?;
+    let files = board.new_bar(4)?;
     let work = board.new_spinner()?;
     let log = Logged::new(rt, Level::Info, LogBridge::new(board.clone()?));
     copy(&rt, &log, &files, &work)
