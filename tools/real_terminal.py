@@ -117,7 +117,7 @@ def case_of(place, script, wanted):
 def built(name):
     """The program of this name."""
     there = os.path.join(os.environ.get("PROGRAMS", ""), name)
-    if os.access(there, os.X_OK):
+    if "PROGRAMS" in os.environ and os.path.isfile(there):
         return os.path.abspath(there)
     crate = os.path.join(TOP, "crates", name)
     ran = subprocess.run(["rt", "run"], cwd=crate, capture_output=True, text=True)

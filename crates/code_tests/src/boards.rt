@@ -49,7 +49,8 @@ fn two_threads_log(rt: HostRuntime) {
 
 // ---- a board in two threads
 
-fn crosses<X: Send + Sync>(_board: &X) {}
+/// What may go to another thread, and be used by several.
+pub fn crosses<X: Send + Sync>(_value: &X) {}
 
 /// A bar on the board that is drawn, fifty texts, and the bar's end; how many texts were drawn.
 fn adds_and_logs<R: Wait + Copy + Clone + Drop + Abort>(

@@ -1,5 +1,6 @@
 //! Tests of the crate `indicatif` 0.18.6 that need code, each under its own name and with its own values: bars and boards that are
 //! shared, and what a bar wraps. Most others are rows; docs/DIFFERENCES.md has a table of all.
+use crate::boards::crosses;
 use crate::checks::Granted;
 use crate::fronts::{Bar, Led, Shared, board_shows};
 use indicatif::{
@@ -15,7 +16,7 @@ use std::thread::Threads;
 use std::vec::IntoIter;
 
 /// A terminal in memory of 10 rows and 80 columns, and its clock.
-pub fn setup<R: Abort>(rt: &R, alloc: Global) -> Setup<InMemoryTerm, StepClock> {
+fn setup<R: Abort>(rt: &R, alloc: Global) -> Setup<InMemoryTerm, StepClock> {
     let term = InMemoryTerm::new(alloc, 10, 80).granted(rt);
     Setup {
         target: ProgressDrawTarget::term_like(term),
@@ -76,8 +77,6 @@ fn multi_is_hidden(rt: HostRuntime) {
     holds!(rt; bar.is_hidden());
 }
 
-fn crosses<X: Send + Sync>(_value: &X) {}
-
 #[test]
 fn progress_bar_sync_send(rt: HostRuntime) {
     let rt = &rt;
@@ -104,7 +103,7 @@ fn test_weak_pb(rt: HostRuntime) {
     let weak = Box::new(alloc, bar.downgrade().expect(rt, "granted")).expect(rt, "granted");
     holds!(rt; is_there(&weak));
     drop(bar);
-    holds!(rt; !is_there(&weak));
+    holds!(rt; weak.upgrade().expect(rt, "granted").is_none());
 }
 
 /// The target that the bar had of its own is given up.

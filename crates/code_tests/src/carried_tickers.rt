@@ -71,9 +71,10 @@ fn count<R: Wait>(rt: &R, writes: &Mutex<u64>) -> u64 {
     *writes.lock(rt)
 }
 
-/// Nothing more is written in 250 milliseconds.
+/// Something was written, and nothing more is in 250 milliseconds.
 fn rests<R: Wait + time::Clock + Abort>(rt: &R, writes: &Mutex<u64>) {
     let before = count(rt, writes);
+    holds!(rt; before > 0);
     for _ in 0..5u32 {
         waits(rt);
     }

@@ -18,14 +18,14 @@ pub fn is_so<R: Abort>(rt: &R, holds: bool) {
     }
 }
 
-/// The same, of this case.
+/// Ends the test where the two differ in this case.
 pub fn are_same_for<R: Abort, A: PartialEq + Debug + Drop>(rt: &R, case: &str, got: A, wanted: A) {
     if got != wanted {
         panic!(*rt; "{case}: got {got:?}, wanted {wanted:?}")
     }
 }
 
-/// The same, of this case.
+/// Ends the test where this doesn't hold of this case.
 pub fn is_so_for<R: Abort>(rt: &R, case: &str, holds: bool) {
     if !holds {
         panic!(*rt; "a check doesn't hold: {case}")

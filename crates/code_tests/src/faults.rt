@@ -262,15 +262,16 @@ fn draws_or_refuses(rt: &impl Abort, bar: &mut Shown<InMemoryTerm>) {
     }
 }
 
+fn bar_in_memory(alloc: Global) -> Result<Shown<InMemoryTerm>, Refusal> {
+    Shown::on(alloc, "ab", InMemoryTerm::new(alloc, 6, 10)?)
+}
+
 /// What was on the screen stays, and the same call can be made again; or the terminal's own memory was refused.
 #[test]
 fn want_of_memory_on_a_terminal_in_memory(rt: HostRuntime) {
     let rt = &rt;
-    let alloc = rt.alloc();
-    let Ok(term) = InMemoryTerm::new(alloc, 6, 10) else {
-        return;
-    };
-    if let Ok(mut bar) = Shown::on(alloc, "ab", term) {
-        draws_or_refuses(rt, &mut bar);
+    match bar_in_memory(rt.alloc()) {
+        Ok(mut bar) => draws_or_refuses(rt, &mut bar),
+        Err(refusal) => same!(rt; refusal, Refusal::Memory),
     }
 }

@@ -4,6 +4,8 @@ use indicatif::Gate;
 use std::alloc::Global;
 use std::process::Abort;
 use std::sync::atomic::{AtomicU64, Ordering};
+use std::thread::sleep;
+use std::time::{Clock, Duration};
 
 /// Holds nobody. (This is the example of `Gate`.)
 #[derive(Drop)]
@@ -80,17 +82,18 @@ impl Gate for Roll {
     }
 }
 
-/// How often piece 0 looks whether piece 1 has come.
-const TURNS: u32 = 10_000_000;
+/// For how many milliseconds piece 0 waits for piece 1.
+const PATIENCE: u32 = 10_000;
 
-/// Holds piece 0 until piece 1 has come, or for so many turns.
+/// Holds piece 0 until piece 1 has come, or for so long.
 #[derive(Drop)]
-pub struct Together {
+pub struct Together<C> {
+    pub clock: C,
     pub second_came: AtomicU64,
     pub first_saw_it: AtomicU64,
 }
 
-impl Gate for Together {
+impl<C: Clock + Sync> Gate for Together<C> {
     fn pass(&self, piece: usize) {
         if piece == 1 {
             self.second_came.store(1, Ordering::SeqCst);
@@ -101,13 +104,14 @@ impl Gate for Together {
     }
 }
 
-impl Together {
+impl<C: Clock> Together<C> {
     fn wait(&self) {
-        for _ in 0..TURNS {
+        for _ in 0..PATIENCE {
             if self.second_came.load(Ordering::SeqCst) == 1 {
                 self.first_saw_it.store(1, Ordering::SeqCst);
                 return;
             }
+            sleep(&self.clock, Duration::from_millis(1));
         }
     }
 }

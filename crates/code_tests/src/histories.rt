@@ -8,7 +8,7 @@ use indicatif_board::multi::{
 };
 use indicatif_term::draw_target::{ProgressDrawTarget, RateLimiter};
 use indicatif_term::in_memory::InMemoryTerm;
-use indicatif_text::columns::{Drawn, Moment, Refusal};
+use indicatif_text::columns::{Drawn, Moment};
 use std::alloc::Global;
 use std::process::Abort;
 

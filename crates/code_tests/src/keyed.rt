@@ -123,7 +123,7 @@ fn on_a_board(rt: HostRuntime) {
     shows_two(rt, rt.alloc());
 }
 
-/// A loop over three items, with a bar of its own in that style.
+/// Two of three items are taken from an iterator that has a bar of its own in that style.
 #[test]
 fn in_a_loop(rt: HostRuntime) {
     let rt = &rt;

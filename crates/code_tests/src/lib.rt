@@ -1,7 +1,7 @@
 //! Tests that need code: they have trackers, closures, threads, terminals and types of their own. All other tests are rows of data (crates
 //! `rows` and `front_rows`). Expected values come from outside.
 //!
-//! Of the four lower libraries:
+//! Of the four lower libraries, and of what plays rows and scripts over them:
 //!
 //! - `named`: each command of a bar as a call, compared with the same command as a value.
 //! - `values`: what bars and targets return, and closures that they take.
@@ -29,13 +29,13 @@
 //!   program.
 //! - `ticking`: a bar's ticker, looked at from outside. `intervals`: how often it ticks. `keyed`: shared bars with a key of the tests' own.
 //!   `odd_keys`: keys that write what no line holds.
-//! - `lists`: lists, block by block. `own_bars`: lists with a bar of their own. `pieces`: pieces in threads of their own. They use the bar
-//!   of `stepped`, and `gates`.
+//! - `lists`: lists, block by block. `own_bars`: lists with a bar of their own. `pieces`: pieces in threads of their own. `stepped`,
+//!   `gates`: a bar and gates for them.
 //!
 //! `checks`: what `same!`, `holds!` and `granted` do.
 #![tactic(auto)]
 
-/// Whether a value is the one that is wanted.
+/// Ends the test where a value isn't the one that is wanted.
 #[cfg(test)]
 macro_rules! same {
     ($rt:expr; $got:expr, $wanted:expr $(,)?) => {
@@ -43,7 +43,7 @@ macro_rules! same {
     };
 }
 
-/// Whether this holds.
+/// Ends the test where this doesn't hold.
 #[cfg(test)]
 macro_rules! holds {
     ($rt:expr; $holds:expr $(,)?) => {

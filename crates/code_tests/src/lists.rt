@@ -11,7 +11,8 @@ use std::alloc::Global;
 use std::process::Abort;
 use std::sync::Wait;
 use std::sync::atomic::{AtomicU64, Ordering};
-use std::thread::{Threads, available_parallelism};
+use std::thread::{Threads, available_parallelism, sleep};
+use std::time::{Clock, Duration};
 
 /// The numbers below `count`.
 fn numbers<R: Abort>(rt: &R, alloc: Global, count: u32) -> Vec<u32> {
@@ -65,17 +66,18 @@ fn a_shorter_list_moves_by_tenths(rt: HostRuntime) {
     same!(rt; bar.steps.as_slice(), [200; 10].as_slice());
 }
 
-/// How often an item looks whether the other one has begun.
-const TURNS: u32 = 10_000_000;
+/// For how many milliseconds an item waits for the other one to begin.
+const PATIENCE: u32 = 10_000;
 
-/// Marks this one of two as begun; whether the other one begins within so many turns.
-fn meets(begun: &[AtomicU64; 2], item: usize) -> bool {
+/// Marks this one of two as begun; whether the other one begins within so long.
+fn meets<C: Clock>(clock: &C, begun: &[AtomicU64; 2], item: usize) -> bool {
     let (mine, other) = if item == 0 { (0, 1) } else { (1, 0) };
     begun[mine].store(1, Ordering::SeqCst);
-    for _ in 0..TURNS {
+    for _ in 0..PATIENCE {
         if begun[other].load(Ordering::SeqCst) == 1 {
             return true;
         }
+        sleep(clock, Duration::from_millis(1));
     }
     false
 }
@@ -89,8 +91,9 @@ fn pieces_of_a_list_run_at_the_same_time(rt: HostRuntime) {
     let begun = [AtomicU64::new(0), AtomicU64::new(0)];
     let items = [0usize, 1];
     let list = items.as_slice().progress_with(bar_at(alloc, 0));
-    let (made, bar) = list.map_collect(rt, alloc, |item: &usize| meets(&begun, *item));
+    let (made, bar) = list.map_collect(rt, alloc, |item: &usize| meets(rt, &begun, *item));
     let made = made.granted(rt);
+    same!(rt; (made.len(), bar.position), (2, 2));
     if has_processors(rt) {
         same!(rt; made.as_slice(), [true, true].as_slice());
         same!(rt; bar.steps.as_slice(), [2].as_slice());
@@ -243,15 +246,18 @@ fn a_bar_that_stops_within_blocks_stops_behind_each(rt: HostRuntime) {
     holds!(rt; bar.steps.len() > 3);
 }
 
-/// How often an item of this list looks whether the bar has moved.
-const LOOKS: u32 = 200_000;
+/// For how many milliseconds this item of a list looks at a bar. Threads that work on items of unequal times don't end together.
+fn patience(item: u32) -> u32 {
+    (item % 7).saturating_mul(5).saturating_add(5)
+}
 
-/// Whether the bar moves before so many looks are over.
-fn sees_a_move(place: &AtomicU64) -> bool {
-    for _ in 0..LOOKS {
+/// Whether the bar moves while this item looks.
+fn sees_a_move<C: Clock>(clock: &C, place: &AtomicU64, item: u32) -> bool {
+    for _ in 0..patience(item) {
         if place.load(Ordering::SeqCst) > 0 {
             return true;
         }
+        sleep(clock, Duration::from_millis(1));
     }
     false
 }
@@ -261,14 +267,14 @@ fn sees_a_move(place: &AtomicU64) -> bool {
 fn a_bar_moves_while_threads_work(rt: HostRuntime) {
     let rt = &rt;
     let alloc = rt.alloc();
-    let items = [0u8; 40];
+    let items = numbers(rt, alloc, 40);
     let place = AtomicU64::new(0);
     let bar = Telling {
         place: &place,
         steps: Vec::new(alloc),
     };
     let list = items.as_slice().progress_with(bar);
-    let (seen, bar) = list.map_collect(rt, alloc, |_item: &u8| sees_a_move(&place));
+    let (seen, bar) = list.map_collect(rt, alloc, |item: &u32| sees_a_move(rt, &place, *item));
     holds!(rt; seen.granted(rt).contains(&true));
     same!(rt; bar.reading().position, 40);
 }
@@ -283,12 +289,13 @@ fn shared_bar<R: Wait + Copy + Clone + Drop + Abort>(rt: R, alloc: Global) -> Ba
     ProgressBar::new(*rt, alloc, 40, setup).expect(rt, "granted")
 }
 
-/// Whether one who looks at a shared bar so often sees it within a block of four.
-fn sees_within<R: Wait + Clone + Drop>(bar: &Bar<R>) -> bool {
-    for _ in 0..LOOKS / 10 {
+/// Whether this item, while it looks at a shared bar, sees it within a block of four.
+fn sees_within<R: Wait + Clone + Drop, C: Clock>(clock: &C, bar: &Bar<R>, item: u32) -> bool {
+    for _ in 0..patience(item) {
         if bar.position() % 4 != 0 {
             return true;
         }
+        sleep(clock, Duration::from_millis(1));
     }
     false
 }
@@ -299,10 +306,10 @@ fn sees_within<R: Wait + Clone + Drop>(bar: &Bar<R>) -> bool {
 fn a_shared_bar_moves_within_a_block(rt: HostRuntime) {
     let rt = &rt;
     let alloc = rt.alloc();
-    let items = [0u8; 40];
+    let items = numbers(rt, alloc, 40);
     let bar = shared_bar(*rt, alloc);
     let list = items.as_slice().progress_with(another_of(rt, &bar));
-    let (seen, _owner) = list.map_collect(rt, alloc, |_item: &u8| sees_within(&bar));
+    let (seen, _owner) = list.map_collect(rt, alloc, |item: &u32| sees_within(rt, &bar, *item));
     holds!(rt; seen.granted(rt).contains(&true));
     same!(rt; bar.position(), 40);
 }

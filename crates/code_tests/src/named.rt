@@ -1,12 +1,13 @@
 //! Each command of a bar by its name, beside the same as a value: they answer the same and leave the same. What they answer and leave
 //! stands in rows.
 use crate::checks::{Granted, are_same_for, is_so_for};
+use crate::values::contents;
 use indicatif_bar::lone::{LoneBar, LoneCall};
-use indicatif_bar::state::{Ask, BarState, Change};
+use indicatif_bar::state::{Ask, BarState, Change, Rate};
 use indicatif_bar::style::NoTracker;
 use indicatif_term::draw_target::ProgressDrawTarget;
 use indicatif_term::in_memory::InMemoryTerm;
-use indicatif_text::columns::{Drawn, Refusal};
+use indicatif_text::columns::{Drawn, Moment, Refusal};
 use scripts::commands::{BARE, NUMBERED, Told, WORDED, command};
 use scripts::got::Bad;
 use scripts::lone::bar_of;
@@ -19,6 +20,9 @@ use std::process::Abort;
 type Bar = BarState<NoTracker>;
 
 type Lone = LoneBar<NoTracker, InMemoryTerm>;
+
+/// When the calls are made: 3 seconds after the bar was.
+const NOW: Moment = 3_000_000_000;
 
 /// What belongs with commands that have a number, or a text.
 const NUMBERS: &[&str] = &["0", "1", "2", "3", "4", "5", "20", "70"];
@@ -43,7 +47,7 @@ fn half(rt: &impl Abort, at: At) -> Box<Bar> {
 /// Makes a command by its name.
 fn obey(bar: &mut Bar, text: &str) -> Result<Ask, Bad> {
     let (name, rest) = headed(text);
-    match called_bare!(bar, name, 0) {
+    match called_bare!(bar, name, NOW) {
         Some(asked) => Ok(asked?),
         None => obey_other(bar, name, rest),
     }
@@ -51,9 +55,9 @@ fn obey(bar: &mut Bar, text: &str) -> Result<Ask, Bad> {
 
 fn obey_other(bar: &mut Bar, name: &str, rest: &str) -> Result<Ask, Bad> {
     match name {
-        "ticker_tick" => Ok(bar.ticker_tick(0)),
-        "set_ticker" => Ok(bar.set_ticker(flag(rest)?, 0)),
-        "update" => Ok(bar.set_change(change(rest)?, 0)),
+        "ticker_tick" => Ok(bar.ticker_tick(NOW)),
+        "set_ticker" => Ok(bar.set_ticker(flag(rest)?, NOW)),
+        "update" => Ok(bar.set_change(change(rest)?, NOW)),
         name => match rest.parse::<u64>() {
             Ok(number) => Ok(obey_number(bar, name, number)?),
             Err(_) => Ok(obey_text(bar, name, rest)?),
@@ -62,18 +66,18 @@ fn obey_other(bar: &mut Bar, name: &str, rest: &str) -> Result<Ask, Bad> {
 }
 
 fn obey_number(bar: &mut Bar, name: &str, number: u64) -> Result<Ask, Refusal> {
-    match called_with_number!(bar, name, number, 0) {
+    match called_with_number!(bar, name, number, NOW) {
         Some(asked) => asked,
-        None if name == "with_position" => Ok(bar.with_position(number, 0)),
-        None => bar.with_tab_width(number as usize, 0),
+        None if name == "with_position" => Ok(bar.with_position(number, NOW)),
+        None => bar.with_tab_width(number as usize, NOW),
     }
 }
 
 fn obey_text(bar: &mut Bar, name: &str, text: &str) -> Result<Ask, Refusal> {
-    match called_with_text!(bar, name, text, 0) {
+    match called_with_text!(bar, name, text, NOW) {
         Some(asked) => asked,
-        None if name == "with_message" => bar.with_message(text, 0),
-        None => bar.with_prefix(text, 0),
+        None if name == "with_message" => bar.with_message(text, NOW),
+        None => bar.with_prefix(text, NOW),
     }
 }
 
@@ -89,12 +93,13 @@ fn change(text: &str) -> Result<Change, Bad> {
 /// Makes a command as a value.
 fn apply(bar: &mut Bar, text: &str, alloc: Global) -> Result<Ask, Bad> {
     let command = command(alloc, text)?;
-    Ok(bar.apply(command, 0)?)
+    Ok(bar.apply(command, NOW)?)
 }
 
 /// Behind this command two bars have reached the same, and say the same.
 fn are_alike(rt: &impl Abort, text: &str, one: &Bar, other: &Bar) {
     are_same_for(rt, text, reached(one), reached(other));
+    are_same_for(rt, text, measured(one), measured(other));
     are_same_for(rt, text, one.message(), other.message());
     are_same_for(rt, text, one.prefix(), other.prefix());
     are_same_for(rt, text, one.tab_width(), other.tab_width());
@@ -106,6 +111,12 @@ fn reached(bar: &Bar) -> (u64, Option<u64>, u64, bool) {
     (state.pos(), state.len(), state.ticks(), state.is_finished())
 }
 
+/// What a bar measures: the time since its start, and its rate.
+fn measured(bar: &Bar) -> (u64, Rate) {
+    let state = bar.state();
+    (state.elapsed(NOW), state.per_sec(NOW))
+}
+
 /// Whether two answers are the same.
 fn agreed<A: PartialEq + Copy + Drop>(one: Result<A, Bad>, other: Result<A, Bad>) -> bool {
     match (one, other) {
@@ -115,12 +126,14 @@ fn agreed<A: PartialEq + Copy + Drop>(one: Result<A, Bad>, other: Result<A, Bad>
     }
 }
 
-/// A command by its name asks and leaves the same as its value.
+/// A command by its name asks and leaves the same as its value, also once both have ticked: none ticks while its ticker is on.
 fn leaves_the_same(rt: &impl Abort, at: At, text: &str) {
     let mut called = half(rt, at);
     let mut told = half(rt, at);
     let asked = agreed(obey(&mut called, text), apply(&mut told, text, at.alloc));
     is_so_for(rt, text, asked);
+    are_alike(rt, text, &called, &told);
+    are_same_for(rt, text, called.tick(NOW), told.tick(NOW));
     are_alike(rt, text, &called, &told);
 }
 
@@ -188,7 +201,7 @@ fn shown_half(rt: &impl Abort, at: At) -> Box<Lone> {
 /// Makes a call by its name.
 fn draw(bar: &mut Lone, text: &str) -> Result<Drawn, Bad> {
     let (name, rest) = headed(text);
-    match called_bare!(bar, name, 0) {
+    match called_bare!(bar, name, NOW) {
         Some(drawn) => Ok(drawn?),
         None => draw_other(bar, name, rest),
     }
@@ -196,9 +209,9 @@ fn draw(bar: &mut Lone, text: &str) -> Result<Drawn, Bad> {
 
 fn draw_other(bar: &mut Lone, name: &str, rest: &str) -> Result<Drawn, Bad> {
     match name {
-        "ticker_tick" => Ok(bar.ticker_tick(0)?),
-        "set_ticker" => Ok(bar.set_ticker(flag(rest)?, 0)?),
-        "update" => Ok(bar.set_change(change(rest)?, 0)?),
+        "ticker_tick" => Ok(bar.ticker_tick(NOW)?),
+        "set_ticker" => Ok(bar.set_ticker(flag(rest)?, NOW)?),
+        "update" => Ok(bar.set_change(change(rest)?, NOW)?),
         name => match rest.parse::<u64>() {
             Ok(number) => Ok(draw_number(bar, name, number)?),
             Err(_) => Ok(draw_text(bar, name, rest)?),
@@ -207,31 +220,25 @@ fn draw_other(bar: &mut Lone, name: &str, rest: &str) -> Result<Drawn, Bad> {
 }
 
 fn draw_number(bar: &mut Lone, name: &str, number: u64) -> Result<Drawn, Refusal> {
-    match called_with_number!(bar, name, number, 0) {
+    match called_with_number!(bar, name, number, NOW) {
         Some(drawn) => drawn,
-        None if name == "with_position" => bar.with_position(number, 0),
-        None => bar.with_tab_width(number as usize, 0),
+        None if name == "with_position" => bar.with_position(number, NOW),
+        None => bar.with_tab_width(number as usize, NOW),
     }
 }
 
 fn draw_text(bar: &mut Lone, name: &str, text: &str) -> Result<Drawn, Refusal> {
-    match called_with_text!(bar, name, text, 0) {
+    match called_with_text!(bar, name, text, NOW) {
         Some(drawn) => drawn,
-        None if name == "with_message" => bar.with_message(text, 0),
-        None => bar.with_prefix(text, 0),
+        None if name == "with_message" => bar.with_message(text, NOW),
+        None => bar.with_prefix(text, NOW),
     }
 }
 
 /// Makes a call as a value.
 fn call(bar: &mut Lone, text: &str, alloc: Global) -> Result<Drawn, Bad> {
     let command = command(alloc, text)?;
-    Ok(bar.call(LoneCall::Bar(command), 0)?)
-}
-
-/// What stands on a bar's terminal.
-fn contents(rt: &impl Abort, bar: &Lone) -> String {
-    let term = bar.term().granted(rt);
-    term.contents().granted(rt)
+    Ok(bar.call(LoneCall::Bar(command), NOW)?)
 }
 
 fn record(bar: &Lone) -> &Bar {

@@ -81,10 +81,11 @@ fn a_tab_and_a_newline(rt: HostRuntime) {
     same!(rt; again.as_str(), "a  b\nc");
 }
 
-/// What isn't a colour sequence is drawn; what it does to the terminal isn't claimed.
+/// What isn't a colour sequence is drawn; what it does to a terminal isn't claimed. One in memory passes it over.
 #[test]
 fn a_sequence_of_another_kind(rt: HostRuntime) {
     let rt = &rt;
-    let (shown, again) = shown(*rt, rt.alloc(), "\u{1B}[2J");
-    same!(rt; shown, again);
+    let (shown, again) = shown(*rt, rt.alloc(), "a\u{1B}[2Jb");
+    same!(rt; shown.as_str(), "ab");
+    same!(rt; again.as_str(), "ab");
 }

@@ -9,10 +9,10 @@ use std::process::Abort;
 use std::sync::Wait;
 use std::thread::{self, join};
 
-type Bar<R> = ProgressBar<Term<Shown<R>>, StepClock, R>;
+pub type Bar<R> = ProgressBar<Term<Shown<R>>, StepClock, R>;
 
 /// A bar on that terminal, of this template and a length of 10.
-fn bar_on<R: Wait + Copy + Clone + Drop + Abort>(
+pub fn bar_on<R: Wait + Copy + Clone + Drop + Abort>(
     rt: R,
     alloc: Global,
     bytes: &Bytes,

@@ -91,6 +91,7 @@ fn pieces_run_at_the_same_time(rt: HostRuntime) {
     let pieces = pieces_of_ones(rt, alloc, 2, 1);
     let mut bar = bar_at(alloc, 0);
     let gate = Together {
+        clock: *rt,
         second_came: AtomicU64::new(0),
         first_saw_it: AtomicU64::new(0),
     };

@@ -1,8 +1,10 @@
 //! Keys of a template that are the caller's own.
 ghost use Rattle.std.specs.Prelude.{true, false, if◌then◌else◌, codes};
 
+use crate::carried_trackers::Says;
 use crate::checks::Granted;
 use crate::documented::histories::terminal;
+use crate::recordings::answers_so;
 use indicatif_bar::lone::LoneBar;
 use indicatif_bar::state::{BarCommand, BarState, ProgressFinish, ProgressState};
 use indicatif_bar::style::{FnTracker, ProgressStyle, ProgressTracker, TellsText};
@@ -73,21 +75,6 @@ fn are_lines(rt: &impl Abort, alloc: Global, lines: Result<Vec<LineType>, Refusa
 }
 
 // ---- a text that stays
-
-/// Tells this text.
-#[derive(Drop)]
-struct Says {
-    alloc: Global,
-    text: &'static str,
-}
-
-impl TellsText for Says {
-    ghost told_text = { λ says p now. says.text.now };
-
-    fn tell(&self, _state: &ProgressState, _now: Moment) -> Result<String, Refusal> {
-        Ok(String::from_str(self.alloc, self.text)?)
-    }
-}
 
 /// The same style with a tracker of this name that writes this text.
 fn saying(
@@ -231,19 +218,6 @@ fn takes_in_and_draws(rt: &impl Abort, alloc: Global, board: &mut Recording, tex
     same!(rt; drawn, Answer::Drawn(Drawn::Yes));
 }
 
-/// A board makes the calls of these entries with the same answers.
-fn answers_so(
-    rt: &impl Abort,
-    alloc: Global,
-    board: &mut OnBoard,
-    entries: &[Entry<FnTracker<Says>>],
-) {
-    for entry in entries {
-        let call = entry.call.try_clone(alloc).granted(rt);
-        same!(rt; &board.call(call, 0), &entry.answer);
-    }
-}
-
 fn contents(rt: &impl Abort, board: &OnBoard) -> String {
     let term = board.term().granted(rt);
     term.contents().granted(rt)
@@ -262,7 +236,7 @@ fn shown_again(rt: &impl Abort, alloc: Global, entries: &[Entry<FnTracker<Says>>
     same!(rt; entries.len(), 2);
     let board = Board::new(alloc, target(rt, alloc), 1);
     let mut board = Box::new(alloc, board).granted(rt);
-    answers_so(rt, alloc, &mut board, entries);
+    answers_so(rt, &mut board, alloc, entries);
     contents(rt, &board)
 }
 
@@ -284,11 +258,12 @@ fn a_tab_and_a_newline_on_a_board(rt: HostRuntime) {
     same!(rt; shown.as_str(), "a  b\nc");
 }
 
-/// What isn't a colour sequence is drawn on a board too; what it does to the terminal isn't claimed.
+/// What isn't a colour sequence is drawn on a board too; what it does to a terminal isn't claimed. One in memory passes it over.
 #[test]
 fn a_sequence_of_another_kind_on_a_board(rt: HostRuntime) {
     let rt = &rt;
-    drop(recorded_shows(rt, rt.alloc(), "\u{1B}[2J"));
+    let shown = recorded_shows(rt, rt.alloc(), "a\u{1B}[2Jb");
+    same!(rt; shown.as_str(), "ab");
 }
 
 // ---- names of keys

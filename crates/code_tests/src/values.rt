@@ -1,7 +1,4 @@
-//! What bars and targets hand out, and closures that are handed to them: the examples of the documentation, and some more.
-ghost use Rattle.std.specs.Prelude.{◌≡◌, ℕ, List, IfOk, IfErr};
-ghost use Rattle.indicatif_bar.specs.Progress.{Progress};
-
+//! What bars and targets hand out, and closures that are handed to them.
 use crate::checks::Granted;
 use indicatif_bar::lone::LoneBar;
 use indicatif_bar::state::{Ask, BarState, Change, ProgressFinish, SpareLines};
@@ -65,7 +62,7 @@ fn draw_target(rt: HostRuntime) {
 }
 
 /// This is the one line.
-fn is_shown(rt: &impl Abort, lines: &[LineType], wanted: &str) {
+pub fn is_shown(rt: &impl Abort, lines: &[LineType], wanted: &str) {
     match lines {
         [line] => same!(rt; line.as_str(), wanted),
         _ => same!(rt; (wanted, lines.len()), (wanted, 1)),
@@ -159,7 +156,8 @@ fn shown_at(rt: &impl Abort, alloc: Global, place: u64) -> Box<Lone> {
     on_terminal(rt, alloc, bar, (3, 20))
 }
 
-fn contents(rt: &impl Abort, bar: &Lone) -> String {
+/// What stands on a bar's terminal.
+pub fn contents(rt: &impl Abort, bar: &Lone) -> String {
     let term = bar.term().granted(rt);
     term.contents().granted(rt)
 }

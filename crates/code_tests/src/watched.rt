@@ -1,14 +1,13 @@
 //! Boards on a terminal that others see: what stands there while a closure runs, and what is written where the cursor only moves.
 use crate::checks::Granted;
+use crate::owners::{Bar, bar_on};
 use crate::shown::{Bytes, Shown, is_seen, is_written, no_bytes, setup_on};
-use indicatif::{Drawn, MultiProgress, ProgressBar, ProgressStyle, StepClock, Term};
+use indicatif::{Drawn, MultiProgress, ProgressStyle, StepClock, Term};
 use std::alloc::Global;
 use std::process::Abort;
 use std::sync::{Arc, Wait};
 
 type Board<R> = MultiProgress<Term<Shown<R>>, StepClock, R>;
-
-type Bar<R> = ProgressBar<Term<Shown<R>>, StepClock, R>;
 
 /// A board on that terminal, of so many columns.
 fn board_on<R: Wait + Copy + Clone + Drop + Abort>(
@@ -88,21 +87,13 @@ fn bars_are_taken_back_while_a_closure_runs(rt: HostRuntime) {
     is_seen(rt, alloc, &bytes, "a\nb");
 }
 
-/// A bar on that terminal that stands alone.
-fn alone<R: Wait + Copy + Clone + Drop + Abort>(rt: R, alloc: Global, bytes: &Bytes) -> Bar<R> {
-    let rt = &rt;
-    let bar = ProgressBar::new(*rt, alloc, 10, setup_on(*rt, bytes, 10)).expect(rt, "granted");
-    let style = ProgressStyle::with_template(alloc, "{pos}/{len}").granted(rt);
-    bar.with_style(style).expect(rt, "granted")
-}
-
 /// So is a bar that stands alone.
 #[test]
 fn a_bar_is_taken_back_while_a_closure_runs(rt: HostRuntime) {
     let rt = &rt;
     let alloc = rt.alloc();
     let bytes = no_bytes(rt, alloc);
-    let bar = alone(*rt, alloc, &bytes);
+    let bar = bar_on(*rt, alloc, &bytes, "{pos}/{len}");
     draws(*rt, &bar);
     bar_pauses(&bar, *rt, alloc, &bytes);
     is_seen(rt, alloc, &bytes, "0/10");

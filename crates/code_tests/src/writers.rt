@@ -188,6 +188,7 @@ fn played<'a, T: TermLike + Drop>(rt: &impl Abort, bar: &'a mut Shown<T>) -> &'a
 fn bytes_of_the_script(rt: &impl Abort, alloc: Global) -> Vec<u8> {
     let mut bar = bar_behind(rt, alloc, Taking::All);
     let bytes = &played(rt, &mut bar).writer().taken;
+    holds!(rt; !bytes.is_empty());
     Vec::from_slice(alloc, bytes).granted(rt)
 }
 

@@ -3,11 +3,11 @@ ghost use Rattle.std.specs.Prelude.{◌-◌, decimal, string_bytes};
 ghost use Rattle.indicatif_bar.specs.Trackers.{telling};
 
 use crate::checks::Granted;
+use crate::values::is_shown;
 use indicatif_bar::state::{
     Ask, BarCommand, BarState, Change, ProgressFinish, ProgressState, SpareLines,
 };
 use indicatif_bar::style::{FnTracker, NoTracker, ProgressStyle, ProgressTracker, TellsText};
-use indicatif_term::draw_target::LineType;
 use indicatif_text::columns::{Moment, Refusal};
 use itoa::Buffer;
 use std::alloc::Global;
@@ -32,17 +32,9 @@ fn bar_at(rt: &impl Abort, alloc: Global, position: u64) -> Box<BarState<NoTrack
     bar
 }
 
-/// These are one line, of this text.
-fn say(rt: &impl Abort, lines: &[LineType], text: &str) {
-    match lines {
-        [line] => same!(rt; line.as_str(), text),
-        _ => same!(rt; (text, lines.len()), (text, 1)),
-    }
-}
-
 /// A bar's lines are one, of this text.
 fn says<K: ProgressTracker>(rt: &impl Abort, bar: &BarState<K>, text: &str) {
-    say(rt, &bar.lines(0, 80).granted(rt), text);
+    is_shown(rt, &bar.lines(0, 80).granted(rt), text);
 }
 
 #[test]
@@ -152,11 +144,11 @@ fn lines_in_the_room_of_others(rt: HostRuntime) {
     let bar = bar_at(rt, alloc, 4);
     let mut spare = SpareLines::new(alloc);
     let lines = bar.lines_in(&mut spare, now, 80).granted(rt);
-    say(rt, &lines, "========== 4/4");
+    is_shown(rt, &lines, "========== 4/4");
     let before = bar.lines_in(&mut spare, 0, 80).granted(rt);
     spare.store(before);
     let lines = bar.lines_in(&mut spare, 1, 80).granted(rt);
-    say(rt, &lines, "========== 4/4");
+    is_shown(rt, &lines, "========== 4/4");
 }
 
 #[test]

@@ -20,8 +20,9 @@ fn a_clock_and_facts(rt: HostRuntime) {
     holds!(rt; opened <= clock.now());
     let mut facts = facts_of(rt, &rt.stderr()).granted(rt);
     facts.cols = 20;
-    same!(rt; facts.cols, 20);
+    let hides = facts.hides();
     let setup = told_setup(rt, rt.stderr(), facts).granted(rt);
+    same!(rt; setup.target.is_hidden(), hides);
 }
 
 /// What is told of a terminal without a name.
