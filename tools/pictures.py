@@ -4,9 +4,10 @@
 usage: tools/pictures.py   (by .ci/run, behind `rt ci`)
 
 A picture's command is run in a shell behind a pseudo terminal of the picture's size. The program `rows` tells what cells show of the bytes
-that come from there. All rows have to be the picture's, with the shell's `$` where the cursor is at the end. So a wrong call of a type that
-hands calls on to standard error, whose bytes no contract tells, is noticed, but for `flush` and for calls that no bar makes. tools/gallery.sh
-does the same in tmux, by hand, for all pictures, and at each moment.
+that come from there. All rows have to be the picture's, with the shell's `$` where the cursor is at the end; and what a program writes before
+it sleeps has to come before what it writes behind that. So a wrong call of a type that hands calls on to standard error, whose bytes no
+contract tells, is noticed, but for calls that no bar makes. tools/gallery.sh does the same in tmux, by hand, for all pictures, and at each
+moment.
 
 The programs are those that `rt ci` has built, or those in the folder $PROGRAMS. Four pictures are passed over: two that have a `~`, one that
 is taken before the end, and that of `readme`, which isn't a program of this repository. The exit status is 1 if a picture differs, or if a
@@ -33,6 +34,8 @@ PAGE = TOP / "docs" / "GALLERY.md"
 BLOCK = re.compile(r"^```gallery (~ )?(\d+)x(\d+) ([^\n]*)\n\$ ([^\n]*)\n(.*?)^```$", re.M | re.S)
 PASSED_OVER = 4
 PROGRAMS = ["bars", "examples", "meter"]
+# a program that sleeps between its draws
+SLEEPS = "examples log_bridge"
 # seconds that a command may take, and bytes that it may write
 PATIENCE = 60
 MOST = 1 << 20
@@ -62,12 +65,18 @@ class Run:
         ends = {"stdin": theirs, "stdout": theirs, "stderr": theirs, "start_new_session": True}
         child = subprocess.Popen(["bash", "-c", picture.command], cwd=folder, env=environment, **ends)
         os.close(theirs)
-        self.bytes, is_ended = read_to_end(ours)
+        parts, is_ended = read_to_end(ours)
         os.close(ours)
         if not is_ended:
             os.killpg(child.pid, signal.SIGKILL)
         status = child.wait()
-        self.fault = "stopped: it went on for too long" if not is_ended else f"status {status}" if not 0 <= status < 128 else None
+        self.bytes, self.fault = b"".join(parts), None
+        if not is_ended:
+            self.fault = "stopped: it went on for too long"
+        elif not 0 <= status < 128:
+            self.fault = f"status {status}"
+        elif picture.command == SLEEPS and len(parts) < 2:
+            self.fault = "all came at once"
 
 
 def built(name):
@@ -80,18 +89,18 @@ def built(name):
 
 
 def read_to_end(terminal):
-    """The bytes that come until nobody can write any more; and whether that came in time."""
-    got, end = bytearray(), time.monotonic() + PATIENCE
-    while len(got) < MOST and select.select([terminal], [], [], max(0, end - time.monotonic()))[0]:
+    """The bytes that come until nobody can write any more, as they come; and whether that was in time."""
+    parts, end = [], time.monotonic() + PATIENCE
+    while sum(map(len, parts)) < MOST and select.select([terminal], [], [], max(0, end - time.monotonic()))[0]:
         try:
             part = os.read(terminal, 65536)
         except OSError:
             # (so Linux says that nobody has the other end)
             part = b""
         if not part:
-            return bytes(got), True
-        got += part
-    return bytes(got), False
+            return parts, True
+        parts.append(part)
+    return parts, False
 
 
 def spelled(byte):
