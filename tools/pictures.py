@@ -69,7 +69,7 @@ class Run:
         os.close(ours)
         if not is_ended:
             os.killpg(child.pid, signal.SIGKILL)
-        status = child.wait()
+        status = child.wait(PATIENCE)
         self.bytes, self.fault = b"".join(parts), None
         if not is_ended:
             self.fault = "stopped: it went on for too long"
@@ -150,8 +150,9 @@ def main():
         if run.fault or rows != picture.shown:
             differ += 1
             print(f"{picture.place}: {picture.command}\n-- the page\n{picture.shown}\n-- the program ({run.fault or 'ended'})\n{rows}")
-    print(f"{len(got) - differ} pictures agree, {differ} differ, {len(found) - len(got)} were passed over")
-    sys.exit(1 if differ or len(found) - len(got) != PASSED_OVER else 0)
+    passed_over = len(found) - len(got)
+    print(f"{len(got) - differ} pictures agree, {differ} differ; {passed_over} were passed over, {PASSED_OVER} are to be")
+    sys.exit(1 if differ or passed_over != PASSED_OVER else 0)
 
 
 if __name__ == "__main__":
