@@ -26,7 +26,7 @@ use arguments::{Asked, Begins, Unasked, Unit};
 use copying::{Copied, Streams, copy_all};
 use indicatif::Refusal;
 use indicatif::machine::Shares;
-use meter_parts::plain_text;
+use meter_parts::{Row, plain_text};
 use shown::{Bar, bar_for};
 use sizes::size_of_all;
 use std::env::Env;
@@ -59,7 +59,6 @@ fn main(rt: HostRuntime) -> ExitCode {
     let copied = if bar.is_hidden() {
         copy_all(&rt, streams, &asked, size, &bar)
     } else {
-        make_room(&rt, &asked);
         let copy = || copy_all(&rt, streams, &asked, size, &bar);
         let tell = || tell_until_finished(&rt, &bar, &asked, size);
         // (where no thread can be made, `join` calls its second closure first, and `tell` waits for the end of `copy`)
@@ -82,31 +81,36 @@ fn size_for<R: Files>(rt: &R, asked: &Asked<'_>) -> Option<u64> {
     }
 }
 
-/// The bar that is asked for; it ticks where the time begins at once.
+/// The bar that is asked for, with room for all rows; it ticks where the time begins at once.
 ///
 /// Refused: `Memory`, and what a template is refused with.
-fn begun<R: Shares + Env>(
+fn begun<R: Shares + Env + Eprint>(
     rt: &R,
     errors: Stderr,
     asked: &Asked<'_>,
     size: Option<u64>,
 ) -> Result<Bar<R>, Refusal> {
     let bar = bar_for(rt, errors, asked, size)?;
-    if matches!(asked.timing.begins, Begins::AtOnce) && !bar.is_hidden() {
+    if bar.is_hidden() {
+        return Ok(bar);
+    }
+    if let Some(row) = asked.look.row {
+        make_room(rt, row)?;
+    }
+    if matches!(asked.timing.begins, Begins::AtOnce) {
         bar.enable_steady_tick(asked.timing.interval)?;
     }
     Ok(bar)
 }
 
-/// Rows for all meters that draw beside one another, below the cursor.
-fn make_room(rt: &impl Eprint, asked: &Asked<'_>) {
-    let Some(row) = asked.look.row else {
-        return;
-    };
+/// Rows for all meters that draw beside one another, below the cursor. They come by one write, since the others may draw already.
+fn make_room<R: AllocGlobal + Eprint>(rt: &R, row: Row) -> Result<(), Refusal> {
+    let mut rows = String::new(rt.alloc());
     for _ in 0..row.count() {
-        let _ = eprint!(rt; "\r\n");
+        rows.push_str("\r\n")?;
     }
-    let _ = eprint!(rt; "\u{1b}[{}A", row.count());
+    let _ = eprint!(rt; "{rows}\u{1b}[{}A", row.count());
+    Ok(())
 }
 
 /// The bar as it stands at the end, and the cursor on a row of its own below it.
