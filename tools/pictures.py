@@ -39,6 +39,11 @@ SLEEPS = "examples log_bridge"
 # seconds that a command may take, and bytes that it may write
 PATIENCE = 60
 MOST = 1 << 20
+# a program with coloured bars on standard error; by what the environment says beside `TERM=xterm`, whether they are coloured
+COLOURED = "examples ported"
+ASKED = [({}, True), ({"NO_COLOR": "1"}, False), ({"CLICOLOR": "0"}, False), ({"NO_COLOR": "1", "CLICOLOR_FORCE": "1"}, True)]
+COLOUR_NAMES = {"NO_COLOR", "CLICOLOR", "CLICOLOR_FORCE"}
+CYAN, ANY_COLOUR = b"\x1b[36m", re.compile(rb"\x1b\[[\d;]*m")
 # DEC's private modes, as `meter` switches the terminal's wrap off and on: cells show them
 MODES = re.compile(rb"\x1b\[\?\d+[hl]")
 
@@ -57,11 +62,12 @@ class Picture:
 class Run:
     """What a command wrote to a terminal, and how it ended where that isn't by itself."""
 
-    def __init__(self, picture, folder):
+    def __init__(self, picture, folder, asked=()):
         ours, theirs = os.openpty()
         fcntl.ioctl(theirs, termios.TIOCSWINSZ, struct.pack("HHHH", picture.rows, picture.columns, 0, 0))
-        told = {"COLUMNS": str(picture.columns), "LINES": str(picture.rows), "LC_ALL": "C.UTF-8", "TERM": "xterm"}
-        environment = {**os.environ, **told, "PATH": f"{folder}:{os.environ['PATH']}"}
+        told = {"COLUMNS": str(picture.columns), "LINES": str(picture.rows), "LC_ALL": "C.UTF-8", "TERM": "xterm", **dict(asked)}
+        others = {name: value for name, value in os.environ.items() if name not in COLOUR_NAMES}
+        environment = {**others, **told, "PATH": f"{folder}:{os.environ['PATH']}"}
         ends = {"stdin": theirs, "stdout": theirs, "stderr": theirs, "start_new_session": True}
         child = subprocess.Popen(["bash", "-c", picture.command], cwd=folder, env=environment, **ends)
         os.close(theirs)
@@ -121,6 +127,16 @@ def shown(pictures, runs):
     return [trimmed(unescaped(answer).decode()) for answer in answers]
 
 
+def wrongly_coloured(picture, folder):
+    """The environments by which the program's bars have no colours though they should, or have some though they shouldn't."""
+    wrong = []
+    for asked, are_wanted in ASKED:
+        written = Run(picture, folder, asked).bytes
+        if not (CYAN in written if are_wanted else not ANY_COLOUR.search(written)):
+            wrong.append(asked)
+    return wrong
+
+
 def has_terminals():
     """Whether this machine has pseudo terminals."""
     try:
@@ -143,8 +159,13 @@ def main():
             os.symlink(built(program), folder / program)
         (folder / "disk.iso").write_bytes(bytes(3 << 20))
         with concurrent.futures.ThreadPoolExecutor(4) as pool:
+            coloured = next(it for it in found if it.command == COLOURED)
+            wrong = pool.submit(wrongly_coloured, coloured, folder)
             runs = list(pool.map(lambda it: Run(it, folder), pictures))
+            wrong = wrong.result()
     got = shown(pictures, runs)
+    for asked in wrong:
+        print(f"{COLOURED}: colours come or don't against what the environment asks: {asked}")
     differ = 0
     for picture, run, rows in zip(pictures, runs, got, strict=True):
         if run.fault or rows != picture.shown:
@@ -152,7 +173,7 @@ def main():
             print(f"{picture.place}: {picture.command}\n-- the page\n{picture.shown}\n-- the program ({run.fault or 'ended'})\n{rows}")
     passed_over = len(found) - len(got)
     print(f"{len(got) - differ} pictures agree, {differ} differ; {passed_over} were passed over, {PASSED_OVER} are to be")
-    sys.exit(1 if differ or passed_over != PASSED_OVER else 0)
+    sys.exit(1 if differ or wrong or passed_over != PASSED_OVER else 0)
 
 
 if __name__ == "__main__":

@@ -44,15 +44,22 @@ use std::time::{Clock, Duration};
 #[derive(Drop)]
 struct Wrapped<R: Wait + Copy + Clone + Drop>(Box<Over<Front<R>>>);
 
+/// Boards and owners of bars, and what one of these bars wraps. What is wrapped stands apart: a step that has nothing to do with it is
+/// proved without it.
+#[derive(Drop)]
+pub struct World<R: Wait + Copy + Clone + Drop> {
+    fronts: Fronts<R>,
+    wrapped: Option<Wrapped<R>>,
+}
+
 /// Boards and owners of bars.
 #[derive(Drop)]
-pub struct Fronts<R: Wait + Copy + Clone + Drop> {
+struct Fronts<R: Wait + Copy + Clone + Drop> {
     maker: Maker<R>,
     boards: Vec<Shared<R>>,
     on: usize,
     bars: Vec<Bar<R>>,
     weak: Weak<R>,
-    wrapped: Option<Wrapped<R>>,
     looked_at: usize,
     answer: Answered,
     noted: u64,
@@ -75,7 +82,7 @@ pub fn begin<R: Wait + Copy + Clone + Drop>(
     rt: R,
     alloc: Global,
     rest: &str,
-) -> Result<Box<Fronts<R>>, Bad> {
+) -> Result<Box<World<R>>, Bad> {
     let room = room_of(&mut Words::of(rest))?;
     let fronts = Fronts {
         maker: Maker { rt, alloc, room },
@@ -83,13 +90,16 @@ pub fn begin<R: Wait + Copy + Clone + Drop>(
         on: 0,
         bars: Vec::new(alloc),
         weak: Weak::never(),
-        wrapped: None,
         looked_at: 0,
         answer: Answered::Untold,
         noted: 0,
     };
-    match Box::new(alloc, fronts) {
-        Ok(fronts) => Ok(fronts),
+    let world = World {
+        fronts,
+        wrapped: None,
+    };
+    match Box::new(alloc, world) {
+        Ok(world) => Ok(world),
         Err(_) => Err(Bad::Refused(Refusal::Memory)),
     }
 }
@@ -487,7 +497,7 @@ fn dressed<R: Wait + Copy + Clone + Drop>(bar: &Front<R>, other: &Front<R>) -> T
     }
 }
 
-impl<R: AllocGlobal + RandomSource + Wait + Copy + Clone + Drop> Fronts<R> {
+impl<R: AllocGlobal + RandomSource + Wait + Copy + Clone + Drop> World<R> {
     /// Asks what is wrapped.
     fn asks(&mut self, step: &str, got: &mut Got) {
         match &mut self.wrapped {
@@ -498,15 +508,21 @@ impl<R: AllocGlobal + RandomSource + Wait + Copy + Clone + Drop> Fronts<R> {
 
     /// Wraps something by the call of this name.
     fn wraps(&mut self, name: &str, rest: &str, got: &mut Got) {
+        match self.fronts.wrapped_by(name, rest) {
+            Ok(wrapped) => self.wrapped = Some(wrapped),
+            Err(bad) => got.bad(bad),
+        }
+    }
+}
+
+impl<R: AllocGlobal + RandomSource + Wait + Copy + Clone + Drop> Fronts<R> {
+    /// What a bar wraps by the call of this name.
+    fn wrapped_by(&self, name: &str, rest: &str) -> Result<Wrapped<R>, Bad> {
         let (place, script) = headed(rest);
-        let wrapped = match (self.bar(place), script_of(self.maker.alloc, script)) {
+        match (self.bar(place), script_of(self.maker.alloc, script)) {
             (Some(bar), Ok(inner)) => wrap_by(&self.maker, bar, (name, inner)),
             (None, _) => Err(Bad::Step),
             (_, Err(bad)) => Err(bad),
-        };
-        match wrapped {
-            Ok(wrapped) => self.wrapped = Some(wrapped),
-            Err(bad) => got.bad(bad),
         }
     }
 }
@@ -538,15 +554,27 @@ fn wrap_by<R: AllocGlobal + RandomSource + Wait + Copy + Clone + Drop>(
 
 impl<
     R: AllocGlobal + RandomSource + Wait + Threads + Clock + Copy + Clone + Drop + Send + 'static,
-> Fronts<R> {
+> World<R> {
     /// Makes a step, or reads something.
     pub fn step(&mut self, step: &str, got: &mut Got) {
         let (name, rest) = headed(step);
+        match name {
+            "|" => self.asks(rest, got),
+            _ if name.starts_with("wrap_") => self.wraps(name, rest, got),
+            _ => self.fronts.step(step, got),
+        }
+    }
+}
+
+impl<
+    R: AllocGlobal + RandomSource + Wait + Threads + Clock + Copy + Clone + Drop + Send + 'static,
+> Fronts<R> {
+    /// Makes a step that has nothing to do with what is wrapped.
+    fn step(&mut self, step: &str, got: &mut Got) {
+        let (name, rest) = headed(step);
         match (name, step.split_once(": ")) {
             ("adds", _) if !rest.is_empty() => self.adds_by(rest, got),
-            ("|", _) => self.asks(rest, got),
             ("history_rests", _) => self.history_rests(got),
-            _ if name.starts_with("wrap_") => self.wraps(name, rest, got),
             (_, Some((place, rest))) => self.of_bar(place, rest, got),
             (_, None) => self.play(step, got),
         }

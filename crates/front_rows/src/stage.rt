@@ -2,7 +2,7 @@
 //! `begun` and `step`; a question that needs no world is a module and a line in `play`.
 use crate::beside::Pair;
 use crate::bytes::{self, OverCounted};
-use crate::fronts::Fronts;
+use crate::fronts::World;
 use crate::lists::{self, List};
 use crate::loops::Looped;
 use crate::on_pane::OnPane;
@@ -20,7 +20,7 @@ use std::time::Clock;
 #[derive(Drop)]
 enum On<R: Wait + Copy + Clone + Drop> {
     Nothing,
-    Fronts(Box<Fronts<R>>),
+    Fronts(Box<World<R>>),
     Beside(Box<Pair<R>>),
     Bytes(Box<OverCounted>),
     List(Box<List>),
