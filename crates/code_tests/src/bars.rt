@@ -1,9 +1,9 @@
-//! What is handed on by pauses, what crosses threads, a terminal in a box, a record's style, and what programmers are shown of a bar.
+//! What is handed on by pauses, what crosses threads, a terminal in a box, and what programmers are shown of a bar.
+use crate::boards::crosses;
 use crate::checks::Granted;
 use crate::fronts::{Bar, alone, bar_on, bar_shows, recorded};
 use indicatif::{
-    BarState, Drawn, InMemoryTerm, NoTracker, ProgressBar, ProgressDrawTarget, ProgressStyle,
-    Refusal, Setup, StepClock, TermLike,
+    Drawn, InMemoryTerm, ProgressBar, ProgressDrawTarget, Refusal, Setup, StepClock, TermLike,
 };
 use std::alloc::Global;
 use std::process::Abort;
@@ -48,24 +48,17 @@ fn a_boxed_terminal(rt: HostRuntime) {
     same!(rt; bar.position(), 2);
 }
 
-/// A record in the style of a spinner of three texts and the message; the last text is for a finished bar.
-fn record<R: Abort>(rt: &R, alloc: Global) -> Box<BarState<NoTracker>> {
-    let style = ProgressStyle::with_template(alloc, "{spinner} {msg}").granted(rt);
-    let style = style.tick_strings(&["-", "+", "ok"]).granted(rt);
-    let bar = BarState::styled(alloc, style, None, 0).expect(rt, "granted");
-    Box::new(alloc, bar).expect(rt, "granted")
-}
-
-/// The style of a record is read, and what is made of it, a style with two other texts, leaves the record as it is.
+/// A test of the crate `indicatif` 0.18.6: what is shared may go to another thread, and be used by several.
 #[test]
-fn a_style_of_a_record(rt: HostRuntime) {
+fn progress_bar_sync_send(rt: HostRuntime) {
     let rt = &rt;
-    let bar = record(rt, rt.alloc());
-    same!(rt; bar.style().get_tick_str(1), "+");
-    let other = bar.style().try_clone().granted(rt);
-    let other = other.tick_strings(&["1", "2"]).granted(rt);
-    same!(rt; other.get_final_tick_str(), "2");
-    same!(rt; bar.style().get_final_tick_str(), "ok");
+    let alloc = rt.alloc();
+    let bar = alone(*rt, alloc, "{pos}");
+    crosses(&bar);
+    let weak = bar.downgrade().expect(rt, "granted");
+    crosses(&weak);
+    let board = recorded(*rt, alloc);
+    crosses(&*board);
 }
 
 /// What programmers are shown of a bar, as the crate shows it; of a wrapper its fields as well.
