@@ -24,7 +24,6 @@ fn pauses_hand_values_on(rt: HostRuntime) {
     let board = recorded(*rt, alloc);
     let bar = bar_on(&board, *rt, alloc, "a");
     same!(rt; paused(&bar, 7), (7, Ok(Drawn::Yes)));
-    same!(rt; board.suspend(|| 8u8).0, 8);
 }
 
 type Boxed = Box<dyn TermLike + Drop>;
