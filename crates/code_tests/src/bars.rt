@@ -1,5 +1,4 @@
 //! What is handed on by pauses, what crosses threads, a terminal in a box, and what programmers are shown of a bar.
-use crate::boards::crosses;
 use crate::checks::Granted;
 use crate::fronts::{Bar, alone, bar_on, bar_shows, recorded};
 use indicatif::{
@@ -46,6 +45,9 @@ fn a_boxed_terminal(rt: HostRuntime) {
     same!(rt; bar.inc(2), Ok(Drawn::Yes));
     same!(rt; bar.position(), 2);
 }
+
+/// What may go to another thread, and be used by several.
+fn crosses<X: Send + Sync>(_value: &X) {}
 
 /// A test of the crate `indicatif` 0.18.6: what is shared may go to another thread, and be used by several.
 #[test]
