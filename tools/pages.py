@@ -419,7 +419,8 @@ def faults_of_values(page, rows):
 def stands_at(name, place):
     """Whether a test stands in a file of rows, below its name, or in a module of code_tests."""
     if place.endswith(".txt"):
-        return re.search(rf"^# {name}\b", read(f"crates/rows/data/{place}"), re.M)
+        files = (pathlib.Path(f"crates/{player}/data/{place}") for player in ("rows", "front_rows"))
+        return any(re.search(rf"^# {name}\b", read(file), re.M) for file in files if file.is_file())
     return re.search(rf"\bfn {name}\b", read(f"crates/code_tests/src/{place}.rt"))
 
 

@@ -1,9 +1,8 @@
-//! What is handed on by pauses, what crosses threads, a terminal in a box, a record's style, and what programmers are shown of a bar.
+//! What is handed on by pauses, what crosses threads, a terminal in a box, and what programmers are shown of a bar.
 use crate::checks::Granted;
 use crate::fronts::{Bar, alone, bar_on, bar_shows, recorded};
 use indicatif::{
-    BarState, Drawn, InMemoryTerm, NoTracker, ProgressBar, ProgressDrawTarget, ProgressStyle,
-    Refusal, Setup, StepClock, TermLike,
+    Drawn, InMemoryTerm, ProgressBar, ProgressDrawTarget, Refusal, Setup, StepClock, TermLike,
 };
 use std::alloc::Global;
 use std::process::Abort;
@@ -24,7 +23,6 @@ fn pauses_hand_values_on(rt: HostRuntime) {
     let board = recorded(*rt, alloc);
     let bar = bar_on(&board, *rt, alloc, "a");
     same!(rt; paused(&bar, 7), (7, Ok(Drawn::Yes)));
-    same!(rt; board.suspend(|| 8u8).0, 8);
 }
 
 type Boxed = Box<dyn TermLike + Drop>;
@@ -48,24 +46,20 @@ fn a_boxed_terminal(rt: HostRuntime) {
     same!(rt; bar.position(), 2);
 }
 
-/// A record in the style of a spinner of three texts and the message; the last text is for a finished bar.
-fn record<R: Abort>(rt: &R, alloc: Global) -> Box<BarState<NoTracker>> {
-    let style = ProgressStyle::with_template(alloc, "{spinner} {msg}").granted(rt);
-    let style = style.tick_strings(&["-", "+", "ok"]).granted(rt);
-    let bar = BarState::styled(alloc, style, None, 0).expect(rt, "granted");
-    Box::new(alloc, bar).expect(rt, "granted")
-}
+/// What may go to another thread, and be used by several.
+fn crosses<X: Send + Sync>(_value: &X) {}
 
-/// The style of a record is read, and what is made of it, a style with two other texts, leaves the record as it is.
+/// A test of the crate `indicatif` 0.18.6: what is shared may go to another thread, and be used by several.
 #[test]
-fn a_style_of_a_record(rt: HostRuntime) {
+fn progress_bar_sync_send(rt: HostRuntime) {
     let rt = &rt;
-    let bar = record(rt, rt.alloc());
-    same!(rt; bar.style().get_tick_str(1), "+");
-    let other = bar.style().try_clone().granted(rt);
-    let other = other.tick_strings(&["1", "2"]).granted(rt);
-    same!(rt; other.get_final_tick_str(), "2");
-    same!(rt; bar.style().get_final_tick_str(), "ok");
+    let alloc = rt.alloc();
+    let bar = alone(*rt, alloc, "{pos}");
+    crosses(&bar);
+    let weak = bar.downgrade().expect(rt, "granted");
+    crosses(&weak);
+    let board = recorded(*rt, alloc);
+    crosses(&*board);
 }
 
 /// What programmers are shown of a bar, as the crate shows it; of a wrapper its fields as well.

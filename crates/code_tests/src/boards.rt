@@ -12,7 +12,7 @@ use std::process::Abort;
 use std::sync::Wait;
 use std::thread::{self, Threads, join};
 
-// ---- texts from two threads
+// ---- a board in two threads
 
 /// Logs a text fifty times; how often it was drawn.
 fn log_fifty<R: Wait + Copy + Clone + Drop>(board: &Shared<R>, text: &str) -> u64 {
@@ -30,27 +30,6 @@ fn logged<R: Wait + Copy + Clone + Drop>(board: &Shared<R>) -> (u64, u64) {
     let mine = counted(board, Kind::Log("mine"));
     (mine, counted(board, Kind::Log("theirs")))
 }
-
-#[test]
-fn two_threads_log(rt: HostRuntime) {
-    let rt = &rt;
-    let alloc = rt.alloc();
-    let board = recorded(*rt, alloc);
-    let drawn = join(
-        rt,
-        || log_fifty(&board, "mine"),
-        || log_fifty(&board, "theirs"),
-    );
-    same!(rt; drawn, (50, 50));
-    same!(rt; counted(&board, Kind::Any), 100);
-    same!(rt; logged(&board), (50, 50));
-    is_one_run(*rt, &board, alloc);
-}
-
-// ---- a board in two threads
-
-/// What may go to another thread, and be used by several.
-pub fn crosses<X: Send + Sync>(_value: &X) {}
 
 /// A bar on the board that is drawn, fifty texts, and the bar's end; how many texts were drawn.
 fn adds_and_logs<R: Wait + Copy + Clone + Drop + Abort>(
@@ -73,7 +52,6 @@ fn adds_and_logs<R: Wait + Copy + Clone + Drop + Abort>(
 fn a_board_crosses_threads(rt: HostRuntime) {
     let (own, rt) = (rt, &rt);
     let board = recorded(*rt, rt.alloc());
-    crosses(&*board);
     let other = board.clone().expect(rt, "granted");
     let adds = move || adds_and_logs(&other, own, own.alloc(), "theirs");
     let child = thread::spawn(rt, adds).granted(rt);

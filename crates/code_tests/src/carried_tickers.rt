@@ -1,11 +1,8 @@
-//! Tests of the crate `indicatif` 0.18.6 on steady tickers, each under its own name and with its own values.
-use crate::carried::board_on;
+//! Tests of the crate `indicatif` 0.18.6 on steady tickers, each under its own name and with its own values, on a terminal whose writes
+//! are counted.
 use crate::checks::Granted;
-use crate::fronts::{Bar, Shared, board_shows};
 use crate::ticking::{ticks_on, waits};
-use indicatif::{
-    ProgressBar, ProgressDrawTarget, ProgressFinish, ProgressStyle, Setup, StepClock, Term,
-};
+use indicatif::{ProgressBar, ProgressDrawTarget, Setup, StepClock, Term};
 use std::alloc::Global;
 use std::io::{self, Write};
 use std::process::Abort;
@@ -14,8 +11,6 @@ use std::thread::Threads;
 use std::time;
 
 const MILLISECOND: u64 = 1_000_000;
-
-// ---- a terminal whose writes are counted
 
 type Writes = Arc<Mutex<u64>, Global>;
 
@@ -106,49 +101,4 @@ fn ticker_thread_terminates_on_drop_2(rt: HostRuntime) {
     goes_on(rt, &other);
     drop(other);
     rests(rt, &writes);
-}
-
-// ---- spinners on a board
-
-/// A hidden spinner with this message.
-fn saying<R: Wait + Copy + Clone + Drop + Abort>(rt: R, alloc: Global, text: &str) -> Bar<R> {
-    let rt = &rt;
-    let clock = StepClock { next: 0, step: 0 };
-    let spinner = ProgressBar::hidden(*rt, alloc, clock).expect(rt, "granted");
-    let style = ProgressStyle::default_spinner(alloc).granted(rt);
-    let spinner = spinner.with_style(style).expect(rt, "granted");
-    spinner.with_message(text).expect(rt, "granted")
-}
-
-/// A spinner on the board that stays once its owner is dropped, with a ticker of 100 milliseconds.
-fn staying<R: Wait + Threads + time::Clock + Copy + Clone + Drop + Abort + Send + 'static>(
-    board: &Shared<R>,
-    rt: R,
-    alloc: Global,
-    number: u32,
-) -> Bar<R> {
-    let rt = &rt;
-    let text = format!(in alloc; "doing stuff {number}").granted(rt);
-    let spinner = saying(*rt, alloc, text.as_str()).with_finish(ProgressFinish::AndLeave);
-    let spinner = board
-        .add(spinner.expect(rt, "granted"))
-        .expect(rt, "granted");
-    same!(rt; spinner.enable_steady_tick(100 * MILLISECOND), Ok(()));
-    spinner
-}
-
-/// Five spinners, one after another, each of which is dropped once the next ticks.
-#[test]
-fn ticker_drop(rt: HostRuntime) {
-    let rt = &rt;
-    let alloc = rt.alloc();
-    let board = board_on(*rt, alloc);
-    let mut kept: Option<Bar<HostRuntime>> = None;
-    for number in 0..5u32 {
-        kept = Some(staying(&board, *rt, alloc, number));
-    }
-    drop(kept);
-    let rows =
-        "  doing stuff 0\n  doing stuff 1\n  doing stuff 2\n  doing stuff 3\n  doing stuff 4";
-    board_shows(rt, &board, rows);
 }

@@ -24,7 +24,7 @@
 //!   that is counted (`lent`).
 //! - `machines`: what is asked of the machine. `made`: iterators that get a bar when they are wrapped.
 //! - `bridges`: lines of a log above a board's bars.
-//! - `carried`: tests of the crate `indicatif` that need code. `carried_tickers`: those of tickers. `carried_trackers`: those of trackers.
+//! - `carried_tickers`, `carried_trackers`: tests of the crate `indicatif` that need code, of tickers and of trackers.
 //! - `counted`: threads that count for a bar. `documented_shared`: the examples of the documentation comments. `readme`: the README's
 //!   program.
 //! - `ticking`: a bar's ticker, looked at from outside. `intervals`: how often it ticks. `keyed`: shared bars with a key of the tests' own.
@@ -57,8 +57,6 @@ mod bars;
 mod boards;
 #[cfg(test)]
 mod bridges;
-#[cfg(test)]
-mod carried;
 #[cfg(test)]
 mod carried_tickers;
 #[cfg(test)]

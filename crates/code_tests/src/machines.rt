@@ -5,8 +5,8 @@ use indicatif::machine::{
     on_stderr, on_stdout, on_stream, style_on_stderr, told_setup, wants_colors,
 };
 use indicatif::{
-    BarState, Clock, Drawn, Facts, InMemoryTerm, LoneBar, Moment, MultiProgress, NoTracker,
-    ProgressBar, ProgressDrawTarget, ProgressStyle, Refusal, Setup, Term, TermLike,
+    BarState, Clock, Drawn, Facts, LoneBar, Moment, MultiProgress, NoTracker, ProgressDrawTarget,
+    ProgressStyle, Refusal, Setup, Term, TermLike,
 };
 use std::alloc::Global;
 use std::cell::Cell;
@@ -200,27 +200,6 @@ fn a_clock_of_a_machine(rt: HostRuntime) {
         6_000_000_000,
     ];
     holds!(rt; tells(&mut clock, moments.as_slice()));
-}
-
-/// An hour in nanoseconds.
-const HOUR: u64 = 3_600_000_000_000;
-
-/// A machine runs for an hour when a bar is made by its clock. So an hour may have elapsed, and not more.
-#[test]
-fn a_bar_by_a_clock_of_a_machine(rt: HostRuntime) {
-    let rt = &rt;
-    let clock = MachineClock::new(Telling {
-        nanos: &[HOUR],
-        readings: Cell::new(0),
-    });
-    let bar: ProgressBar<InMemoryTerm, MachineClock<Telling>, HostRuntime> = ProgressBar::hidden(
-        *rt,
-        rt.alloc(),
-        clock,
-    ).expect(rt, "granted");
-    holds!(rt; bar.set_elapsed(HOUR).is_ok());
-    same!(rt; bar.elapsed(), HOUR);
-    same!(rt; bar.set_elapsed(HOUR + 1), Err(Refusal::ElapsedBeyondClock));
 }
 
 /// A machine that runs for so many seconds.

@@ -35,19 +35,13 @@ fn a_length_by_the_upper_bound(rt: HostRuntime) {
     same!(rt; length(&wrapped), Some(4));
 }
 
-/// An endless iterator gets no bar of which no length was told.
+/// An endless iterator gets no bar of which no length is told, and one of the length that is told.
 #[test]
 fn no_length_no_bar(rt: HostRuntime) {
     let rt = &rt;
     let alloc = rt.alloc();
     let made = Sevens.try_progress(alloc, setup(rt, alloc, 20));
     holds!(rt; made.granted(rt).is_none());
-}
-
-#[test]
-fn a_length_of_an_endless_one_that_is_told(rt: HostRuntime) {
-    let rt = &rt;
-    let alloc = rt.alloc();
     let made = Sevens.progress_count(alloc, 2, setup(rt, alloc, 20));
     same!(rt; length(&made.granted(rt)), Some(2));
 }

@@ -72,20 +72,14 @@ fn shown<R: Wait + Copy + Clone + Drop + Abort>(
     (shown, board.with_record(PlaysAgain { rt: *rt, alloc }))
 }
 
-/// A tab is two spaces, and a newline parts two lines.
+/// A tab is two spaces, and a newline parts two lines. What isn't a colour sequence is drawn; what it does to a terminal isn't claimed.
+/// One in memory passes it over.
 #[test]
-fn a_tab_and_a_newline(rt: HostRuntime) {
+fn what_no_line_holds(rt: HostRuntime) {
     let rt = &rt;
-    let (shown, again) = shown(*rt, rt.alloc(), "a\tb\nc");
-    same!(rt; shown.as_str(), "a  b\nc");
-    same!(rt; again.as_str(), "a  b\nc");
-}
-
-/// What isn't a colour sequence is drawn; what it does to a terminal isn't claimed. One in memory passes it over.
-#[test]
-fn a_sequence_of_another_kind(rt: HostRuntime) {
-    let rt = &rt;
-    let (shown, again) = shown(*rt, rt.alloc(), "a\u{1B}[2Jb");
-    same!(rt; shown.as_str(), "ab");
-    same!(rt; again.as_str(), "ab");
+    for (text, wanted) in [("a\tb\nc", "a  b\nc"), ("a\u{1B}[2Jb", "ab")] {
+        let (shown, again) = shown(*rt, rt.alloc(), text);
+        same!(rt; shown.as_str(), wanted);
+        same!(rt; again.as_str(), wanted);
+    }
 }

@@ -1,26 +1,27 @@
-//! Lists with a bar of their own, on a terminal in memory.
+//! Lists that threads work on, with a bar of their own or with one that is handed in, on a terminal in memory.
 use crate::checks::Granted;
-use crate::fronts::setup;
+use crate::fronts::{Led, setup};
 use indicatif::{
-    InMemoryTerm, Moves, NoTracker, OwnedBar, ParallelProgressIterator, ProgressBarIter,
-    ProgressStyle, Refusal, StepClock,
+    Moves, NoTracker, ParallelProgressIterator, ProgressBar, ProgressBarIter, ProgressStyle,
+    Refusal,
 };
 use std::alloc::Global;
 use std::process::Abort;
+use std::sync::Wait;
 use std::thread::Threads;
 
-/// A list with a bar of its own.
-type Owned<'a> = ProgressBarIter<&'a [u32], OwnedBar<NoTracker, InMemoryTerm, StepClock>>;
-
-/// Doubles the items of the list 1, 2, 3; its bar stands at 3 then.
-fn doubles<R: Threads + Sync + Abort>(rt: &R, alloc: Global, list: Result<Owned<'_>, Refusal>) {
-    let list = list.granted(rt);
+/// Doubles the items of the list 1, 2, 3, each by one of several threads; its bar stands at 3 then.
+fn doubles<R: Threads + Sync + Abort, P: Moves + Drop>(
+    rt: &R,
+    alloc: Global,
+    list: ProgressBarIter<&[u32], P>,
+) {
     let (made, bar) = list.map_collect(rt, alloc, |x: &u32| x.wrapping_mul(2));
     same!(rt; made.granted(rt).as_slice(), [2, 4, 6].as_slice());
     same!(rt; bar.reading().position, 3);
 }
 
-/// A bar of the list's length, one of another length, and one in a style of one's own.
+/// A bar of the list's length, and one of another length.
 #[test]
 fn lists_with_bars_of_their_own(rt: HostRuntime) {
     let rt = &rt;
@@ -28,10 +29,34 @@ fn lists_with_bars_of_their_own(rt: HostRuntime) {
     let items = [1u32, 2, 3];
     let items = items.as_slice();
     let list = items.progress(alloc, setup(rt, alloc, 20));
-    doubles(rt, alloc, list);
+    doubles(rt, alloc, list.granted(rt));
     let list = items.progress_count(alloc, 5, setup(rt, alloc, 20));
-    doubles(rt, alloc, list);
-    let style = ProgressStyle::default_spinner(alloc).granted(rt);
+    doubles(rt, alloc, list.granted(rt));
+}
+
+/// A bar of this length for generic code to move.
+fn led_of<R: Wait + Copy + Clone + Drop + Abort>(rt: R, alloc: Global, len: u64) -> Led<R> {
+    let rt = &rt;
+    let bar = ProgressBar::new(*rt, alloc, len, setup(rt, alloc, 20)).expect(rt, "granted");
+    Led { bar }
+}
+
+/// The style of the crate's tests of wrappers.
+fn percents(alloc: Global) -> Result<ProgressStyle<NoTracker>, Refusal> {
+    ProgressStyle::default_bar(alloc)?.template("{wide_bar:.red} {percent}/100%")
+}
+
+/// A test of the crate `indicatif` 0.18.6 with its own values.
+#[test]
+fn it_can_wrap_a_parallel_iterator(rt: HostRuntime) {
+    let rt = &rt;
+    let alloc = rt.alloc();
+    let items = [1u32, 2, 3];
+    let items = items.as_slice();
+    let list = items.progress_count(alloc, 3, setup(rt, alloc, 20));
+    doubles(rt, alloc, list.granted(rt));
+    doubles(rt, alloc, items.progress_with(led_of(*rt, alloc, 3)));
+    let style = percents(alloc).granted(rt);
     let list = items.progress_with_style(alloc, style, setup(rt, alloc, 20));
-    doubles(rt, alloc, list);
+    doubles(rt, alloc, list.granted(rt));
 }

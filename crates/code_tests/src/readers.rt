@@ -3,6 +3,7 @@
 use crate::fronts::{Bar, setup};
 use indicatif::{ProgressBar, ProgressBarIter};
 use std::io::{self, Read};
+use std::process::Abort;
 use std::sync::Wait;
 use std::thread::join;
 
@@ -22,9 +23,9 @@ fn reads_all<T: Read, R: Wait + Clone + Drop>(
     Ok(sum)
 }
 
-/// How many bytes a wrapper of the bar reads; `None` where it can't be made, or a read fails.
-fn reads_along<R: Wait + Clone + Drop>(bar: &Bar<R>, bytes: &[u8]) -> Option<u64> {
-    let mut wrapped = bar.wrap_read(bytes).ok()?;
+/// How many bytes a wrapper of the bar reads; `None` where a read fails.
+fn reads_along<R: Wait + Clone + Drop + Abort>(rt: &R, bar: &Bar<R>, bytes: &[u8]) -> Option<u64> {
+    let mut wrapped = bar.wrap_read(bytes).expect(rt, "granted");
     reads_all(&mut wrapped).ok()
 }
 
@@ -38,8 +39,8 @@ fn two_readers_of_one_bar_lose_no_byte(rt: HostRuntime) {
     let bar = ProgressBar::no_length(*rt, alloc, setup).expect(rt, "granted");
     let read = join(
         rt,
-        || reads_along(&bar, &bytes),
-        || reads_along(&bar, &bytes),
+        || reads_along(rt, &bar, &bytes),
+        || reads_along(rt, &bar, &bytes),
     );
     same!(rt; read, (Some(20_000), Some(20_000)));
     same!(rt; bar.position(), 40_000);

@@ -113,9 +113,7 @@ fn a_cursor_only_moves(rt: HostRuntime) {
     let one = bar_of(&board, *rt, alloc, "ab");
     let other = bar_of(&board, *rt, alloc, "cd");
     draws(*rt, &one);
-    is_written(rt, &bytes, "\rab");
     draws(*rt, &other);
-    is_written(rt, &bytes, "\rab\rabcd");
     draws(*rt, &one);
     is_written(rt, &bytes, "\rab\rabcd\u{1b}[1A\rabcd");
     same!(rt; board.set_move_cursor(false), Ok(()));

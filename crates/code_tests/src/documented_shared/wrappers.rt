@@ -36,6 +36,16 @@ pub fn written_along<S: AsyncWrite + Drop, R: Wait + Clone + Drop + Abort>(
     let mut wrapped = bar.wrap_async_write(socket).expect(rt, "granted");
 }
 
+/// Wraps bytes that are written.
+pub fn written<R: Wait + Clone + Drop + Abort>(
+    rt: &R,
+    alloc: Global,
+    bar: &Bar<R>,
+) -> ProgressBarIter<Vec<u8>, Bar<R>> {
+    let mut wrapped = bar.wrap_write(Vec::new(alloc)).expect(rt, "granted");
+    wrapped
+}
+
 /// A bar of two steps, of its own, made from parts.
 fn own_of_two<R: Abort>(rt: &R, alloc: Global) -> OwnedBar<NoTracker, InMemoryTerm, StepClock> {
     let Setup { target, clock: _ } = setup_of(rt, alloc);
