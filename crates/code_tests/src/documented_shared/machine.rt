@@ -75,11 +75,11 @@ fn a_style_for_standard_error(rt: HostRuntime) {
 #[test]
 fn bars_of_one_owner_on_standard_error(rt: HostRuntime) {
     let rt = &rt;
-    let alloc = rt.alloc();
+    let (alloc, now) = (rt.alloc(), 0);
     let facts = unnamed();
     let setup: TerminalSetup<Stderr> = told_setup(rt, rt.stderr(), facts).granted(rt);
     holds!(rt; setup.target.is_hidden());
-    let bar = BarState::<NoTracker>::new(alloc, Some(3), 0).granted(rt);
+    let bar = BarState::<NoTracker>::new(alloc, Some(10), now).granted(rt);
     let setup: StderrSetup = on_stderr(rt).granted(rt);
     let bar = LoneBar::new(bar, setup.target);
     same!(rt; bar.bar().state().pos(), 0);
