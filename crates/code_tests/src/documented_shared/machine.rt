@@ -27,12 +27,13 @@ fn a_clock_and_facts(rt: HostRuntime) {
 
 /// What is told of a terminal without a name.
 fn unnamed() -> Facts {
-    Facts {
+    let facts = Facts {
         rows: 24,
-        cols: 79,
+        cols: 80,
         attended: true,
         term: None,
-    }
+    };
+    facts
 }
 
 /// A terminal that is told another size; two letters, and what ends their row; and a terminal without a name, which is hidden.
