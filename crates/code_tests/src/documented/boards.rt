@@ -14,14 +14,13 @@ use std::process::Abort;
 
 type Bars = Board<NoTracker, InMemoryTerm>;
 
-/// A terminal of 4 rows and 20 columns.
-fn terminal(rt: &impl Abort, alloc: Global) -> InMemoryTerm {
-    InMemoryTerm::new(alloc, 4, 20).granted(rt)
-}
-
+/// A board on a terminal of 4 rows and 20 columns, a text above its bars.
 fn board_of(rt: &impl Abort, alloc: Global) -> Bars {
-    let target = ProgressDrawTarget::term_like(terminal(rt, alloc));
-    Board::new(alloc, target, 1)
+    let now = 0;
+    let term = InMemoryTerm::new(alloc, 4, 20).granted(rt);
+    let mut board: Board<NoTracker, _> = Board::new(alloc, ProgressDrawTarget::term_like(term), 1);
+    board.println("a.txt", now).granted(rt);
+    board
 }
 
 /// A bar that shows this text.
@@ -36,24 +35,15 @@ fn shows(rt: &impl Abort, board: Bars, contents: &str) {
     same!(rt; term.contents().granted(rt).as_str(), contents);
 }
 
+/// Both texts stand on two rows each.
 #[test]
-fn text_above_the_bars(rt: HostRuntime) {
-    let rt = &rt;
-    let (alloc, now) = (rt.alloc(), 0);
-    let term = terminal(rt, alloc);
-    let mut board: Board<NoTracker, _> = Board::new(alloc, ProgressDrawTarget::term_like(term), 1);
-    board.println("a.txt", now).granted(rt);
-    shows(rt, board, "a.txt");
-}
-
-#[test]
-fn text_on_fewer_columns(rt: HostRuntime) {
+fn texts_on_fewer_columns(rt: HostRuntime) {
     let rt = &rt;
     let now = 0;
     let mut board = board_of(rt, rt.alloc());
     board.println("hello", now).granted(rt);
     board.resize(4, 3).granted(rt); // it stands on two rows from now on: `hel`, `lo`
-    shows(rt, board, "hel\nlo");
+    shows(rt, board, "a.t\nxt\nhel\nlo");
 }
 
 #[test]
@@ -63,7 +53,7 @@ fn emitted_line(rt: HostRuntime) {
     let mut board = board_of(rt, alloc);
     let drawn = emit(alloc, &mut board, Level::Error, "no such file", now).granted(rt);
     same!(rt; drawn, Drawn::Yes);
-    shows(rt, board, "ERROR no such file");
+    shows(rt, board, "a.txt\nERROR no such file");
 }
 
 #[test]
