@@ -2,13 +2,11 @@
 use crate::checks::Granted;
 use indicatif_bar::state::BarState;
 use indicatif_bar::style::{NoTracker, ProgressStyle};
-use indicatif_board::bridge::emit;
 use indicatif_board::done::Done;
 use indicatif_board::multi::{Answer, BarId, Board, Call, Candidate, InsertLocation};
 use indicatif_term::draw_target::ProgressDrawTarget;
 use indicatif_term::in_memory::InMemoryTerm;
 use indicatif_text::columns::{Drawn, Refusal};
-use log::Level;
 use std::alloc::Global;
 use std::process::Abort;
 
@@ -44,16 +42,6 @@ fn texts_on_fewer_columns(rt: HostRuntime) {
     board.println("hello", now).granted(rt);
     board.resize(4, 3).granted(rt); // it stands on two rows from now on: `hel`, `lo`
     shows(rt, board, "a.t\nxt\nhel\nlo");
-}
-
-#[test]
-fn emitted_line(rt: HostRuntime) {
-    let rt = &rt;
-    let (alloc, now) = (rt.alloc(), 0);
-    let mut board = board_of(rt, alloc);
-    let drawn = emit(alloc, &mut board, Level::Error, "no such file", now).granted(rt);
-    same!(rt; drawn, Drawn::Yes);
-    shows(rt, board, "a.txt\nERROR no such file");
 }
 
 #[test]

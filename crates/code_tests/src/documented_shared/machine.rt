@@ -5,7 +5,7 @@ use indicatif::machine::{
     sized_stderr, sized_target, style_on_stderr, told_setup, wants_colors,
 };
 use indicatif::{
-    BarState, Clock, Drawn, Facts, LoneBar, MultiProgress, NoTracker, OwnRows, ProgressBar,
+    BarState, Drawn, Facts, LoneBar, MultiProgress, NoTracker, OwnRows, ProgressBar,
     ProgressDrawTarget, ProgressIterator, ProgressStyle, Refusal, Resize, Term, TermLike,
 };
 use std::io::{Stderr, Stdout};
@@ -13,11 +13,8 @@ use std::thread::sleep;
 use std::time::Duration;
 
 #[test]
-fn a_clock_and_facts(rt: HostRuntime) {
+fn facts_that_are_told(rt: HostRuntime) {
     let rt = &rt;
-    let mut clock = MachineClock::new(*rt);
-    let opened = clock.now();
-    holds!(rt; opened <= clock.now());
     let mut facts = facts_of(rt, &rt.stderr()).granted(rt);
     facts.cols = 20;
     let hides = facts.hides();
