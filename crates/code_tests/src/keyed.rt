@@ -55,8 +55,10 @@ fn setup(alloc: Global) -> Result<Setup<InMemoryTerm, StepClock>, Refusal> {
 
 /// A style that shows a message, and how many of ten steps are left.
 fn style(alloc: Global) -> Result<ProgressStyle<Left>, Refusal> {
-    let style = ProgressStyle::with_template(alloc, "{msg} {left}")?
-        .with_key("left", Left { of: 10 })?;
+    let style = ProgressStyle::with_template(alloc, "{msg} {left}")?.with_key(
+        "left",
+        Left { of: 10 },
+    )?;
     Ok(style)
 }
 
