@@ -133,16 +133,6 @@ fn log_and_clear(rt: &impl Abort, alloc: Global, board: &mut Bars) {
 }
 
 #[test]
-fn copy_of_a_call(rt: HostRuntime) {
-    let rt = &rt;
-    let (alloc, call) = (rt.alloc(), Call::<NoTracker>::Redraw);
-    let again = call.try_clone(alloc).granted(rt);
-    holds!(rt; matches!(again, Call::Redraw));
-    drop(call);
-    drop(again);
-}
-
-#[test]
 fn copy_of_a_candidate(rt: HostRuntime) {
     let rt = &rt;
     let id = BarId {

@@ -65,9 +65,10 @@ fn elapsed_time(rt: HostRuntime) {
 
 /// Draws a bar at the moment that a clock tells.
 fn draws_now(rt: &impl Abort, bar: &mut Bar) {
+    let second: Moment = 1_000_000_000;
     let mut clock = StepClock {
         next: 5_000_000_000,
-        step: 1,
+        step: second,
     };
     let opened = clock.now();
     same!(rt; bar.tick(opened).granted(rt), Drawn::Yes);

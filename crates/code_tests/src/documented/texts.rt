@@ -1,16 +1,7 @@
 //! Examples of `indicatif_text`.
 use crate::checks::Granted;
-use indicatif_text::columns::{Moment, pieces};
-use indicatif_text::format::FormattedDuration;
+use indicatif_text::columns::pieces;
 use indicatif_text::template::{Alignment, Part, Template};
-
-#[test]
-fn moment_of_a_second(rt: HostRuntime) {
-    let rt = &rt;
-    let second: Moment = 1_000_000_000;
-    let text = FormattedDuration(second).to_string(rt.alloc()).granted(rt);
-    same!(rt; text.as_str(), "00:00:01");
-}
 
 #[test]
 fn text_without_its_colours(rt: HostRuntime) {
