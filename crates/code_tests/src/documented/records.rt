@@ -11,19 +11,15 @@ use indicatif_text::columns::{Moment, Refusal};
 use std::alloc::Global;
 use std::process::Abort;
 
-fn style_of(rt: &impl Abort, alloc: Global) -> ProgressStyle<NoTracker> {
+/// A bar of four steps, at this position.
+fn bar_at(rt: &impl Abort, alloc: Global, position: u64) -> Box<BarState<NoTracker>> {
     let style: ProgressStyle<NoTracker> = ProgressStyle::with_template(
         alloc,
         "{bar:10} {pos}/{len}",
     ).granted(rt)
         .progress_chars("=> ")
         .granted(rt);
-    style
-}
-
-/// A bar of four steps, at this position.
-fn bar_at(rt: &impl Abort, alloc: Global, position: u64) -> Box<BarState<NoTracker>> {
-    let bar = BarState::styled(alloc, style_of(rt, alloc), Some(4), 0).granted(rt);
+    let bar = BarState::styled(alloc, style, Some(4), 0).granted(rt);
     let mut bar = Box::new(alloc, bar).granted(rt);
     bar.set_position(position, 0);
     bar
@@ -32,16 +28,6 @@ fn bar_at(rt: &impl Abort, alloc: Global, position: u64) -> Box<BarState<NoTrack
 /// A bar's lines are one, of this text.
 fn says<K: ProgressTracker>(rt: &impl Abort, bar: &BarState<K>, text: &str) {
     is_shown(rt, &bar.lines(0, 80).granted(rt), text);
-}
-
-#[test]
-fn first_step(rt: HostRuntime) {
-    let rt = &rt;
-    let alloc = rt.alloc();
-    let style = style_of(rt, alloc);
-    let mut bar = BarState::styled(alloc, style, Some(10), 0).granted(rt);
-    let ask = bar.inc(1, 0);
-    same!(rt; ask, Ask::Unforced);
 }
 
 #[test]
@@ -133,6 +119,7 @@ fn lines_in_the_room_of_others(rt: HostRuntime) {
     is_shown(rt, &lines, "========== 4/4");
 }
 
+/// A bar in that style, and its first step.
 #[test]
 fn style_made_from_another(rt: HostRuntime) {
     let rt = &rt;
@@ -144,8 +131,10 @@ fn style_made_from_another(rt: HostRuntime) {
         .granted(rt)
         .template("{pos}")
         .granted(rt);
-    let other = BarState::styled(alloc, style, Some(10), 0).granted(rt);
-    says(rt, &other, "0");
+    let mut bar = BarState::styled(alloc, style, Some(10), 0).granted(rt);
+    says(rt, &bar, "0");
+    let ask = bar.inc(1, 0);
+    same!(rt; ask, Ask::Unforced);
 }
 
 /// Tells the same text always.
