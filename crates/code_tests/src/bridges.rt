@@ -90,9 +90,9 @@ fn log_each_level<L: Log>(rt: &L) {
 fn filtered<R: Wait + Copy + Clone + Drop + Abort>(rt: R, board: &Shared<R>) -> u64 {
     let rt = &rt;
     let bridge = LogBridge::new(board.clone().expect(rt, "granted")).with_filter(LevelFilter::Warn);
-    let log = Logged::new(*rt, Level::Trace, bridge);
-    log_each_level(&log);
-    log.sink().missed()
+    let rt = Logged::new(*rt, Level::Info, bridge);
+    log_each_level(&rt);
+    rt.sink().missed()
 }
 
 /// The level may stand before each line of a text.
@@ -225,12 +225,13 @@ fn shows<R: Abort>(rt: &R, board: &Own, wanted: &str) {
 #[test]
 fn lines_stand_above_the_bar(rt: HostRuntime) {
     let rt = &rt;
-    let alloc = rt.alloc();
+    let (alloc, now) = (rt.alloc(), 0);
     let mut board = showing_x(rt, alloc);
     same!(rt; tick(&mut board), Ok(Drawn::Yes));
-    same!(rt; emit(alloc, &mut board, Level::Warn, "low disk", 0), Ok(Drawn::Yes));
-    same!(rt; emit(alloc, &mut board, Level::Error, "a\nb", 0), Ok(Drawn::Yes));
-    shows(rt, &board, "WARN  low disk\nERROR a\nb\nx");
+    let drawn = emit(alloc, &mut board, Level::Error, "no such file", now).granted(rt);
+    same!(rt; drawn, Drawn::Yes);
+    same!(rt; emit(alloc, &mut board, Level::Error, "a\nb", now), Ok(Drawn::Yes));
+    shows(rt, &board, "ERROR no such file\nERROR a\nb\nx");
 }
 
 /// On a hidden target a line is dropped: it doesn't show once there is a terminal.

@@ -12,7 +12,6 @@ mod targets;
 mod texts;
 
 use crate::checks::Granted;
-use bars_run::fault::Fault;
 use indicatif_bar::state::Ask;
 use indicatif_board::bridge::bridge_line;
 use indicatif_board::multi::MultiState;
@@ -146,9 +145,6 @@ fn refusals(rt: HostRuntime) {
     same!(rt; refusal.to_string(alloc).granted(rt).as_str(),
         "a terminal of no columns");
     same!(rt; Refusal::RecordedTarget.number(), 17);
-    let fault = Fault::Line(4, Refusal::NotMember);
-    same!(rt; fault.to_string(alloc).granted(rt).as_str(), "bars: line 4: E9");
-    same!(rt; fault.status(), 1);
 }
 
 #[test]

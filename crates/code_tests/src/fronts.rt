@@ -52,10 +52,11 @@ pub fn target(alloc: Global) -> Result<ProgressDrawTarget<InMemoryTerm>, Refusal
 /// A terminal of 4 rows and so many columns, and a clock.
 pub fn setup<R: Abort>(rt: &R, alloc: Global, cols: u16) -> Setup<InMemoryTerm, StepClock> {
     let term = InMemoryTerm::new(alloc, 4, cols).granted(rt);
-    Setup {
+    let setup = Setup {
         target: ProgressDrawTarget::term_like(term),
         clock: StepClock { next: 0, step: 1 },
-    }
+    };
+    setup
 }
 
 /// A board of the id 1 that keeps its history.

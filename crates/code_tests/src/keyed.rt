@@ -10,6 +10,7 @@ use indicatif::{
     InMemoryTerm, Moment, MultiProgress, ProgressBar, ProgressIterator, ProgressState,
     ProgressStyle, Refusal, Setup, StepClock,
 };
+use itoa::Buffer;
 use std::alloc::Global;
 use std::process::Abort;
 use std::sync::Wait;
@@ -18,8 +19,7 @@ use std::thread;
 /// Tells how many steps of so many are left.
 #[derive(Clone, Copy, Drop)]
 pub struct Left {
-    pub alloc: Global,
-    pub of: u64,
+    of: u64,
 }
 
 impl ProgressTracker for Left {
@@ -30,9 +30,8 @@ impl ProgressTracker for Left {
     fn reset(&mut self, _state: &ProgressState, _now: Moment) {}
 
     fn write(&self, state: &ProgressState, _now: Moment, out: &mut String) -> Result<(), Refusal> {
-        let left = self.of.saturating_sub(state.pos());
-        let text = format!(in self.alloc; "{left}")?;
-        out.push_str(text.as_str())?;
+        let mut digits = Buffer::new();
+        out.push_str(digits.format(self.of.saturating_sub(state.pos())))?;
         Ok(())
     }
 
@@ -56,8 +55,11 @@ fn setup(alloc: Global) -> Result<Setup<InMemoryTerm, StepClock>, Refusal> {
 
 /// A style that shows a message, and how many of ten steps are left.
 fn style(alloc: Global) -> Result<ProgressStyle<Left>, Refusal> {
-    let left = Left { alloc, of: 10 };
-    ProgressStyle::with_template(alloc, "{msg} {left}")?.with_key("left", left)
+    let style = ProgressStyle::with_template(alloc, "{msg} {left}")?.with_key(
+        "left",
+        Left { of: 10 },
+    )?;
+    Ok(style)
 }
 
 fn files<R: Wait + Copy + Clone + Drop + Abort>(rt: R, alloc: Global) -> Keyed<R> {

@@ -246,5 +246,6 @@ fn goes_on_within<R: time::Clock>(clock: &mut MachineClock<R>, readings: u32) ->
 #[test]
 fn a_clock_of_this_machine(rt: HostRuntime) {
     let rt = &rt;
-    holds!(rt; goes_on_within(&mut MachineClock::new(*rt), 1_000_000));
+    let mut clock = MachineClock::new(*rt);
+    holds!(rt; goes_on_within(&mut clock, 1_000_000));
 }

@@ -76,8 +76,9 @@ pub fn answers_so<R: Abort, K: Tracks>(
     entries: &[Entry<K>],
 ) {
     for entry in entries {
-        let call = entry.call.try_clone(alloc).granted(rt);
-        let answer = board.call(call, entry.now);
+        let call = &entry.call;
+        let again = call.try_clone(alloc).granted(rt);
+        let answer = board.call(again, entry.now);
         same!(rt; &answer, &entry.answer);
     }
 }

@@ -2,26 +2,23 @@
 use crate::checks::Granted;
 use indicatif_bar::state::BarState;
 use indicatif_bar::style::{NoTracker, ProgressStyle};
-use indicatif_board::bridge::emit;
 use indicatif_board::done::Done;
 use indicatif_board::multi::{Answer, BarId, Board, Call, Candidate, InsertLocation};
 use indicatif_term::draw_target::ProgressDrawTarget;
 use indicatif_term::in_memory::InMemoryTerm;
 use indicatif_text::columns::{Drawn, Refusal};
-use log::Level;
 use std::alloc::Global;
 use std::process::Abort;
 
 type Bars = Board<NoTracker, InMemoryTerm>;
 
-/// A terminal of 4 rows and 20 columns.
-fn terminal(rt: &impl Abort, alloc: Global) -> InMemoryTerm {
-    InMemoryTerm::new(alloc, 4, 20).granted(rt)
-}
-
+/// A board on a terminal of 4 rows and 20 columns, a text above its bars.
 fn board_of(rt: &impl Abort, alloc: Global) -> Bars {
-    let target = ProgressDrawTarget::term_like(terminal(rt, alloc));
-    Board::new(alloc, target, 1)
+    let now = 0;
+    let term = InMemoryTerm::new(alloc, 4, 20).granted(rt);
+    let mut board: Board<NoTracker, _> = Board::new(alloc, ProgressDrawTarget::term_like(term), 1);
+    board.println("a.txt", now).granted(rt);
+    board
 }
 
 /// A bar that shows this text.
@@ -36,34 +33,15 @@ fn shows(rt: &impl Abort, board: Bars, contents: &str) {
     same!(rt; term.contents().granted(rt).as_str(), contents);
 }
 
+/// Both texts stand on two rows each.
 #[test]
-fn text_above_the_bars(rt: HostRuntime) {
-    let rt = &rt;
-    let (alloc, now) = (rt.alloc(), 0);
-    let term = terminal(rt, alloc);
-    let mut board: Board<NoTracker, _> = Board::new(alloc, ProgressDrawTarget::term_like(term), 1);
-    board.println("a.txt", now).granted(rt);
-    shows(rt, board, "a.txt");
-}
-
-#[test]
-fn text_on_fewer_columns(rt: HostRuntime) {
+fn texts_on_fewer_columns(rt: HostRuntime) {
     let rt = &rt;
     let now = 0;
     let mut board = board_of(rt, rt.alloc());
     board.println("hello", now).granted(rt);
     board.resize(4, 3).granted(rt); // it stands on two rows from now on: `hel`, `lo`
-    shows(rt, board, "hel\nlo");
-}
-
-#[test]
-fn emitted_line(rt: HostRuntime) {
-    let rt = &rt;
-    let (alloc, now) = (rt.alloc(), 0);
-    let mut board = board_of(rt, alloc);
-    let drawn = emit(alloc, &mut board, Level::Error, "no such file", now).granted(rt);
-    same!(rt; drawn, Drawn::Yes);
-    shows(rt, board, "ERROR no such file");
+    shows(rt, board, "a.t\nxt\nhel\nlo");
 }
 
 #[test]
@@ -152,16 +130,6 @@ fn log_and_clear(rt: &impl Abort, alloc: Global, board: &mut Bars) {
     let again = answer.same();
     same!(rt; answer, Answer::Drawn(Drawn::Yes));
     same!(rt; again, Answer::Drawn(Drawn::Yes));
-}
-
-#[test]
-fn copy_of_a_call(rt: HostRuntime) {
-    let rt = &rt;
-    let (alloc, call) = (rt.alloc(), Call::<NoTracker>::Redraw);
-    let again = call.try_clone(alloc).granted(rt);
-    holds!(rt; matches!(again, Call::Redraw));
-    drop(call);
-    drop(again);
 }
 
 #[test]

@@ -8,8 +8,9 @@ use std::alloc::Global;
 use std::process::Abort;
 
 /// A frame of one bar of one line.
-fn frame_of(rt: &impl Abort, alloc: Global, text: &str) -> Vec<Segment> {
-    let line = LineType::Text(String::from_str(alloc, text).granted(rt));
+fn frame_of(rt: &impl Abort, alloc: Global) -> Vec<Segment> {
+    let line = LineType::Text(String::from_str(alloc, "fetched").granted(rt));
+    holds!(rt; line.is_text("fetched"));
     let lines = vec![in alloc; line].granted(rt);
     let frame = vec![in alloc; Segment { bar: 1, lines }].granted(rt);
     frame
@@ -21,18 +22,10 @@ fn shows(rt: &impl Abort, engine: Engine<InMemoryTerm>, contents: &str) {
 }
 
 #[test]
-fn text_of_a_line(rt: HostRuntime) {
-    let rt = &rt;
-    let alloc = rt.alloc();
-    let line = LineType::Text(String::from_str(alloc, "fetched").granted(rt));
-    holds!(rt; line.is_text("fetched"));
-}
-
-#[test]
 fn drawn_logged_and_kept(rt: HostRuntime) {
     let rt = &rt;
     let alloc = rt.alloc();
-    let frame = frame_of(rt, alloc, "fetched");
+    let frame = frame_of(rt, alloc);
     let mut engine = Engine::new(alloc, InMemoryTerm::new(alloc, 4, 5).granted(rt));
     engine.set_move_cursor(true);
     engine
@@ -45,33 +38,21 @@ fn drawn_logged_and_kept(rt: HostRuntime) {
     shows(rt, engine, "done\nfetch\ned");
 }
 
+/// What is drawn then is as tall, so that no row above it is blank.
 #[test]
 fn terminal_of_a_new_size(rt: HostRuntime) {
     let rt = &rt;
     let alloc = rt.alloc();
-    let frame = frame_of(rt, alloc, "fetched");
+    let frame = frame_of(rt, alloc);
     let mut engine = Engine::new(alloc, InMemoryTerm::new(alloc, 4, 10).granted(rt));
     engine
         .draw(&frame, 0, MultiProgressAlignment::Top)
         .granted(rt);
     engine.resize(4, 5).granted(rt);
-    shows(rt, engine, "fetch\ned");
-}
-
-#[test]
-fn shorter_frame_at_the_bottom(rt: HostRuntime) {
-    let rt = &rt;
-    let alloc = rt.alloc();
-    let tall = frame_of(rt, alloc, "fetched");
-    let mut engine = Engine::new(alloc, InMemoryTerm::new(alloc, 4, 3).granted(rt));
-    engine
-        .draw(&tall, 0, MultiProgressAlignment::Bottom)
-        .granted(rt);
-    let frame = frame_of(rt, alloc, "x");
     engine
         .draw(&frame, 0, MultiProgressAlignment::Bottom)
         .granted(rt);
-    shows(rt, engine, "\n\nx");
+    shows(rt, engine, "fetch\ned");
 }
 
 #[test]

@@ -1,6 +1,5 @@
-//! Examples of a bar's record, its style and its trackers.
-ghost use Rattle.std.specs.Prelude.{◌-◌, decimal, string_bytes};
-ghost use Rattle.indicatif_bar.specs.Trackers.{telling};
+//! Examples of a bar's record, its style and a tracker. `keyed` has that of a key of one's own.
+ghost use Rattle.std.specs.Prelude.{string_bytes};
 
 use crate::checks::Granted;
 use crate::values::is_shown;
@@ -9,24 +8,18 @@ use indicatif_bar::state::{
 };
 use indicatif_bar::style::{FnTracker, NoTracker, ProgressStyle, ProgressTracker, TellsText};
 use indicatif_text::columns::{Moment, Refusal};
-use itoa::Buffer;
 use std::alloc::Global;
-use std::convert::AsStr;
 use std::process::Abort;
 
-fn style_of(rt: &impl Abort, alloc: Global) -> ProgressStyle<NoTracker> {
+/// A bar of four steps, at this position.
+fn bar_at(rt: &impl Abort, alloc: Global, position: u64) -> Box<BarState<NoTracker>> {
     let style: ProgressStyle<NoTracker> = ProgressStyle::with_template(
         alloc,
         "{bar:10} {pos}/{len}",
     ).granted(rt)
         .progress_chars("=> ")
         .granted(rt);
-    style
-}
-
-/// A bar of four steps, at this position.
-fn bar_at(rt: &impl Abort, alloc: Global, position: u64) -> Box<BarState<NoTracker>> {
-    let bar = BarState::styled(alloc, style_of(rt, alloc), Some(4), 0).granted(rt);
+    let bar = BarState::styled(alloc, style, Some(4), 0).granted(rt);
     let mut bar = Box::new(alloc, bar).granted(rt);
     bar.set_position(position, 0);
     bar
@@ -35,24 +28,6 @@ fn bar_at(rt: &impl Abort, alloc: Global, position: u64) -> Box<BarState<NoTrack
 /// A bar's lines are one, of this text.
 fn says<K: ProgressTracker>(rt: &impl Abort, bar: &BarState<K>, text: &str) {
     is_shown(rt, &bar.lines(0, 80).granted(rt), text);
-}
-
-#[test]
-fn first_step(rt: HostRuntime) {
-    let rt = &rt;
-    let alloc = rt.alloc();
-    let style = style_of(rt, alloc);
-    let mut bar = BarState::styled(alloc, style, Some(10), 0).granted(rt);
-    let ask = bar.inc(1, 0);
-    same!(rt; ask, Ask::Unforced);
-}
-
-#[test]
-fn bar_without_keys_of_its_own(rt: HostRuntime) {
-    let rt = &rt;
-    let (alloc, now) = (rt.alloc(), 0);
-    let bar = BarState::<NoTracker>::new(alloc, Some(10), now).granted(rt);
-    same!(rt; bar.state().pos(), 0);
 }
 
 #[test]
@@ -68,15 +43,6 @@ fn change_of_both_numbers(rt: HostRuntime) {
     same!(rt; (bar.state().pos(), bar.state().len()), (3, Some(4)));
 }
 
-#[test]
-fn command_as_a_value(rt: HostRuntime) {
-    let rt = &rt;
-    let now = 0;
-    let mut bar = bar_at(rt, rt.alloc(), 3);
-    let ask = bar.apply(BarCommand::Inc(2), now).granted(rt);
-    same!(rt; (bar.state().pos(), ask), (5, Ask::Unforced));
-}
-
 /// A copy of a command. The command itself is given up.
 fn copy_of(
     rt: &impl Abort,
@@ -88,12 +54,14 @@ fn copy_of(
 }
 
 #[test]
-fn copy_of_a_command(rt: HostRuntime) {
+fn command_as_a_value_and_its_copy(rt: HostRuntime) {
     let rt = &rt;
-    let alloc = rt.alloc();
-    let mut bar = bar_at(rt, alloc, 5);
+    let (alloc, now) = (rt.alloc(), 0);
+    let mut bar = bar_at(rt, alloc, 3);
+    let ask = bar.apply(BarCommand::Inc(2), now).granted(rt);
+    same!(rt; (bar.state().pos(), ask), (5, Ask::Unforced));
     let again = copy_of(rt, alloc, BarCommand::Inc(2));
-    bar.apply(again, 0).granted(rt);
+    bar.apply(again, now).granted(rt);
     same!(rt; bar.state().pos(), 7);
 }
 
@@ -151,6 +119,7 @@ fn lines_in_the_room_of_others(rt: HostRuntime) {
     is_shown(rt, &lines, "========== 4/4");
 }
 
+/// A bar in that style, and its first step.
 #[test]
 fn style_made_from_another(rt: HostRuntime) {
     let rt = &rt;
@@ -162,56 +131,10 @@ fn style_made_from_another(rt: HostRuntime) {
         .granted(rt)
         .template("{pos}")
         .granted(rt);
-    let other = BarState::styled(alloc, style, Some(10), 0).granted(rt);
-    says(rt, &other, "0");
-}
-
-/// Tells how many steps of so many are left.
-#[derive(Clone, Copy, Drop)]
-struct Left {
-    of: u64,
-}
-
-impl ProgressTracker for Left {
-    ghost means = { telling (λ left p now. decimal (left.of - p.position)) };
-
-    fn tick(&mut self, _state: &ProgressState, _now: Moment) {}
-
-    fn reset(&mut self, _state: &ProgressState, _now: Moment) {}
-
-    fn write(&self, state: &ProgressState, _now: Moment, out: &mut String) -> Result<(), Refusal> {
-        let mut digits = Buffer::new();
-        out.push_str(digits.format(self.of.saturating_sub(state.pos())))?;
-        Ok(())
-    }
-
-    fn try_clone(&self) -> Result<Left, Refusal> {
-        Ok(*self)
-    }
-}
-
-/// A bar of files that shows how many of 10 are left.
-fn counting(rt: &impl Abort, alloc: Global) -> Box<BarState<Left>> {
-    let style = ProgressStyle::with_template(alloc, "{msg} {left}")
-        .granted(rt)
-        .with_key("left", Left { of: 10 })
-        .granted(rt);
-    let mut bar = BarState::styled(alloc, style, None, 0).granted(rt);
-    bar.set_message("files", 0).granted(rt);
-    Box::new(alloc, bar).granted(rt)
-}
-
-/// How many files are done, and what the bar shows: the key follows the position, and stays at 0 past the end.
-const FILES: &[(u64, &str)] = &[(0, "files 10"), (3, "files 7"), (12, "files 0")];
-
-#[test]
-fn a_tracker_of_what_is_left(rt: HostRuntime) {
-    let rt = &rt;
-    let mut bar = counting(rt, rt.alloc());
-    for (position, wanted) in FILES {
-        bar.set_position(*position, 0);
-        says(rt, &bar, wanted);
-    }
+    let mut bar = BarState::styled(alloc, style, Some(10), 0).granted(rt);
+    says(rt, &bar, "0");
+    let ask = bar.inc(1, 0);
+    same!(rt; ask, Ask::Unforced);
 }
 
 /// Tells the same text always.

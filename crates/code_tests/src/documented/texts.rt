@@ -1,18 +1,7 @@
 //! Examples of `indicatif_text`.
 use crate::checks::Granted;
-use indicatif_text::columns::{Moment, pieces};
-use indicatif_text::format::FormattedDuration;
+use indicatif_text::columns::pieces;
 use indicatif_text::template::{Alignment, Part, Template};
-use std::alloc::Global;
-use std::process::Abort;
-
-#[test]
-fn moment_of_a_second(rt: HostRuntime) {
-    let rt = &rt;
-    let second: Moment = 1_000_000_000;
-    let text = FormattedDuration(second).to_string(rt.alloc()).granted(rt);
-    same!(rt; text.as_str(), "00:00:01");
-}
 
 #[test]
 fn text_without_its_colours(rt: HostRuntime) {
@@ -27,17 +16,6 @@ fn text_without_its_colours(rt: HostRuntime) {
     same!(rt; out.as_str(), "ab");
 }
 
-fn template_of(rt: &impl Abort, alloc: Global) -> Template {
-    Template::parse(alloc, "{k:>2}:\n{x}").granted(rt)
-}
-
-#[test]
-fn placeholder_at_the_right(rt: HostRuntime) {
-    let rt = &rt;
-    let template = template_of(rt, rt.alloc());
-    holds!(rt; is_right(&template));
-}
-
 /// Whether a template begins with a placeholder whose text stands at the right.
 fn is_right(template: &Template) -> bool {
     match template.part(0) {
@@ -46,12 +24,13 @@ fn is_right(template: &Template) -> bool {
     }
 }
 
-/// A template's literals, and the names of its keys.
+/// A template's literals, and the names of its keys, of which the first stands at the right.
 #[test]
 fn parts_in_their_order(rt: HostRuntime) {
     let rt = &rt;
     let alloc = rt.alloc();
-    let template = template_of(rt, alloc);
+    let template = Template::parse(alloc, "{k:>2}:\n{x}").granted(rt);
+    holds!(rt; is_right(&template));
     let mut out = String::new(alloc);
     for part in template.parts() {
         match part {

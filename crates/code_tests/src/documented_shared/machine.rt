@@ -5,7 +5,7 @@ use indicatif::machine::{
     sized_stderr, sized_target, style_on_stderr, told_setup, wants_colors,
 };
 use indicatif::{
-    BarState, Clock, Drawn, Facts, LoneBar, MultiProgress, NoTracker, OwnRows, ProgressBar,
+    BarState, Drawn, Facts, LoneBar, MultiProgress, NoTracker, OwnRows, ProgressBar,
     ProgressDrawTarget, ProgressIterator, ProgressStyle, Refusal, Resize, Term, TermLike,
 };
 use std::io::{Stderr, Stdout};
@@ -13,11 +13,8 @@ use std::thread::sleep;
 use std::time::Duration;
 
 #[test]
-fn a_clock_and_facts(rt: HostRuntime) {
+fn facts_that_are_told(rt: HostRuntime) {
     let rt = &rt;
-    let mut clock = MachineClock::new(*rt);
-    let opened = clock.now();
-    holds!(rt; opened <= clock.now());
     let mut facts = facts_of(rt, &rt.stderr()).granted(rt);
     facts.cols = 20;
     let hides = facts.hides();
@@ -27,12 +24,13 @@ fn a_clock_and_facts(rt: HostRuntime) {
 
 /// What is told of a terminal without a name.
 fn unnamed() -> Facts {
-    Facts {
+    let facts = Facts {
         rows: 24,
-        cols: 79,
+        cols: 80,
         attended: true,
         term: None,
-    }
+    };
+    facts
 }
 
 /// A terminal that is told another size; two letters, and what ends their row; and a terminal without a name, which is hidden.
@@ -75,11 +73,11 @@ fn a_style_for_standard_error(rt: HostRuntime) {
 #[test]
 fn bars_of_one_owner_on_standard_error(rt: HostRuntime) {
     let rt = &rt;
-    let alloc = rt.alloc();
+    let (alloc, now) = (rt.alloc(), 0);
     let facts = unnamed();
     let setup: TerminalSetup<Stderr> = told_setup(rt, rt.stderr(), facts).granted(rt);
     holds!(rt; setup.target.is_hidden());
-    let bar = BarState::<NoTracker>::new(alloc, Some(3), 0).granted(rt);
+    let bar = BarState::<NoTracker>::new(alloc, Some(10), now).granted(rt);
     let setup: StderrSetup = on_stderr(rt).granted(rt);
     let bar = LoneBar::new(bar, setup.target);
     same!(rt; bar.bar().state().pos(), 0);

@@ -1,14 +1,8 @@
-//! A board that is shared, its history, and a log above its bars.
+//! A board that is shared, and its history.
 use crate::checks::Granted;
 use crate::documented_shared::bars::setup_of;
-use indicatif::bridge::LogBridge;
 use indicatif::style::Tracks;
-use indicatif::{
-    InMemoryTerm, MultiProgress, ProgressBar, RecordReader, Recorded, StepClock, TermLike,
-};
-use log::{Level, Logged, warn};
-use std::process::Abort;
-use std::sync::Wait;
+use indicatif::{MultiProgress, ProgressBar, RecordReader, Recorded, StepClock, TermLike};
 
 #[derive(Drop)]
 struct Length;
@@ -21,19 +15,9 @@ impl<T: TermLike + Drop, K: Tracks> RecordReader<T, K> for Length {
     }
 }
 
-fn warn_above<R: Wait + Copy + Clone + Drop + Abort>(
-    rt: R,
-    board: &MultiProgress<InMemoryTerm, StepClock, R>,
-) {
-    let rt = &rt;
-    let bridge = LogBridge::new(board.clone().expect(rt, "granted"));
-    let rt = Logged::new(*rt, Level::Info, bridge);
-    warn!(rt; "low disk");
-}
-
-/// From the second line on a draw moves the cursor over rows that stay. The board keeps no history.
+/// The board keeps no history.
 #[test]
-fn lines_above_a_bar(rt: HostRuntime) {
+fn line_above_a_bar(rt: HostRuntime) {
     let rt = &rt;
     let alloc = rt.alloc();
     let setup = setup_of(rt, alloc);
@@ -45,9 +29,8 @@ fn lines_above_a_bar(rt: HostRuntime) {
     holds!(rt; !bar.is_hidden());
     board.println("a.txt").granted(rt);
     board.set_move_cursor(true).granted(rt);
-    warn_above(*rt, &board);
     let shown = board.with_term(|term| term.map(|term| term.contents()));
     let shown = shown.granted(rt).granted(rt);
-    same!(rt; shown.as_str(), "a.txt\nWARN  low disk");
+    same!(rt; shown.as_str(), "a.txt");
     same!(rt; board.with_record(Length), 0);
 }
