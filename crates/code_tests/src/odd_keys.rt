@@ -72,14 +72,19 @@ fn shown<R: Wait + Copy + Clone + Drop + Abort>(
     (shown, board.with_record(PlaysAgain { rt: *rt, alloc }))
 }
 
+/// Both show this where such a text was told.
+fn show<R: Wait + Copy + Clone + Drop + Abort>(rt: &R, alloc: Global, text: &str, wanted: &str) {
+    let (shown, again) = shown(*rt, alloc, text);
+    same!(rt; shown.as_str(), wanted);
+    same!(rt; again.as_str(), wanted);
+}
+
 /// A tab is two spaces, and a newline parts two lines. What isn't a colour sequence is drawn; what it does to a terminal isn't claimed.
 /// One in memory passes it over.
 #[test]
 fn what_no_line_holds(rt: HostRuntime) {
     let rt = &rt;
-    for (text, wanted) in [("a\tb\nc", "a  b\nc"), ("a\u{1B}[2Jb", "ab")] {
-        let (shown, again) = shown(*rt, rt.alloc(), text);
-        same!(rt; shown.as_str(), wanted);
-        same!(rt; again.as_str(), wanted);
-    }
+    let alloc = rt.alloc();
+    show(rt, alloc, "a\tb\nc", "a  b\nc");
+    show(rt, alloc, "a\u{1B}[2Jb", "ab");
 }
