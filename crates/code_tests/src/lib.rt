@@ -17,7 +17,7 @@
 //! - `fronts`: bars and boards for tests, and what they show. `recordings`: what a board has recorded.
 //! - `shown`: a terminal that others see. `owners`: what the last owner of a bar leaves there. `watched`: boards there, while a closure
 //!   runs, and where the cursor only moves. `bars`: bars in threads, pauses and bounds.
-//! - `boards`: boards that threads share. `records`: a board with its history that nobody shares.
+//! - `boards`: boards that threads share. `records`: a board with its history, behind a lock of the test's own.
 //! - `shared`: boards that make their bars, what is said of a wrapper's bar, and threads at one bar. `readers`: two readers of one bar.
 //!   `ways`: each way to make a bar.
 //! - `closures`: what is done under a lock. `given_up`: what threads of tickers give up, and calls that find no memory, over a runtime
