@@ -57,7 +57,10 @@ fn what_a_bar_is_made_with(rt: HostRuntime) {
         target: target(rt, alloc),
         clock: StepClock { next: 5, step: 2 },
     };
-    let Setup { target: shown, mut clock } = setup;
+    let Setup {
+        target: shown,
+        mut clock,
+    } = setup;
     same!(rt; told(shown), (false, Some((2, 3))));
     same!(rt; clock.now(), 5);
     same!(rt; target(rt, alloc).into_term().granted(rt).width(), 3);
