@@ -1,5 +1,6 @@
 //! What a terminal hands on to its writer, and what it makes of the writer's answers.
 use crate::checks::Granted;
+use crate::faults::faults;
 use crate::lone_shown::{SCRIPT, STILL, Shown, Step};
 use indicatif_term::in_memory::Cells;
 use indicatif_term::term_like::{Term, TermLike};
@@ -276,4 +277,32 @@ fn a_bar_behind_a_writer_of_one_byte_a_call(rt: HostRuntime) {
     for at in 0..bytes.len() {
         is_broken_once_at(rt, alloc, at);
     }
+}
+
+// ---- one in a box that fails
+
+/// A tick is drawn, a line fails and is counted, and the same line is drawn then.
+fn fails_at_a_line<T: TermLike + Drop>(rt: &impl Abort, mut bar: Shown<T>) {
+    same!(rt; bar.makes(Step::Tick), Ok(Drawn::Yes));
+    let broken = Err(Refusal::Terminal(ErrorKind::BrokenPipe));
+    same!(rt; (bar.makes(Step::Log("l")), faults(&bar)), (broken, Some(1)));
+    same!(rt; (bar.makes(Step::Log("l")), faults(&bar)), (Ok(Drawn::Yes), Some(1)));
+}
+
+/// A boxed terminal whose writer fails once, behind the ten bytes of a first drawing on ten columns.
+fn failing(rt: &impl Abort, alloc: Global) -> Boxed {
+    let writer = Taker {
+        taken: Vec::new(alloc),
+        calls: 0,
+        taking: Taking::OneFailingAt(10),
+    };
+    Box::new(alloc, Term::new(writer, 5, 10)).granted(rt)
+}
+
+#[test]
+fn a_boxed_terminal_that_fails(rt: HostRuntime) {
+    let rt = &rt;
+    let alloc = rt.alloc();
+    let bar = Shown::on(alloc, "ab", failing(rt, alloc)).granted(rt);
+    fails_at_a_line(rt, bar);
 }
