@@ -2,11 +2,10 @@
 ghost use Rattle.std.specs.Prelude.{◌≡◌};
 
 use crate::checks::Granted;
-use crate::fronts::{Bar, another_of, bar_shows, setup};
+use crate::fronts::{Bar, another_of, setup};
 use crate::gates::Open;
 use indicatif::{
-    BarWorker, Done, ParallelProgressIterator, ProgressBar, ProgressStyle, run_workers,
-    run_workers_with,
+    BarWorker, Done, ParallelProgressIterator, ProgressBar, run_workers, run_workers_with,
 };
 use std::alloc::Global;
 use std::process::Abort;
@@ -33,24 +32,6 @@ fn a_bar_absorbs_past_2_to_the_64(rt: HostRuntime) {
     bar.absorb(done, whole).granted(rt);
     same!(rt; bar.position(), 1);
     holds!(rt; !bar.is_finished());
-}
-
-/// A total is no sum that ends: its worker goes on. The bar shows what was added once it has absorbed it.
-#[test]
-fn what_was_added_is_drawn(rt: HostRuntime) {
-    let rt = &rt;
-    let alloc = rt.alloc();
-    let style = ProgressStyle::with_template(alloc, "{pos} done").granted(rt);
-    let bar = bar_at(*rt, alloc, 0)
-        .with_style(style)
-        .expect(rt, "granted");
-    let (done, mut worker) = bar.worker().expect(rt, "granted");
-    worker.add(&done, 40);
-    same!(rt; worker.total(&done), 40);
-    worker.add(&done, 2);
-    holds!(rt; bar.absorb(done, worker).is_ok());
-    holds!(rt; bar.force_draw().is_ok());
-    bar_shows(rt, &bar, "42 done");
 }
 
 /// Adds 1 a thousand times.

@@ -1,10 +1,9 @@
 //! The examples of the libraries' documentation that say what comes. Those here have an assert in their comment.
 //!
 //! - `texts`: others of `indicatif_text`. `memory`, `engines`, `targets`: of `indicatif_term`.
-//! - `records`, `lone`: of `indicatif_bar`. `boards`, `histories`: of `indicatif_board`.
+//! - `records`, `lone`: of `indicatif_bar`. `boards`: of `indicatif_board`; those of its histories are in `histories`, beside this module.
 mod boards;
 mod engines;
-pub mod histories;
 mod lone;
 mod memory;
 mod records;

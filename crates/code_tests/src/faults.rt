@@ -1,6 +1,5 @@
-//! What a lone bar answers where each call of its terminal fails in turn, or where memory is refused; and boxed terminals.
+//! What a lone bar answers where memory is refused; and a boxed terminal. (Where each call of its terminal fails in turn, that is in rows.)
 use crate::checks::Granted;
-use crate::failing_term::FailsOnce;
 use crate::lone_shown::{SCRIPT, STILL, Shown, Step};
 use indicatif_term::in_memory::{Cells, InMemoryTerm};
 use indicatif_term::term_like::{Term, TermLike};
@@ -11,105 +10,6 @@ use std::process::Abort;
 
 /// A terminal of a kind that only its maker knows.
 type Boxed = Box<dyn TermLike + Drop>;
-
-// ---- a call of the terminal fails
-
-/// A bar that says `ab` on a terminal of which the call of this number fails; none where it is 0.
-fn bar_failing_at(rt: &impl Abort, alloc: Global, failing: u64) -> Shown<FailsOnce> {
-    let term = InMemoryTerm::new(alloc, 20, 10).granted(rt);
-    Shown::on(alloc, "ab", FailsOnce::new(term, failing)).granted(rt)
-}
-
-/// The rows down to the cursor's, each ended by a newline.
-fn rows_to_the_cursor(rt: &impl Abort, alloc: Global, bar: &Shown<FailsOnce>) -> String {
-    let term = bar.term().granted(rt).inner();
-    let (row, _) = term.cursor();
-    let mut text = String::new(alloc);
-    let picture = term.picture().granted(rt);
-    push_rows(rt, &mut text, &picture, usize::from(row));
-    text
-}
-
-/// Appends the rows down to the last of these numbers, each ended by a newline.
-fn push_rows(rt: &impl Abort, text: &mut String, rows: &[String], last: usize) {
-    for row in rows.get(..=last).unwrap_or(rows) {
-        text.push_str(row.as_str()).granted(rt);
-        text.push('\n').granted(rt);
-    }
-}
-
-/// The screen shows what a failure left, and these rows below it.
-fn stands_below(rt: &impl Abort, bar: &Shown<FailsOnce>, left: String, rows: &str) {
-    let mut wanted = left;
-    wanted.push_str(rows).granted(rt);
-    let term = bar.term().granted(rt).inner();
-    same!(rt; term.contents().granted(rt), wanted);
-}
-
-/// Makes the call, and answers what a failure left on the screen. After one, the call's rows stand below what it left.
-fn stepped(
-    rt: &impl Abort,
-    alloc: Global,
-    bar: &mut Shown<FailsOnce>,
-    call: (Step, &str),
-    left: Option<String>,
-) -> Option<String> {
-    match bar.makes(call.0) {
-        Ok(drawn) => {
-            same!(rt; drawn, Drawn::Yes);
-            if let Some(left) = left {
-                stands_below(rt, bar, left, call.1);
-            }
-            None
-        }
-        Err(refusal) => {
-            same!(rt; refusal, Refusal::Terminal(ErrorKind::BrokenPipe));
-            same!(rt; left, None);
-            Some(rows_to_the_cursor(rt, alloc, bar))
-        }
-    }
-}
-
-/// How many calls the terminal was given, and how many of them failed.
-fn calls_and_faults(rt: &impl Abort, bar: &Shown<FailsOnce>) -> (u64, u64) {
-    let term = bar.term().granted(rt);
-    (term.calls(), term.faults())
-}
-
-/// Runs the script and one more draw, and answers how many calls of the terminal the script made and how many of the
-/// script's own calls failed.
-fn run_failing_at(rt: &impl Abort, alloc: Global, failing: u64) -> (u64, u64) {
-    let mut bar = bar_failing_at(rt, alloc, failing);
-    let run = run_on(rt, alloc, &mut bar);
-    same!(rt; calls_and_faults(rt, &bar).1, run.1);
-    run
-}
-
-/// The same of this bar.
-fn run_on(rt: &impl Abort, alloc: Global, bar: &mut Shown<FailsOnce>) -> (u64, u64) {
-    let mut left: Option<String> = None;
-    let mut failures: u64 = 0;
-    for call in SCRIPT {
-        left = stepped(rt, alloc, bar, *call, left);
-        failures = failures.saturating_add(u64::from(left.is_some()));
-    }
-    let (calls, _) = calls_and_faults(rt, bar);
-    same!(rt; stepped(rt, alloc, bar, (Step::Tick, "e"), left), None);
-    (calls, failures)
-}
-
-#[test]
-fn each_call_of_the_terminal_fails_once(rt: HostRuntime) {
-    let rt = &rt;
-    let alloc = rt.alloc();
-    let (calls, failures) = run_failing_at(rt, alloc, 0);
-    same!(rt; failures, 0);
-    holds!(rt; calls > 0);
-    for failing in 1..=calls {
-        let (_, failures) = run_failing_at(rt, alloc, failing);
-        same!(rt; (failing, failures), (failing, 1));
-    }
-}
 
 // ---- a boxed terminal
 
@@ -142,30 +42,8 @@ fn a_boxed_terminal_answers_as_the_plain_one(rt: HostRuntime) {
 }
 
 /// How often the bar's terminal has failed.
-fn faults<T: TermLike + Drop>(bar: &Shown<T>) -> Option<u64> {
+pub fn faults<T: TermLike + Drop>(bar: &Shown<T>) -> Option<u64> {
     Some(bar.term()?.faults())
-}
-
-/// A tick is drawn, a line fails and is counted, and the same line is drawn then.
-fn fails_at_a_line<T: TermLike + Drop>(rt: &impl Abort, mut bar: Shown<T>) {
-    same!(rt; bar.makes(Step::Tick), Ok(Drawn::Yes));
-    let broken = Err(Refusal::Terminal(ErrorKind::BrokenPipe));
-    same!(rt; (bar.makes(Step::Log("l")), faults(&bar)), (broken, Some(1)));
-    same!(rt; (bar.makes(Step::Log("l")), faults(&bar)), (Ok(Drawn::Yes), Some(1)));
-}
-
-/// A boxed terminal of which the fourth call fails.
-fn failing(rt: &impl Abort, alloc: Global) -> Boxed {
-    let inner = InMemoryTerm::new(alloc, 5, 10).granted(rt);
-    Box::new(alloc, FailsOnce::new(inner, 4)).granted(rt)
-}
-
-#[test]
-fn a_boxed_terminal_that_fails(rt: HostRuntime) {
-    let rt = &rt;
-    let alloc = rt.alloc();
-    let bar = Shown::on(alloc, "ab", failing(rt, alloc)).granted(rt);
-    fails_at_a_line(rt, bar);
 }
 
 // ---- memory is refused; tried with each allocation failing in turn

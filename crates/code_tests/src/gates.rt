@@ -15,18 +15,6 @@ impl Gate for Open {
     fn pass(&self, piece: usize) {}
 }
 
-/// Counts who passes.
-#[derive(Drop)]
-pub struct Turnstile {
-    pub passed: AtomicU64,
-}
-
-impl Gate for Turnstile {
-    fn pass(&self, _piece: usize) {
-        self.passed.fetch_add(1, Ordering::SeqCst);
-    }
-}
-
 /// Counts who passes, and who of the pieces behind the first 256 comes before all of these have passed.
 #[derive(Drop)]
 pub struct Waves {

@@ -1,23 +1,71 @@
-//! A board that keeps its history: the examples of the documentation.
+//! A board that keeps its history: the examples of the documentation, what an entry holds, and what the board opened with.
 use crate::checks::Granted;
-use crate::documented::histories::terminal;
 use indicatif_bar::state::{BarCommand, BarState};
 use indicatif_bar::style::{NoTracker, ProgressStyle};
 use indicatif_board::multi::{
-    Answer, BarId, Call, Candidate, Entry, InsertLocation, Recorded, Size,
+    Answer, BarId, Call, Candidate, Entry, InsertLocation, Opening, Recorded, Size,
 };
-use indicatif_term::draw_target::{ProgressDrawTarget, RateLimiter};
+use indicatif_term::draw_target::ProgressDrawTarget;
 use indicatif_term::in_memory::InMemoryTerm;
-use indicatif_text::columns::{Drawn, Moment};
+use indicatif_text::columns::Drawn;
 use std::alloc::Global;
 use std::process::Abort;
 
-/// The board's id.
-const BOARD_ID: u64 = 7;
+type Recording = Recorded<NoTracker, InMemoryTerm>;
 
-/// The bar that is taken in first.
+/// A terminal of 4 rows and 10 columns.
+fn terminal(rt: &impl Abort, alloc: Global) -> InMemoryTerm {
+    InMemoryTerm::new(alloc, 4, 10).granted(rt)
+}
+
+// ---- entries
+
+/// All that is kept is that the board was cleared at the moment 5, with this answer, at this size.
+fn is_clear(
+    rt: &impl Abort,
+    entries: &[Entry<NoTracker>],
+    (answer, size): (&Answer, Option<Size>),
+) {
+    same!(rt; entries.len(), 1);
+    let entry = entries.first().granted(rt);
+    holds!(rt; matches!(entry.call, Call::Clear));
+    same!(rt; (entry.now, entry.size), (5, size));
+    same!(rt; &entry.answer, answer);
+}
+
+/// (Its target has no limit, and so the opening has none.)
+#[test]
+fn entry_of_a_call(rt: HostRuntime) {
+    let rt = &rt;
+    let (alloc, now) = (rt.alloc(), 5);
+    let term = terminal(rt, alloc);
+    let mut record = Recorded::new(alloc, ProgressDrawTarget::term_like(term), 1);
+    let (answer, none) = record.apply(Call::Clear, now);
+    same!(rt; &answer, &Answer::Drawn(Drawn::Yes));
+    let recorded = record.entries();
+    let size = Size {
+        columns: 10,
+        rows: 4,
+    };
+    is_clear(rt, recorded, (&answer, Some(size)));
+    holds!(rt; record.opening().limiter.is_none());
+}
+
+/// A hidden target has no size.
+#[test]
+fn entry_where_nothing_is_shown(rt: HostRuntime) {
+    let rt = &rt;
+    let mut record: Recording = Recorded::new(rt.alloc(), ProgressDrawTarget::hidden(), 1);
+    let (answer, _) = record.apply(Call::Clear, 5);
+    same!(rt; &answer, &Answer::Drawn(Drawn::Hidden));
+    is_clear(rt, record.entries(), (&answer, None));
+}
+
+// ---- openings
+
+/// The bar that the board of the id 7 takes in first.
 const FIRST: BarId = BarId {
-    board: BOARD_ID,
+    board: 7,
     number: 0,
 };
 
@@ -28,76 +76,21 @@ fn bar_saying(rt: &impl Abort, alloc: Global, text: &str) -> Candidate<NoTracker
     Candidate::New(bar)
 }
 
-type Target = ProgressDrawTarget<InMemoryTerm>;
-
-type Recording = Recorded<NoTracker, InMemoryTerm>;
-
-/// A board of the id 7 that keeps its history, in a box.
-fn recorded_on(rt: &impl Abort, alloc: Global, target: Target) -> Box<Recording> {
-    Box::new(alloc, Recorded::new(alloc, target, BOARD_ID)).granted(rt)
-}
-
-/// The same on a terminal that is drawn whenever it is asked.
-fn recorded(rt: &impl Abort, alloc: Global) -> Box<Recording> {
-    recorded_on(rt, alloc, Target::term_like(terminal(rt, alloc)))
-}
-
-/// The same on a terminal that is drawn 20 times a second.
-fn recorded_rated(rt: &impl Abort, alloc: Global) -> Box<Recording> {
-    let target = Target::term_like_with_hz(terminal(rt, alloc), 20, 0).granted(rt);
-    recorded_on(rt, alloc, target)
-}
-
-/// What the board answers to a call; a bar that comes back is given up.
-fn answer_of(record: &mut Recording, call: Call<NoTracker>, now: Moment) -> Answer {
-    let (answer, bar) = record.apply(call, now);
-    drop(bar);
-    answer
-}
-
-/// That the board was cleared at the moment 5, with this answer, at this size.
-fn is_clear(rt: &impl Abort, entry: &Entry<NoTracker>, (answer, size): (&Answer, Option<Size>)) {
-    holds!(rt; matches!(entry.call, Call::Clear));
-    same!(rt; (entry.now, entry.size), (5, size));
-    same!(rt; &entry.answer, answer);
-}
-
-/// A clear at the moment 5 is answered so, and this is all that is kept.
-fn records_a_clear(
-    rt: &impl Abort,
-    record: &mut Recording,
-    (answer, size): (&Answer, Option<Size>),
-) {
-    same!(rt; &answer_of(record, Call::Clear, 5), answer);
-    same!(rt; record.entries().len(), 1);
-    let entry = record.entries().first().granted(rt);
-    is_clear(rt, entry, (answer, size));
-}
-
-#[test]
-fn an_entry_and_its_size(rt: HostRuntime) {
-    let rt = &rt;
-    let mut record = recorded(rt, rt.alloc());
-    let size = Size {
-        columns: 10,
-        rows: 4,
+/// Takes a bar in, which is drawn then, without force.
+fn takes_in_and_draws(rt: &impl Abort, alloc: Global, record: &mut Recording) {
+    let call = Call::Insert {
+        at: InsertLocation::End,
+        candidate: bar_saying(rt, alloc, "a"),
     };
-    let answer = Answer::Drawn(Drawn::Yes);
-    records_a_clear(rt, &mut record, (&answer, Some(size)));
+    let (answer, _) = record.apply(call, 0);
+    same!(rt; answer, Answer::Id(FIRST));
+    let (answer, _) = record.apply(Call::Bar(FIRST, BarCommand::Tick), 0);
+    same!(rt; answer, Answer::Drawn(Drawn::Yes));
 }
 
-/// A hidden target has no size.
-#[test]
-fn an_entry_where_nothing_is_shown(rt: HostRuntime) {
-    let rt = &rt;
-    let mut record = recorded_on(rt, rt.alloc(), Target::hidden());
-    let answer = Answer::Drawn(Drawn::Hidden);
-    records_a_clear(rt, &mut record, (&answer, None));
-}
-
-/// How many of 30 draws a limiter allows at the moment 0.
-fn allowed(limiter: &RateLimiter) -> u32 {
-    let mut limiter = limiter.same();
+/// How many of 30 draws the limiter of an opening allows at the moment 0.
+fn allowed(rt: &impl Abort, opening: &Opening) -> u32 {
+    let mut limiter = opening.limiter.as_ref().granted(rt).same();
     let mut count: u32 = 0;
     for _ in 0..30u32 {
         if limiter.allow(0) {
@@ -107,43 +100,16 @@ fn allowed(limiter: &RateLimiter) -> u32 {
     count
 }
 
-/// Takes a bar in.
-fn takes_in(record: &mut Recording, candidate: Candidate<NoTracker>) -> Answer {
-    let at = InsertLocation::End;
-    answer_of(record, Call::Insert { at, candidate }, 0)
-}
-
-/// Draws the first bar, without force.
-fn ticks(record: &mut Recording) -> Answer {
-    answer_of(record, Call::Bar(FIRST, BarCommand::Tick), 0)
-}
-
-/// Takes a bar in, which is drawn then.
-fn takes_in_and_draws(rt: &impl Abort, alloc: Global, record: &mut Recording) {
-    drop(takes_in(record, bar_saying(rt, alloc, "a")));
-    same!(rt; ticks(record), Answer::Drawn(Drawn::Yes));
-}
-
-/// A board has this id, and allows so many draws at the moment 0.
-fn opens_with(rt: &impl Abort, record: &Recording, board_id: u64, draws: u32) {
-    let opening = record.opening();
-    let limiter = opening.limiter.as_ref().granted(rt);
-    same!(rt; (opening.board_id, allowed(limiter)), (board_id, draws));
-}
-
 /// The limiter stays as the target came: 20 draws are in hand, though one was made.
 #[test]
-fn an_opening(rt: HostRuntime) {
+fn beginning_of_a_history(rt: HostRuntime) {
     let rt = &rt;
     let alloc = rt.alloc();
-    let mut record = recorded_rated(rt, alloc);
+    let term = terminal(rt, alloc);
+    let target = ProgressDrawTarget::term_like_with_hz(term, 20, 0).granted(rt);
+    let record: Recorded<NoTracker, _> = Recorded::new(alloc, target, 7);
+    let mut record = Box::new(alloc, record).granted(rt);
     takes_in_and_draws(rt, alloc, &mut record);
-    opens_with(rt, &record, 7, 20);
-}
-
-#[test]
-fn an_opening_without_a_limit(rt: HostRuntime) {
-    let rt = &rt;
-    let record = recorded(rt, rt.alloc());
-    holds!(rt; record.opening().limiter.is_none());
+    let opening = record.opening();
+    same!(rt; (opening.board_id, allowed(rt, opening)), (7, 20));
 }

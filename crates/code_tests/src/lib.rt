@@ -4,9 +4,9 @@
 //! Of the four lower libraries, and of what plays rows and scripts over them:
 //!
 //! - `named`: each command of a bar as a call, compared with the same command as a value.
-//! - `values`: what bars and targets return, and closures that they take.
-//! - `faults`, `writers`: a terminal of which each call fails once, and a writer that fails at each byte; boxed terminals, buffers, want
-//!   of memory. `failing_term`: that terminal. `lone_shown`: a bar on a terminal.
+//! - `values`: what bars return, what comes by default, and closures that bars take.
+//! - `faults`, `writers`: want of memory, and a writer that fails at each byte; boxed terminals, and buffers. `lone_shown`: a bar on a
+//!   terminal.
 //! - `histories`: boards that keep their history. `sums`: workers that add to one sum.
 //! - `played`: which lines of a file are rows, and which of them agree.
 //! - `styles`, `term`, `text`: keys of a template, what targets hand out, numbers and formatters. `words`: those of a command line.
@@ -17,7 +17,7 @@
 //! - `fronts`: bars and boards for tests, and what they show. `recordings`: what a board has recorded.
 //! - `shown`: a terminal that others see. `owners`: what the last owner of a bar leaves there. `watched`: boards there, while a closure
 //!   runs, and where the cursor only moves. `bars`: bars in threads, pauses and bounds.
-//! - `boards`: boards that threads share. `records`: a board with its history that nobody shares.
+//! - `boards`: boards that threads share. `records`: a board with its history, behind a lock of the test's own.
 //! - `shared`: boards that make their bars, what is said of a wrapper's bar, and threads at one bar. `readers`: two readers of one bar.
 //!   `ways`: each way to make a bar.
 //! - `closures`: what is done under a lock. `given_up`: what threads of tickers give up, and calls that find no memory, over a runtime
@@ -71,8 +71,6 @@ mod counted;
 mod documented;
 #[cfg(test)]
 mod documented_shared;
-#[cfg(test)]
-mod failing_term;
 #[cfg(test)]
 mod faults;
 #[cfg(test)]

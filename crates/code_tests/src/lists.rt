@@ -43,27 +43,25 @@ fn are_doubled<R: Abort>(rt: &R, made: &[u32], count: usize) {
     }
 }
 
-#[test]
-fn ten_thousand_items_are_three_blocks(rt: HostRuntime) {
-    let rt = &rt;
-    let alloc = rt.alloc();
-    let items = numbers(rt, alloc, 10_000);
+/// So many items are doubled, and their bar goes to the end of the list by these steps. It isn't finished.
+fn goes_by<R: Threads + Sync + Abort>(rt: &R, alloc: Global, count: u32, steps: &[u64]) {
+    let items = numbers(rt, alloc, count);
     let (made, bar) = doubled(rt, alloc, items.as_slice(), 0);
-    are_doubled(rt, made.as_slice(), 10_000);
-    same!(rt; bar.steps.as_slice(), [4096, 4096, 1808].as_slice());
-    same!(rt; bar.position, 10_000);
+    are_doubled(rt, made.as_slice(), count as usize);
+    same!(rt; bar.steps.as_slice(), steps);
+    same!(rt; bar.position, u64::from(count));
     holds!(rt; !bar.finished);
 }
 
-/// A list that is no longer than a block moves its bar by a tenth at a time: of 2,000 items by 200.
+/// Ten thousand items are three blocks, the last of which is what is left; and there may be a whole block and one item more. A list that
+/// is no longer than a block moves its bar by a tenth at a time: of 2,000 items by 200.
 #[test]
-fn a_shorter_list_moves_by_tenths(rt: HostRuntime) {
+fn blocks_and_tenths(rt: HostRuntime) {
     let rt = &rt;
     let alloc = rt.alloc();
-    let items = numbers(rt, alloc, 2000);
-    let (made, bar) = doubled(rt, alloc, items.as_slice(), 0);
-    are_doubled(rt, made.as_slice(), 2000);
-    same!(rt; bar.steps.as_slice(), [200; 10].as_slice());
+    goes_by(rt, alloc, 10_000, &[4096, 4096, 1808]);
+    goes_by(rt, alloc, 4097, &[4096, 1]);
+    goes_by(rt, alloc, 2000, &[200; 10]);
 }
 
 /// For how many milliseconds an item waits for the other one to begin.
@@ -129,16 +127,6 @@ fn one_item_is_a_block(rt: HostRuntime) {
     let (made, bar) = doubled(rt, rt.alloc(), &[21], 0);
     same!(rt; made.as_slice(), [42].as_slice());
     same!(rt; bar.steps.as_slice(), [1].as_slice());
-}
-
-#[test]
-fn a_whole_block_and_one_item_more(rt: HostRuntime) {
-    let rt = &rt;
-    let alloc = rt.alloc();
-    let items = numbers(rt, alloc, 4097);
-    let (made, bar) = doubled(rt, alloc, items.as_slice(), 0);
-    are_doubled(rt, made.as_slice(), 4097);
-    same!(rt; bar.steps.as_slice(), [4096, 1].as_slice());
 }
 
 /// A million items: 244 whole blocks, which are 999,424 items, and one of 576.

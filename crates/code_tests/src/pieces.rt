@@ -1,6 +1,6 @@
 //! Pieces in threads of their own.
 use crate::checks::Granted;
-use crate::gates::{Open, Roll, Together, Turnstile, Waves};
+use crate::gates::{Open, Roll, Together, Waves};
 use crate::stepped::{Stepped, bar_at};
 use indicatif::{Gate, Refusal, run_workers_with};
 use std::alloc::Global;
@@ -49,8 +49,9 @@ fn answers_stand_in_the_order_of_the_pieces(rt: HostRuntime) {
     ]
     .expect(rt, "granted");
     let mut bar = bar_at(alloc, 0);
-    let gate = Turnstile {
+    let gate = Waves {
         passed: AtomicU64::new(0),
+        early: AtomicU64::new(0),
     };
     // (not by `doubled`: that an answer stands at each index is what the contract of the call tells)
     let made = run_workers_with(

@@ -84,7 +84,7 @@ pub fn answers_so<R: Abort, K: Tracks>(
 }
 
 /// Two terminals show the same rows, those that have scrolled away too.
-pub fn show_the_same<R: Abort>(rt: &R, one: Option<&InMemoryTerm>, other: Option<&InMemoryTerm>) {
+fn show_the_same<R: Abort>(rt: &R, one: Option<&InMemoryTerm>, other: Option<&InMemoryTerm>) {
     same!(rt; rows_of(rt, one), rows_of(rt, other));
 }
 
@@ -109,7 +109,8 @@ impl<R: Abort + Drop> RecordReader<InMemoryTerm, NoTracker> for RunsAgain<R> {
     }
 }
 
-fn runs_again<R: Abort>(rt: &R, alloc: Global, recorded: &Recording) {
+/// The same of this history.
+pub fn runs_again<R: Abort>(rt: &R, alloc: Global, recorded: &Recording) {
     let target = target(alloc).granted(rt);
     let board = Board::new(alloc, target, recorded.opening().board_id);
     let mut fresh = Box::new(alloc, board).expect(rt, "granted");

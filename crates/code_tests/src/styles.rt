@@ -3,16 +3,10 @@ ghost use Rattle.std.specs.Prelude.{true, false, if◌then◌else◌, codes};
 
 use crate::carried_trackers::Says;
 use crate::checks::Granted;
-use crate::documented::histories::terminal;
-use crate::recordings::answers_so;
-use indicatif_bar::lone::LoneBar;
 use indicatif_bar::state::{BarCommand, BarState, ProgressFinish, ProgressState};
-use indicatif_bar::style::{FnTracker, ProgressStyle, ProgressTracker, TellsText};
-use indicatif_board::multi;
-use indicatif_board::multi::{Answer, BarId, Board, Candidate, Entry, InsertLocation, Recorded};
-use indicatif_term::draw_target::{LineType, ProgressDrawTarget};
-use indicatif_term::in_memory::InMemoryTerm;
-use indicatif_text::columns::{Drawn, Moment, Refusal};
+use indicatif_bar::style::{FnTracker, ProgressStyle, ProgressTracker};
+use indicatif_term::draw_target::LineType;
+use indicatif_text::columns::{Moment, Refusal};
 use std::alloc::Global;
 use std::convert::AsStr;
 use std::process::Abort;
@@ -87,15 +81,14 @@ fn saying(
     keyed(rt, alloc, look, (name, tracker))
 }
 
-/// A style of this template with a tracker of the name `t`, with colours or without.
+/// A style of this template with a tracker of the name `t`, without colours.
 fn tracked(
     rt: &impl Abort,
     alloc: Global,
     (template, text): (&str, &'static str),
-    colours: bool,
 ) -> Look<FnTracker<Says>> {
     let look = saying(rt, alloc, look(rt, alloc, template), ("t", text));
-    let style = Box::into_inner(look).with_colors(colours).granted(rt);
+    let style = Box::into_inner(look).with_colors(false).granted(rt);
     let style = style.progress_chars("=>-").granted(rt);
     Box::new(alloc, style).granted(rt)
 }
@@ -104,11 +97,12 @@ fn tracked(
 type Said = (&'static str, &'static str, usize, &'static str);
 
 /// A tracker's text has its tabs expanded, its newlines part lines, its NULs are fillers, and what isn't a colour sequence
-/// counts by its characters.
+/// counts by its characters. (With colours it is in `carried_trackers`.)
 const SAID: &[Said] = &[
     ("{t}", "a\tb", 4, "a    b\n"),
     ("{t}", "a\tb\nc", 2, "a  b\nc\n"),
     ("{t:^5}|", "XXX", 8, " XXX |\n"),
+    ("{t:^5.red.on_blue}", "XXX", 8, " XXX \n"),
     ("{t:5}|", "\u{1B}[2J", 8, "\u{1B}[2J  |\n"),
     ("{t:5}|", "\u{1B}[1mx", 8, "\u{1B}[1mx    |\n"),
     ("{t}{wide_bar}", "x\0y", 8, "x--------y--------\n"),
@@ -121,7 +115,7 @@ const SAID: &[Said] = &[
 /// The lines of a bar of 4 are these.
 fn is_told(rt: &impl Abort, alloc: Global, row: &Said) {
     let (template, text, tab, wanted) = *row;
-    let look = tracked(rt, alloc, (template, text), false);
+    let look = tracked(rt, alloc, (template, text));
     let mut bar = bar(rt, alloc, look, Some(4));
     bar.set_tab_width(tab, 0).granted(rt);
     shows(rt, alloc, &bar, (10, wanted));
@@ -133,137 +127,6 @@ fn texts_of_trackers(rt: HostRuntime) {
     for row in SAID {
         is_told(rt, rt.alloc(), row);
     }
-}
-
-/// A tracker in a style of its own, with colours or without, is shown so.
-fn shows_colours(rt: &impl Abort, alloc: Global, colours: bool, wanted: &str) {
-    let look = tracked(rt, alloc, ("{t:^5.red.on_blue}", "XXX"), colours);
-    let bar = bar(rt, alloc, look, Some(4));
-    shows(rt, alloc, &bar, (80, wanted));
-}
-
-#[test]
-fn a_tracker_in_colours(rt: HostRuntime) {
-    let rt = &rt;
-    let alloc = rt.alloc();
-    let coloured = "\u{1B}[31m\u{1B}[44m XXX \u{1B}[0m\n";
-    shows_colours(rt, alloc, true, coloured);
-    shows_colours(rt, alloc, false, " XXX \n");
-}
-
-/// A terminal of 4 rows and 10 columns.
-fn target(rt: &impl Abort, alloc: Global) -> ProgressDrawTarget<InMemoryTerm> {
-    ProgressDrawTarget::term_like(terminal(rt, alloc))
-}
-
-/// A bar on a terminal of 4 rows and 10 columns.
-fn on_terminal(
-    rt: &impl Abort,
-    alloc: Global,
-    bar: Told<FnTracker<Says>>,
-) -> Box<LoneBar<FnTracker<Says>, InMemoryTerm>> {
-    let lone = LoneBar::new(Box::into_inner(bar), target(rt, alloc));
-    Box::new(alloc, lone).granted(rt)
-}
-
-/// What isn't a colour sequence is written as it is: the draw is made.
-#[test]
-fn a_sequence_of_another_kind_is_drawn(rt: HostRuntime) {
-    let rt = &rt;
-    let alloc = rt.alloc();
-    let look = tracked(rt, alloc, ("{t}", "\u{1B}[2J"), false);
-    let mut drawn = on_terminal(rt, alloc, bar(rt, alloc, look, Some(4)));
-    same!(rt; drawn.tick(0), Ok(Drawn::Yes));
-}
-
-// ---- the same on a board that keeps its history
-
-type Recording = Recorded<FnTracker<Says>, InMemoryTerm>;
-
-type OnBoard = Board<FnTracker<Says>, InMemoryTerm>;
-
-/// A bar whose tracker writes this text, with two spaces for a tab.
-fn insertion_of(
-    rt: &impl Abort,
-    alloc: Global,
-    text: &'static str,
-) -> multi::Call<FnTracker<Says>> {
-    let look = tracked(rt, alloc, ("{t}", text), false);
-    let mut bar = bar(rt, alloc, look, Some(4));
-    bar.with_tab_width(2, 0).granted(rt);
-    multi::Call::Insert {
-        at: InsertLocation::End,
-        candidate: Candidate::New(Box::into_inner(bar)),
-    }
-}
-
-/// What a board answers to a call; a bar that comes back is given up.
-fn applied(board: &mut Recording, call: multi::Call<FnTracker<Says>>) -> Answer {
-    let (answer, bar) = board.apply(call, 0);
-    drop(bar);
-    answer
-}
-
-/// The first bar of the board of the id 1.
-const FIRST: BarId = BarId {
-    board: 1,
-    number: 0,
-};
-
-/// A board takes such a bar in, and draws it.
-fn takes_in_and_draws(rt: &impl Abort, alloc: Global, board: &mut Recording, text: &'static str) {
-    let taken = applied(board, insertion_of(rt, alloc, text));
-    same!(rt; taken, Answer::Id(FIRST));
-    let drawn = applied(board, multi::Call::Bar(FIRST, BarCommand::Tick));
-    same!(rt; drawn, Answer::Drawn(Drawn::Yes));
-}
-
-fn contents(rt: &impl Abort, board: &OnBoard) -> String {
-    let term = board.term().granted(rt);
-    term.contents().granted(rt)
-}
-
-/// A board that keeps its history, and has drawn a bar whose tracker writes this text.
-fn recorded(rt: &impl Abort, alloc: Global, text: &'static str) -> Box<Recording> {
-    let board = Recorded::new(alloc, target(rt, alloc), 1);
-    let mut board = Box::new(alloc, board).granted(rt);
-    takes_in_and_draws(rt, alloc, &mut board, text);
-    board
-}
-
-/// What a fresh board shows that makes these calls with the same answers.
-fn shown_again(rt: &impl Abort, alloc: Global, entries: &[Entry<FnTracker<Says>>]) -> String {
-    same!(rt; entries.len(), 2);
-    let board = Board::new(alloc, target(rt, alloc), 1);
-    let mut board = Box::new(alloc, board).granted(rt);
-    answers_so(rt, &mut board, alloc, entries);
-    contents(rt, &board)
-}
-
-/// What a board shows that keeps its history, where it draws a bar whose tracker writes this text, and a fresh board that makes the same
-/// calls answers and shows the same.
-fn recorded_shows(rt: &impl Abort, alloc: Global, text: &'static str) -> String {
-    let recorded = recorded(rt, alloc, text);
-    let shown = contents(rt, recorded.board());
-    let again = shown_again(rt, alloc, recorded.entries());
-    same!(rt; again.as_str(), shown.as_str());
-    shown
-}
-
-/// A tracker's tab is two spaces and its newline parts two lines, on a board too.
-#[test]
-fn a_tab_and_a_newline_on_a_board(rt: HostRuntime) {
-    let rt = &rt;
-    let shown = recorded_shows(rt, rt.alloc(), "a\tb\nc");
-    same!(rt; shown.as_str(), "a  b\nc");
-}
-
-/// What isn't a colour sequence is drawn on a board too; what it does to a terminal isn't claimed. One in memory passes it over.
-#[test]
-fn a_sequence_of_another_kind_on_a_board(rt: HostRuntime) {
-    let rt = &rt;
-    let shown = recorded_shows(rt, rt.alloc(), "a\u{1B}[2Jb");
-    same!(rt; shown.as_str(), "ab");
 }
 
 // ---- names of keys

@@ -1,6 +1,6 @@
 //! What targets hand out, and a terminal in memory whose memory is refused.
 use crate::checks::Granted;
-use indicatif_term::draw_target::{Engine, MultiProgressAlignment, ProgressDrawTarget, Setup};
+use indicatif_term::draw_target::{Engine, ProgressDrawTarget, Setup};
 use indicatif_term::in_memory::InMemoryTerm;
 use indicatif_term::term_like::TermLike;
 use indicatif_text::columns::{Clock, Refusal, StepClock};
@@ -19,25 +19,21 @@ fn target(rt: &impl Abort, alloc: Global) -> Target {
     ProgressDrawTarget::term_like(term)
 }
 
-/// One that draws once a second.
-fn often(rt: &impl Abort, alloc: Global) -> Target {
-    let term = InMemoryTerm::new(alloc, 2, 3).granted(rt);
-    ProgressDrawTarget::term_like_with_hz(term, 1, 0).granted(rt)
-}
-
 /// Whether a target gives an engine, and whether a limiter.
 fn opened(alloc: Global, target: Target) -> (bool, bool) {
     let (engine, limiter) = Engine::opened_on(alloc, target);
     (engine.is_some(), limiter.is_some())
 }
 
+/// (One without a limiter is in `documented::engines`.)
 #[test]
 fn engines_of_targets(rt: HostRuntime) {
     let rt = &rt;
     let alloc = rt.alloc();
-    same!(rt; opened(alloc, target(rt, alloc)), (true, false));
     same!(rt; opened(alloc, hidden()), (false, false));
-    same!(rt; opened(alloc, often(rt, alloc)), (true, true));
+    let term = InMemoryTerm::new(alloc, 2, 3).granted(rt);
+    let limited = ProgressDrawTarget::term_like_with_hz(term, 1, 0).granted(rt);
+    same!(rt; opened(alloc, limited), (true, true));
 }
 
 /// Rows and columns of a target's terminal, where it has one and no limiter.
@@ -53,30 +49,23 @@ fn told(target: Target) -> (bool, Option<(u16, u16)>) {
     (target.is_hidden(), size_of(target))
 }
 
-/// What a bar is made with: what is told of its target, and what its clock tells.
-fn taken_apart(setup: Setup<InMemoryTerm, StepClock>) -> (bool, Option<(u16, u16)>, u64) {
-    let Setup { target, mut clock } = setup;
-    let (is_hidden, size) = told(target);
-    (is_hidden, size, clock.now())
-}
-
 #[test]
 fn what_a_bar_is_made_with(rt: HostRuntime) {
     let rt = &rt;
+    let alloc = rt.alloc();
     let setup = Setup {
-        target: target(rt, rt.alloc()),
+        target: target(rt, alloc),
         clock: StepClock { next: 5, step: 2 },
     };
-    same!(rt; taken_apart(setup), (false, Some((2, 3)), 5));
+    let Setup {
+        target: shown,
+        mut clock,
+    } = setup;
+    same!(rt; told(shown), (false, Some((2, 3))));
+    same!(rt; clock.now(), 5);
+    same!(rt; target(rt, alloc).into_term().granted(rt).width(), 3);
     same!(rt; told(hidden()), (true, None));
     holds!(rt; hidden().into_parts().is_none());
-}
-
-#[test]
-fn bars_stand_at_the_top_by_default(rt: HostRuntime) {
-    let rt = &rt;
-    same!(rt; MultiProgressAlignment::default(),
-        MultiProgressAlignment::Top);
 }
 
 /// Writes texts; the failures that the terminal counts are those that it told, each of them want of memory.

@@ -1,12 +1,11 @@
-//! What bars and targets hand out, and closures that are handed to them.
+//! What bars hand out, what comes by default, and closures that are handed to bars.
 use crate::checks::Granted;
 use indicatif_bar::lone::LoneBar;
 use indicatif_bar::state::{Ask, BarState, Change, ProgressFinish, SpareLines};
 use indicatif_bar::style::{NoTracker, ProgressStyle};
-use indicatif_term::draw_target::{LineType, ProgressDrawTarget, Setup};
+use indicatif_term::draw_target::{LineType, MultiProgressAlignment, ProgressDrawTarget};
 use indicatif_term::in_memory::InMemoryTerm;
-use indicatif_term::term_like::TermLike;
-use indicatif_text::columns::{Clock, Drawn, Refusal, StepClock};
+use indicatif_text::columns::{Drawn, Refusal};
 use std::alloc::Global;
 use std::convert::AsStr;
 use std::process::Abort;
@@ -18,47 +17,17 @@ type Lone = LoneBar<NoTracker, InMemoryTerm>;
 /// A record of this length that shows its position, in a box: each way out of a function drops it by one call.
 fn plain_bar(rt: &impl Abort, alloc: Global, len: u64) -> Box<Bar> {
     let style = ProgressStyle::with_template(alloc, "{pos}").granted(rt);
-    boxed(rt, alloc, style, Some(len))
-}
-
-/// A record that looks so.
-fn boxed(
-    rt: &impl Abort,
-    alloc: Global,
-    style: ProgressStyle<NoTracker>,
-    len: Option<u64>,
-) -> Box<Bar> {
-    let bar = BarState::styled(alloc, style, len, 0).granted(rt);
+    let bar = BarState::styled(alloc, style, Some(len), 0).granted(rt);
     Box::new(alloc, bar).granted(rt)
 }
 
+/// A bar is cleared when it finishes, and the bars of a board stand at the top.
 #[test]
-fn finish_by_default(rt: HostRuntime) {
+fn finish_and_alignment_by_default(rt: HostRuntime) {
     let rt = &rt;
     holds!(rt; matches!(ProgressFinish::default(), ProgressFinish::AndClear));
-}
-
-#[test]
-fn setup(rt: HostRuntime) {
-    let rt = &rt;
-    let mut setup = Setup {
-        target: ProgressDrawTarget::<InMemoryTerm>::hidden(),
-        clock: StepClock { next: 0, step: 1 },
-    };
-    let told = [setup.clock.now(), setup.clock.now()];
-    same!(rt; (setup.target.is_hidden(), told), (true, [0, 1]));
-}
-
-#[test]
-fn draw_target(rt: HostRuntime) {
-    let rt = &rt;
-    let term = InMemoryTerm::new(rt.alloc(), 2, 5).granted(rt);
-    let shown = ProgressDrawTarget::term_like(term);
-    holds!(rt; !shown.is_hidden());
-    let term = shown.into_term().granted(rt);
-    same!(rt; term.width(), 5);
-    let nowhere: ProgressDrawTarget<InMemoryTerm> = ProgressDrawTarget::hidden();
-    holds!(rt; nowhere.is_hidden());
+    same!(rt; MultiProgressAlignment::default(),
+        MultiProgressAlignment::Top);
 }
 
 /// This is the one line.
@@ -138,22 +107,13 @@ fn update_next(bar: &mut Lone) -> Result<Drawn, Refusal> {
     )
 }
 
-/// A bar on a terminal of these rows and columns.
-fn on_terminal(
-    rt: &impl Abort,
-    alloc: Global,
-    bar: Box<Bar>,
-    (rows, columns): (u16, u16),
-) -> Box<Lone> {
-    let term = InMemoryTerm::new(alloc, rows, columns).granted(rt);
-    let target = ProgressDrawTarget::term_like(term);
-    Box::new(alloc, LoneBar::new(Box::into_inner(bar), target)).granted(rt)
-}
-
+/// A bar at this position of 25, on a terminal of 3 rows and 20 columns.
 fn shown_at(rt: &impl Abort, alloc: Global, place: u64) -> Box<Lone> {
     let mut bar = plain_bar(rt, alloc, 25);
     bar.with_position(place, 0);
-    on_terminal(rt, alloc, bar, (3, 20))
+    let term = InMemoryTerm::new(alloc, 3, 20).granted(rt);
+    let target = ProgressDrawTarget::term_like(term);
+    Box::new(alloc, LoneBar::new(Box::into_inner(bar), target)).granted(rt)
 }
 
 /// What stands on a bar's terminal.
@@ -168,27 +128,4 @@ fn an_update_of_a_lone_bar(rt: HostRuntime) {
     let mut bar = shown_at(rt, rt.alloc(), 23);
     same!(rt; update_next(&mut bar), Ok(Drawn::Yes));
     same!(rt; contents(rt, &bar).as_str(), "24");
-}
-
-/// Suspended round a closure that answers this number.
-fn suspend(bar: &mut Lone, answer: u64) -> (u64, Result<Drawn, Refusal>) {
-    bar.suspend(0, || answer)
-}
-
-/// A bar of a character that is too wide for its one column.
-fn narrow(rt: &impl Abort, alloc: Global) -> Box<Lone> {
-    let style = ProgressStyle::with_template(alloc, "国").granted(rt);
-    let bar = boxed(rt, alloc, style, None);
-    on_terminal(rt, alloc, bar, (4, 1))
-}
-
-/// The closure's answer is handed on, also where the draw behind it is refused.
-#[test]
-fn an_answer_of_a_closure(rt: HostRuntime) {
-    let rt = &rt;
-    let alloc = rt.alloc();
-    let mut bar = shown_at(rt, alloc, 23);
-    same!(rt; suspend(&mut bar, 7), (7, Ok(Drawn::Yes)));
-    let mut bar = narrow(rt, alloc);
-    same!(rt; suspend(&mut bar, 8), (8, Err(Refusal::TooWide)));
 }

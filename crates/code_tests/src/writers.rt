@@ -1,5 +1,6 @@
 //! What a terminal hands on to its writer, and what it makes of the writer's answers.
 use crate::checks::Granted;
+use crate::faults::faults;
 use crate::lone_shown::{SCRIPT, STILL, Shown, Step};
 use indicatif_term::in_memory::Cells;
 use indicatif_term::term_like::{Term, TermLike};
@@ -89,20 +90,9 @@ fn boxed(rt: &impl Abort, alloc: Global, count: &Rc<Cell<u64>>) -> Boxed {
     Box::new(alloc, Term::new(SharedCount(count), 6, 10)).granted(rt)
 }
 
-/// A line isn't flushed, and a flush is counted once.
-#[test]
-fn a_boxed_terminal_is_flushed_once(rt: HostRuntime) {
-    let rt = &rt;
-    let alloc = rt.alloc();
-    let count = Rc::new(alloc, Cell::new(0)).granted(rt);
-    let mut boxed = boxed(rt, alloc, &count);
-    same!(rt; (boxed.write_line("ab").is_ok(), count.get()), (true, 0));
-    same!(rt; (boxed.flush().is_ok(), count.get()), (true, 1));
-}
-
 /// Each call of the script is drawn, and flushed once.
 fn each_is_flushed_once<T: TermLike + Drop>(rt: &impl Abort, mut bar: Shown<T>, count: &Cell<u64>) {
-    let mut flushes: u64 = 0;
+    let mut flushes = count.get();
     for (step, _) in SCRIPT {
         flushes = flushes.saturating_add(1);
         same!(rt; bar.makes(*step), Ok(Drawn::Yes));
@@ -110,12 +100,15 @@ fn each_is_flushed_once<T: TermLike + Drop>(rt: &impl Abort, mut bar: Shown<T>, 
     }
 }
 
+/// A line isn't flushed, and a flush is counted once; so is each drawing.
 #[test]
 fn a_boxed_terminal_is_flushed_once_a_drawing(rt: HostRuntime) {
     let rt = &rt;
     let alloc = rt.alloc();
     let count = Rc::new(alloc, Cell::new(0)).granted(rt);
-    let boxed = boxed(rt, alloc, &count);
+    let mut boxed = boxed(rt, alloc, &count);
+    same!(rt; (boxed.write_line("ab").is_ok(), count.get()), (true, 0));
+    same!(rt; (boxed.flush().is_ok(), count.get()), (true, 1));
     let bar = Shown::on(alloc, "ab", boxed).granted(rt);
     each_is_flushed_once(rt, bar, &count);
 }
@@ -199,15 +192,6 @@ fn was_given_each(rt: &impl Abort, term: &Term<Taker>, bytes: &[u8]) {
     same!(rt; writer.taken.as_slice(), bytes);
 }
 
-#[test]
-fn a_bar_behind_a_writer_of_one_byte_a_call(rt: HostRuntime) {
-    let rt = &rt;
-    let alloc = rt.alloc();
-    let bytes = bytes_of_the_script(rt, alloc);
-    let mut bar = bar_behind(rt, alloc, Taking::One);
-    was_given_each(rt, played(rt, &mut bar), &bytes);
-}
-
 /// The rows down to the cursor's that these bytes show, each behind a newline.
 fn shown(rt: &impl Abort, alloc: Global, bytes: &[u8]) -> String {
     let mut cells = Cells::new(alloc, 20, 10).granted(rt);
@@ -282,12 +266,43 @@ fn is_broken_once_at(rt: &impl Abort, alloc: Global, at: usize) {
     same!(rt; (at, writer.calls, term.faults()), (at, calls, 1));
 }
 
+/// One that takes one byte a call, and then one that fails, too, once at each byte.
 #[test]
-fn a_bar_behind_a_writer_that_fails(rt: HostRuntime) {
+fn a_bar_behind_a_writer_of_one_byte_a_call(rt: HostRuntime) {
     let rt = &rt;
     let alloc = rt.alloc();
     let bytes = bytes_of_the_script(rt, alloc);
+    let mut bar = bar_behind(rt, alloc, Taking::One);
+    was_given_each(rt, played(rt, &mut bar), &bytes);
     for at in 0..bytes.len() {
         is_broken_once_at(rt, alloc, at);
     }
+}
+
+// ---- one in a box that fails
+
+/// A tick is drawn, a line fails and is counted, and the same line is drawn then.
+fn fails_at_a_line<T: TermLike + Drop>(rt: &impl Abort, mut bar: Shown<T>) {
+    same!(rt; bar.makes(Step::Tick), Ok(Drawn::Yes));
+    let broken = Err(Refusal::Terminal(ErrorKind::BrokenPipe));
+    same!(rt; (bar.makes(Step::Log("l")), faults(&bar)), (broken, Some(1)));
+    same!(rt; (bar.makes(Step::Log("l")), faults(&bar)), (Ok(Drawn::Yes), Some(1)));
+}
+
+/// A boxed terminal whose writer fails once, behind the ten bytes of a first drawing on ten columns.
+fn failing(rt: &impl Abort, alloc: Global) -> Boxed {
+    let writer = Taker {
+        taken: Vec::new(alloc),
+        calls: 0,
+        taking: Taking::OneFailingAt(10),
+    };
+    Box::new(alloc, Term::new(writer, 5, 10)).granted(rt)
+}
+
+#[test]
+fn a_boxed_terminal_that_fails(rt: HostRuntime) {
+    let rt = &rt;
+    let alloc = rt.alloc();
+    let bar = Shown::on(alloc, "ab", failing(rt, alloc)).granted(rt);
+    fails_at_a_line(rt, bar);
 }
