@@ -73,7 +73,12 @@ fn shown<R: Wait + Copy + Clone + Drop + Abort>(
 }
 
 /// Both show this where such a text was told.
-fn show<R: Wait + Copy + Clone + Drop + Abort>(rt: &R, alloc: Global, text: &str, wanted: &str) {
+fn show<R: Wait + Copy + Clone + Drop + Abort>(
+    rt: &R,
+    alloc: Global,
+    text: &'static str,
+    wanted: &str,
+) {
     let (shown, again) = shown(*rt, alloc, text);
     same!(rt; shown.as_str(), wanted);
     same!(rt; again.as_str(), wanted);
