@@ -26,15 +26,6 @@ impl<R: Wait + Copy + Clone + Drop> Bar<R> {
             Err(refusal) => Err(Bad::Refused(refusal)),
         }
     }
-
-    /// Another owner.
-    pub fn other(&self) -> Result<Bar<R>, Bad> {
-        let other: Result<_, _> = self.0.clone();
-        match other {
-            Ok(bar) => Ok(Bar(bar)),
-            Err(_) => Err(Bad::Refused(Refusal::Memory)),
-        }
-    }
 }
 
 /// A bar without an owner.
@@ -157,11 +148,6 @@ impl<R: Wait + Copy + Clone + Drop> Maker<R> {
             Err(bad) => Err(bad),
         }
     }
-
-    /// A bar that is hidden.
-    pub fn hidden(&self) -> Result<Bar<R>, Bad> {
-        Bar::given(ProgressBar::hidden(self.rt, self.alloc, self.room.clock))
-    }
 }
 
 /// A spinner of three texts and the message; the last text is for a finished bar.
@@ -169,24 +155,16 @@ pub fn spinner(alloc: Global, last: &str) -> Result<ProgressStyle<NoTracker>, Re
     ProgressStyle::with_template(alloc, "{spinner} {msg}")?.tick_strings(&["-", "+", last])
 }
 
-fn contents(term: Option<&InMemoryTerm>) -> Option<Result<String, Refusal>> {
+/// What stands on a terminal, if there is one.
+pub fn contents(term: Option<&InMemoryTerm>) -> Option<Result<String, Refusal>> {
     match term {
         Some(term) => Some(term.contents()),
         None => None,
     }
 }
 
-/// What stands on a bar's terminal; `nothing` where it has none.
-pub fn push_bar<R: Wait + Copy + Clone + Drop>(bar: &Front<R>, got: &mut Got) {
-    push_contents(bar.with_term(contents), got)
-}
-
-/// The same of a board.
-pub fn push_board<R: Wait + Copy + Clone + Drop>(board: &FrontBoard<R>, got: &mut Got) {
-    push_contents(board.with_term(contents), got)
-}
-
-fn push_contents(contents: Option<Result<String, Refusal>>, got: &mut Got) {
+/// Appends what stands there; `nothing` where there is no terminal.
+pub fn push_contents(contents: Option<Result<String, Refusal>>, got: &mut Got) {
     match contents {
         Some(contents) => got.text_of(contents),
         None => got.text("nothing"),

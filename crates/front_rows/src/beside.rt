@@ -113,14 +113,6 @@ impl<R: Wait + Copy + Clone + Drop> Both<R> {
         Ok(Box::new(alloc, both)?)
     }
 
-    /// Makes the call of both; whether they answer the same.
-    fn answer_same(&mut self, call: &str) -> Result<bool, Bad> {
-        let answer = tell(&self.shared.0, self.alloc, call)?;
-        let now = self.clock.now();
-        let alone = tell_alone(&mut self.lone, self.alloc, call, now)?;
-        Ok(alone == answer)
-    }
-
     /// Whether both show the same.
     fn show_same(&self) -> bool {
         let rows = self.shared.0.with_term(rows_of);
@@ -166,9 +158,11 @@ impl<R: Wait + Copy + Clone + Drop> Both<R> {
 
     /// What differs after the same call of both, if anything does.
     fn differ_by(&mut self, call: &str) -> Result<Option<&'static str>, Bad> {
-        match self.answer_same(call) {
-            Ok(true) => Ok(self.differ()),
-            Ok(false) => Ok(Some("answers")),
+        let answer = tell(&self.shared.0, self.alloc, call)?;
+        let now = self.clock.now();
+        match tell_alone(&mut self.lone, self.alloc, call, now) {
+            Ok(alone) if alone == answer => Ok(self.differ()),
+            Ok(_) => Ok(Some("answers")),
             Err(bad) => Err(bad),
         }
     }
@@ -187,23 +181,18 @@ impl<R: Wait + Copy + Clone + Drop> Both<R> {
         }
     }
 
-    /// Another target of this rate for both; what the shared one answers.
-    fn turned(&mut self, rate: &str) -> Result<Told, Bad> {
-        let one = target(self.alloc, self.room, rate)?;
-        let other = target(self.alloc, self.room, rate)?;
-        let answer = self.shared.0.set_draw_target(one);
-        let _ = self.lone.0.set_draw_target(other);
-        Ok(answer)
-    }
-
-    /// Another target for both, and whether they show the same.
+    /// Another target of this rate for both: what the shared one answers, and whether they show the same.
     fn turn(&mut self, rate: &str, got: &mut Got) {
-        match self.turned(rate) {
-            Ok(answer) => {
+        let one = target(self.alloc, self.room, rate);
+        match (one, target(self.alloc, self.room, rate)) {
+            (Ok(one), Ok(other)) => {
+                let answer = self.shared.0.set_draw_target(one);
+                let _ = self.lone.0.set_draw_target(other);
                 got.answer(answer);
                 got.text(if self.show_same() { " same" } else { " rows" });
             }
-            Err(bad) => got.bad(bad),
+            (Err(bad), _) => got.bad(bad),
+            (_, Err(bad)) => got.bad(bad),
         }
     }
 
@@ -247,27 +236,21 @@ impl<R: Wait + Copy + Clone + Drop> Both<R> {
     }
 }
 
-/// One of these calls, by the next number of a generator.
+/// One of these calls, by the next number of a fixed generator: Marsaglia's xorshift of 64 bits, with the shifts 13, 7 and 17.
 fn chosen<'a>(calls: &'a [String], seed: &mut u64) -> Option<&'a str> {
-    let count = calls.len() as u64;
-    if count == 0 {
-        return None;
-    }
-    let place = next_number(seed) % count;
-    match calls.get(place as usize) {
-        Some(call) => Some(call.as_str()),
-        None => None,
-    }
-}
-
-/// A fixed generator of numbers: Marsaglia's xorshift of 64 bits, with the shifts 13, 7 and 17.
-fn next_number(seed: &mut u64) -> u64 {
     let mut x = *seed;
     x ^= x.wrapping_shl(13);
     x ^= x >> 7;
     x ^= x.wrapping_shl(17);
     *seed = x;
-    x
+    let count = calls.len() as u64;
+    if count == 0 {
+        return None;
+    }
+    match calls.get((x % count) as usize) {
+        Some(call) => Some(call.as_str()),
+        None => None,
+    }
 }
 
 /// No bars as yet, and no calls.

@@ -276,7 +276,7 @@ fn drain<P: Moves + Drop>(wrapped: &mut Wrapped<P>, count: usize, got: &mut Got)
 }
 
 /// How many reads gave bytes, and how many came in order.
-#[derive(Clone, Copy, Drop)]
+#[derive(Drop)]
 struct Drained {
     reads: u32,
     bytes: u32,

@@ -10,7 +10,10 @@ pub fn push_call(call: &Call<NoTracker>, got: &mut Got) {
         Call::Insert { at, candidate } => push_insertion(*at, candidate, got),
         Call::Remove(id) => push_about(*id, "remove", got),
         Call::Drop(id) => push_about(*id, "drop", got),
-        Call::Log(text) => push_text("log", text.as_str(), got),
+        Call::Log(text) => {
+            got.text("log ");
+            got.text(text.as_str());
+        }
         Call::BarLog(id, text) => {
             push_about(*id, "log ", got);
             got.text(text.as_str());
@@ -19,18 +22,11 @@ pub fn push_call(call: &Call<NoTracker>, got: &mut Got) {
             push_about(*id, "", got);
             push_command(command, got);
         }
-        _ => push_bare(call, got),
+        Call::Clear => got.text("clear"),
+        Call::Redraw => got.text("redraw"),
+        Call::Align(MultiProgressAlignment::Top) => got.text("top"),
+        Call::Align(MultiProgressAlignment::Bottom) => got.text("bottom"),
     }
-}
-
-fn push_bare(call: &Call<NoTracker>, got: &mut Got) {
-    got.text(match call {
-        Call::Clear => "clear",
-        Call::Redraw => "redraw",
-        Call::Align(MultiProgressAlignment::Top) => "top",
-        Call::Align(MultiProgressAlignment::Bottom) => "bottom",
-        _ => "another call",
-    });
 }
 
 fn push_id(id: BarId, got: &mut Got) {
@@ -44,12 +40,6 @@ fn push_about(id: BarId, name: &str, got: &mut Got) {
     push_id(id, got);
     got.text(": ");
     got.text(name);
-}
-
-fn push_text(name: &str, text: &str, got: &mut Got) {
-    got.text(name);
-    got.text(" ");
-    got.text(text);
 }
 
 fn push_number(name: &str, number: u64, got: &mut Got) {

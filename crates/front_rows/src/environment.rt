@@ -136,16 +136,13 @@ pub fn opens(alloc: Global, rest: &str, got: &mut Got) {
 /// Appends what a target is on a stream that is told its size.
 pub fn sizes(alloc: Global, rest: &str, got: &mut Got) {
     let mut words = Words::of(rest);
-    let (rows, cols) = (words.number(), words.number());
-    match words.done(words.rest()) {
-        Ok(words) => push_sized(alloc, words, (rows, cols), got),
-        Err(bad) => got.bad(bad),
+    let (rows, cols): (u16, u16) = (words.number(), words.number());
+    let rest = words.rest();
+    if let Err(bad) = words.done(()) {
+        return got.bad(bad);
     }
-}
-
-fn push_sized(alloc: Global, words: &str, (rows, cols): (u16, u16), got: &mut Got) {
-    let told = Told { words, alloc };
-    match sized_target(&(told, alloc), Stream::of(alloc, words), rows, cols) {
+    let told = Told { words: rest, alloc };
+    match sized_target(&(told, alloc), Stream::of(alloc, rest), rows, cols) {
         Ok(target) => push_target(target, got),
         Err(error) => got.bad(error.into()),
     }
@@ -154,21 +151,18 @@ fn push_sized(alloc: Global, words: &str, (rows, cols): (u16, u16), got: &mut Go
 /// Appends a target's size, and who ends full rows there.
 fn push_target(target: ProgressDrawTarget<StreamTerm<Stream>>, got: &mut Got) {
     match target.into_term() {
-        Some(mut term) => push_term(&mut term, got),
+        Some(mut term) => {
+            got.number(term.height());
+            got.text(" ");
+            got.number(term.width());
+            got.text(match turns_wrap_off(&mut term) {
+                Ok(true) => " program",
+                Ok(false) => " terminal",
+                Err(_) => " failed",
+            });
+        }
         None => got.text("hidden"),
     }
-}
-
-/// Appends a terminal's size, and who ends its full rows.
-fn push_term(term: &mut StreamTerm<Stream>, got: &mut Got) {
-    got.number(term.height());
-    got.text(" ");
-    got.number(term.width());
-    got.text(match turns_wrap_off(term) {
-        Ok(true) => " program",
-        Ok(false) => " terminal",
-        Err(_) => " failed",
-    });
 }
 
 /// Whether a drawing begins with an escape sequence: that turns the terminal's own wrap off.

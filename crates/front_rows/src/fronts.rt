@@ -23,14 +23,16 @@
 //! - `shows`, `hidden`, `order`, `adds`: what is seen of the board; the calls that its history has gained since it was last asked.
 //!   `adds OWNER: CALL`: a call, and what it adds. Behind them stands `!answer` where the last of them is kept with another answer than
 //!   was given, and `!run` where a fresh board that makes all that were kept gives another answer or shows something else.
-use crate::bars::{Bar, Front, FrontBoard, Maker, Pace, Room, Shared, Target, Weak, push_board};
+use crate::bars::{
+    Bar, Front, FrontBoard, Maker, Pace, Room, Shared, Target, Weak, contents, push_contents,
+};
 use crate::bytes::{Over, asks, passed_over};
 use crate::clock::{RowClock, moments_of};
 use crate::history::{Answered, Look, Question, shown};
 use crate::readings::read;
-use crate::scripted::{Scripted, script_of};
+use crate::scripted::script_of;
 use crate::tell::{Told, tell};
-use indicatif::{Drawn, MultiProgressAlignment, ProgressDrawTarget, Refusal};
+use indicatif::{Drawn, MultiProgressAlignment, ProgressBar, ProgressDrawTarget, Refusal};
 use scripts::got::{Bad, Got};
 use scripts::row::{Words, headed};
 use scripts::spelling::{flag, number, unescaped};
@@ -113,17 +115,12 @@ impl<R: Wait + Copy + Clone + Drop> Fronts<R> {
         }
     }
 
-    /// The owner of this number.
-    fn owner(&self, place: &str) -> Option<&Bar<R>> {
-        match number::<usize>(place) {
-            Ok(place) => self.bars.get(place),
-            Err(_) => None,
-        }
-    }
-
-    /// Its bar.
+    /// The bar of the owner of this number.
     fn bar(&self, place: &str) -> Option<&Front<R>> {
-        match self.owner(place) {
+        let Ok(place) = number::<usize>(place) else {
+            return None;
+        };
+        match self.bars.get(place) {
             Some(bar) => Some(&bar.0),
             None => None,
         }
@@ -144,37 +141,6 @@ impl<R: Wait + Copy + Clone + Drop> Fronts<R> {
     }
 
     // ---- steps: what one of these functions doesn't know it passes on to the next
-
-    /// Makes a step that asks neither for a wrapper nor for a bar's ticker.
-    fn play(&mut self, step: &str, got: &mut Got) {
-        match step {
-            "board" | "recorded" => self.begins(step == "recorded", got),
-            "release" | "drop" => self.goes(step == "release", got),
-            "adds" => self.push_added(got),
-            "never" => self.weak = Weak::never(),
-            "upgrades" => match self.weak.upgrade() {
-                Ok(bar) => got.flag(bar.is_some()),
-                Err(bad) => got.bad(bad),
-            },
-            _ => self.play_words(step, got),
-        }
-    }
-
-    /// Makes a step that has words behind its name.
-    fn play_words(&mut self, step: &str, got: &mut Got) {
-        let (name, place) = headed(step);
-        match name {
-            "rate" | "moments" | "on" if !place.is_empty() => self.sets(step, got),
-            "weak" => match self.weak_of(place) {
-                Ok(weak) => self.weak = weak,
-                Err(bad) => got.bad(bad),
-            },
-            _ => match self.coming(step) {
-                Some(bar) => self.store(bar, got),
-                None => self.takes_in(step, got),
-            },
-        }
-    }
 
     /// Sets what is made from now on, or which board steps speak of.
     fn sets(&mut self, step: &str, got: &mut Got) {
@@ -239,7 +205,10 @@ impl<R: Wait + Copy + Clone + Drop> Fronts<R> {
     /// A bar that stands alone, or another owner, where the step asks for one.
     fn coming(&self, step: &str) -> Option<Result<Bar<R>, Bad>> {
         Some(match (step, step.split_once(' ')) {
-            ("hidden_bar", _) => self.maker.hidden(),
+            ("hidden_bar", _) => {
+                let maker = &self.maker;
+                Bar::given(ProgressBar::hidden(maker.rt, maker.alloc, maker.room.clock))
+            }
             ("upgrade", _) => match self.weak.upgrade() {
                 Ok(Some(bar)) => Ok(bar),
                 Ok(None) => Err(Bad::Step),
@@ -261,9 +230,13 @@ impl<R: Wait + Copy + Clone + Drop> Fronts<R> {
 
     /// Another owner of the bar of this one.
     fn another(&self, place: &str) -> Result<Bar<R>, Bad> {
-        match self.owner(place) {
-            Some(bar) => bar.other(),
-            None => Err(Bad::Step),
+        let Some(bar) = self.bar(place) else {
+            return Err(Bad::Step);
+        };
+        let other: Result<_, _> = bar.clone();
+        match other {
+            Ok(bar) => Ok(Bar(bar)),
+            Err(_) => Err(Bad::Refused(Refusal::Memory)),
         }
     }
 
@@ -323,25 +296,14 @@ impl<R: Wait + Copy + Clone + Drop> Fronts<R> {
         let Some(board) = self.board() else {
             return got.bad(Bad::Step);
         };
-        let answer = match step {
+        let (name, word) = headed(step);
+        let answer = match name {
             "top" => board.set_alignment(MultiProgressAlignment::Top),
             "bottom" => board.set_alignment(MultiProgressAlignment::Bottom),
-            "turn" | "hide" => match self.turned_to(step == "hide") {
+            "turn" | "hide" => match self.turned_to(name == "hide") {
                 Ok(target) => turn(board, target),
                 Err(refusal) => return got.bad(Bad::Refused(refusal)),
             },
-            _ => return self.settles_words(step, got),
-        };
-        self.settled(answer, got);
-    }
-
-    /// A call of the board that has a word behind its name.
-    fn settles_words(&mut self, step: &str, got: &mut Got) {
-        let Some(board) = self.board() else {
-            return got.bad(Bad::Step);
-        };
-        let (name, word) = headed(step);
-        let answer = match name {
             "move" => match flag(word) {
                 Ok(on) => board.set_move_cursor(on),
                 Err(bad) => return got.bad(bad),
@@ -382,7 +344,7 @@ impl<R: Wait + Copy + Clone + Drop> Fronts<R> {
             return got.bad(Bad::Step);
         };
         match step {
-            "shows" => push_board(board, got),
+            "shows" => push_contents(board.with_term(contents), got),
             "hidden" => got.flag(board.is_hidden()),
             "order" => {
                 shown(board, self.look(Question::Order), got);
@@ -432,7 +394,10 @@ impl<R: Wait + Copy + Clone + Drop> Fronts<R> {
                 Err(refusal) => Err(Bad::Refused(refusal)),
             },
             (_, Some(other)) => match self.bar(other) {
-                Some(other) => Ok(dressed(bar, other)),
+                Some(other) => Ok(match other.style() {
+                    Ok(style) => bar.set_style(style),
+                    Err(refusal) => Err(refusal),
+                }),
                 None => Err(Bad::Step),
             },
             (_, None) => tell(bar, self.maker.alloc, rest),
@@ -489,66 +454,31 @@ fn turn<R: Wait + Copy + Clone + Drop>(
     }
 }
 
-/// The bar, in the style of another one.
-fn dressed<R: Wait + Copy + Clone + Drop>(bar: &Front<R>, other: &Front<R>) -> Told {
-    match other.style() {
-        Ok(style) => bar.set_style(style),
-        Err(refusal) => Err(refusal),
-    }
-}
-
-impl<R: AllocGlobal + RandomSource + Wait + Copy + Clone + Drop> World<R> {
-    /// Asks what is wrapped.
-    fn asks(&mut self, step: &str, got: &mut Got) {
-        match &mut self.wrapped {
-            Some(wrapped) => asks(&mut wrapped.0, step, got),
-            None => got.bad(Bad::Step),
-        }
-    }
-
-    /// Wraps something by the call of this name.
-    fn wraps(&mut self, name: &str, rest: &str, got: &mut Got) {
-        match self.fronts.wrapped_by(name, rest) {
-            Ok(wrapped) => self.wrapped = Some(wrapped),
-            Err(bad) => got.bad(bad),
-        }
-    }
-}
-
 impl<R: AllocGlobal + RandomSource + Wait + Copy + Clone + Drop> Fronts<R> {
-    /// What a bar wraps by the call of this name.
+    /// What a bar wraps by the call of this name, to be asked.
     fn wrapped_by(&self, name: &str, rest: &str) -> Result<Wrapped<R>, Bad> {
         let (place, script) = headed(rest);
-        match (self.bar(place), script_of(self.maker.alloc, script)) {
-            (Some(bar), Ok(inner)) => wrap_by(&self.maker, bar, (name, inner)),
-            (None, _) => Err(Bad::Step),
-            (_, Err(bad)) => Err(bad),
+        let Some(bar) = self.bar(place) else {
+            return Err(Bad::Step);
+        };
+        let inner = script_of(self.maker.alloc, script)?;
+        let wrapped = match name {
+            "wrap_iter" => bar.wrap_iter(inner),
+            "wrap_read" => bar.wrap_read(inner),
+            "wrap_write" => bar.wrap_write(inner),
+            "wrap_stream" => bar.wrap_stream(inner),
+            "wrap_async_read" => bar.wrap_async_read(inner),
+            "wrap_async_write" => bar.wrap_async_write(inner),
+            _ => return Err(Bad::Step),
+        };
+        let over = match wrapped {
+            Ok(wrapped) => passed_over(&self.maker.rt, self.maker.alloc, wrapped),
+            Err(_) => Err(Bad::Refused(Refusal::Memory)),
+        };
+        match over {
+            Ok(over) => Ok(Wrapped(over)),
+            Err(bad) => Err(bad),
         }
-    }
-}
-
-/// What a bar wraps by the call of a name, to be asked.
-fn wrap_by<R: AllocGlobal + RandomSource + Wait + Copy + Clone + Drop>(
-    maker: &Maker<R>,
-    bar: &Front<R>,
-    (name, inner): (&str, Scripted),
-) -> Result<Wrapped<R>, Bad> {
-    let wrapped = match name {
-        "wrap_iter" => bar.wrap_iter(inner),
-        "wrap_read" => bar.wrap_read(inner),
-        "wrap_write" => bar.wrap_write(inner),
-        "wrap_stream" => bar.wrap_stream(inner),
-        "wrap_async_read" => bar.wrap_async_read(inner),
-        "wrap_async_write" => bar.wrap_async_write(inner),
-        _ => return Err(Bad::Step),
-    };
-    let over = match wrapped {
-        Ok(wrapped) => passed_over(&maker.rt, maker.alloc, wrapped),
-        Err(_) => Err(Bad::Refused(Refusal::Memory)),
-    };
-    match over {
-        Ok(over) => Ok(Wrapped(over)),
-        Err(bad) => Err(bad),
     }
 }
 
@@ -559,8 +489,14 @@ impl<
     pub fn step(&mut self, step: &str, got: &mut Got) {
         let (name, rest) = headed(step);
         match name {
-            "|" => self.asks(rest, got),
-            _ if name.starts_with("wrap_") => self.wraps(name, rest, got),
+            "|" => match &mut self.wrapped {
+                Some(wrapped) => asks(&mut wrapped.0, rest, got),
+                None => got.bad(Bad::Step),
+            },
+            _ if name.starts_with("wrap_") => match self.fronts.wrapped_by(name, rest) {
+                Ok(wrapped) => self.wrapped = Some(wrapped),
+                Err(bad) => got.bad(bad),
+            },
             _ => self.fronts.step(step, got),
         }
     }
@@ -572,11 +508,30 @@ impl<
     /// Makes a step that has nothing to do with what is wrapped.
     fn step(&mut self, step: &str, got: &mut Got) {
         let (name, rest) = headed(step);
-        match (name, step.split_once(": ")) {
-            ("adds", _) if !rest.is_empty() => self.adds_by(rest, got),
-            ("history_rests", _) => self.history_rests(got),
-            (_, Some((place, rest))) => self.of_bar(place, rest, got),
-            (_, None) => self.play(step, got),
+        match step.split_once(": ") {
+            Some((place, call)) if name != "adds" => return self.of_bar(place, call, got),
+            _ => (),
+        }
+        match name {
+            "board" | "recorded" => self.begins(name == "recorded", got),
+            "release" | "drop" => self.goes(name == "release", got),
+            "adds" if rest.is_empty() => self.push_added(got),
+            "adds" => self.adds_by(rest, got),
+            "history_rests" => self.history_rests(got),
+            "rate" | "moments" | "on" => self.sets(step, got),
+            "never" => self.weak = Weak::never(),
+            "upgrades" => match self.weak.upgrade() {
+                Ok(bar) => got.flag(bar.is_some()),
+                Err(bad) => got.bad(bad),
+            },
+            "weak" => match self.weak_of(rest) {
+                Ok(weak) => self.weak = weak,
+                Err(bad) => got.bad(bad),
+            },
+            _ => match self.coming(step) {
+                Some(bar) => self.store(bar, got),
+                None => self.takes_in(step, got),
+            },
         }
     }
 

@@ -17,7 +17,7 @@ pub enum Answered {
 }
 
 /// What is asked of a board with its history.
-#[derive(Clone, Copy, Drop)]
+#[derive(Drop)]
 pub enum Question {
     /// Its bars, in their order.
     Order,
@@ -26,7 +26,7 @@ pub enum Question {
 }
 
 /// A question, and what a fresh board is made with.
-#[derive(Clone, Copy, Drop)]
+#[derive(Drop)]
 pub struct Look {
     pub alloc: Global,
     pub room: Room,
@@ -57,7 +57,7 @@ impl RecordReader<InMemoryTerm, NoTracker> for Look {
     fn read(self, record: Option<&Recorded<NoTracker, InMemoryTerm>>) -> Seen {
         let mut said = Got::new(self.alloc);
         let recorded = match record {
-            Some(record) => answer(self, record, &mut said),
+            Some(record) => answer(&self, record, &mut said),
             None => {
                 said.text("no history");
                 0
@@ -67,12 +67,17 @@ impl RecordReader<InMemoryTerm, NoTracker> for Look {
     }
 }
 
-fn answer(look: Look, record: &Recorded<NoTracker, InMemoryTerm>, said: &mut Got) -> usize {
+fn answer(look: &Look, record: &Recorded<NoTracker, InMemoryTerm>, said: &mut Got) -> usize {
     match look.question {
         Question::Order => said.numbers(record.board().order()),
         Question::Added { from, answer } => {
             let added = record.entries().get(from..).unwrap_or(&[]);
-            push_calls(added, said);
+            let mut parting = "";
+            for entry in added {
+                said.text(parting);
+                push_call(&entry.call, said);
+                parting = ", ";
+            }
             if !is_answered(added.last(), answer) {
                 said.text(" !answer");
             }
@@ -82,15 +87,6 @@ fn answer(look: Look, record: &Recorded<NoTracker, InMemoryTerm>, said: &mut Got
         }
     }
     record.entries().len()
-}
-
-fn push_calls(entries: &[Entry<NoTracker>], said: &mut Got) {
-    let mut parting = "";
-    for entry in entries {
-        said.text(parting);
-        push_call(&entry.call, said);
-        parting = ", ";
-    }
 }
 
 /// Whether a call was answered so; one that neither draws nor is refused counts as `Limited`.
@@ -110,7 +106,7 @@ fn is_answered(entry: Option<&Entry<NoTracker>>, wanted: Answered) -> bool {
 struct Fresh(Board<NoTracker, InMemoryTerm>);
 
 /// Whether a fresh board makes the calls that were kept with the same answers, and then shows the same rows.
-fn is_replayed(look: Look, recorded: &Recorded<NoTracker, InMemoryTerm>) -> Result<bool, Refusal> {
+fn is_replayed(look: &Look, recorded: &Recorded<NoTracker, InMemoryTerm>) -> Result<bool, Refusal> {
     let target = look.room.target(look.alloc)?;
     let fresh = Fresh(Board::new(look.alloc, target, recorded.opening().board_id));
     match Box::new(look.alloc, fresh) {
@@ -119,30 +115,19 @@ fn is_replayed(look: Look, recorded: &Recorded<NoTracker, InMemoryTerm>) -> Resu
     }
 }
 
+/// Whether a board makes these calls with the same answers, and then shows the same rows.
 fn replays(
     fresh: &mut Board<NoTracker, InMemoryTerm>,
     alloc: Global,
     recorded: &Recorded<NoTracker, InMemoryTerm>,
 ) -> Result<bool, Refusal> {
-    match answers_so(fresh, alloc, recorded.entries()) {
-        Ok(true) => same_rows(rows_of(fresh.term()), rows_of(recorded.board().term())),
-        unequal => unequal,
-    }
-}
-
-/// Whether a board makes these calls with the same answers.
-fn answers_so(
-    board: &mut Board<NoTracker, InMemoryTerm>,
-    alloc: Global,
-    entries: &[Entry<NoTracker>],
-) -> Result<bool, Refusal> {
-    for entry in entries {
+    for entry in recorded.entries() {
         let call = entry.call.try_clone(alloc)?;
-        if board.call(call, entry.now) != entry.answer {
+        if fresh.call(call, entry.now) != entry.answer {
             return Ok(false);
         }
     }
-    Ok(true)
+    same_rows(rows_of(fresh.term()), rows_of(recorded.board().term()))
 }
 
 /// The rows of a terminal, those that have scrolled away first; of none nothing.

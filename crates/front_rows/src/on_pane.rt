@@ -55,23 +55,20 @@ impl OnPane {
         match headed(step) {
             ("size" | "target" | "pane", words) => self.resize(step, words, got),
             ("others", text) => match unescaped(self.at.alloc, text) {
-                Ok(text) => self.write(text.as_str(), got),
+                Ok(text) => {
+                    if self.pane.show(text.as_str()).is_err() {
+                        got.bad(Bad::Step);
+                    }
+                }
                 Err(bad) => got.bad(bad),
             },
             ("fails", writes) => match number(writes) {
-                Ok(number) => self.pane.fail(number),
+                Ok(number) => self.pane.fails.set(number),
                 Err(bad) => got.bad(bad),
             },
-            ("wraps", "") => got.flag(self.pane.wraps()),
+            ("wraps", "") => got.flag(self.pane.wraps.get()),
             ("rows", "") => push_filled(self.pane.picture(), got),
             _ => self.call(step, got),
-        }
-    }
-
-    /// Another program writes this text.
-    fn write(&self, text: &str, got: &mut Got) {
-        if self.pane.show(text).is_err() {
-            got.bad(Bad::Step);
         }
     }
 
@@ -104,7 +101,11 @@ impl OnPane {
     /// Makes a call, and appends what it answers.
     fn call(&mut self, step: &str, got: &mut Got) {
         match self.run(step) {
-            Ok(answers) => push_answers(answers, got),
+            Ok(answers) => {
+                for answer in answers {
+                    push_answer(answer, got);
+                }
+            }
             Err(bad) => got.bad(bad),
         }
     }
@@ -114,11 +115,5 @@ impl OnPane {
         let call = board_call(at, step)?;
         let calls = vec![in at.alloc; (call, at.now)]?;
         Ok(self.board.0.run(calls)?)
-    }
-}
-
-fn push_answers(answers: Vec<Answer>, got: &mut Got) {
-    for answer in answers {
-        push_answer(answer, got);
     }
 }

@@ -14,9 +14,9 @@ use std::str;
 pub struct Pane {
     cells: RefCell<Cells>,
     columns: Cell<u16>,
-    wraps: Cell<bool>,
+    pub wraps: Cell<bool>,
     /// How many writes from now on the one is that fails; none where it is 0.
-    fails: Cell<u64>,
+    pub fails: Cell<u64>,
 }
 
 impl Pane {
@@ -47,26 +47,6 @@ impl Pane {
             Ok(cells) => cells.picture(),
             Err(_) => Err(Refusal::Memory),
         }
-    }
-
-    /// Whether a full row goes on on the next one.
-    pub fn wraps(&self) -> bool {
-        self.wraps.get()
-    }
-
-    /// The write of this number fails, counted from now on.
-    pub fn fail(&self, number: u64) {
-        self.fails.set(number);
-    }
-
-    /// Fails where this write is the one that does.
-    fn admit(&self) -> io::Result<()> {
-        let left = self.fails.get();
-        self.fails.set(left.saturating_sub(1));
-        if left == 1 {
-            return Err(Error::from(ErrorKind::BrokenPipe));
-        }
-        Ok(())
     }
 
     /// Shows a text.
@@ -162,12 +142,17 @@ pub struct Wire(pub Rc<Pane>);
 
 impl Write for Wire {
     fn write(&mut self, buf: &[u8]) -> io::Result<usize> {
-        self.0.admit()?;
-        match str::from_utf8(buf) {
-            Ok(text) => self.0.show(text)?,
-            Err(_) => return Err(Error::from(ErrorKind::InvalidData)),
+        let left = self.0.fails.get();
+        self.0.fails.set(left.saturating_sub(1));
+        let shown = match str::from_utf8(buf) {
+            _ if left == 1 => Err(Error::from(ErrorKind::BrokenPipe)),
+            Ok(text) => self.0.show(text),
+            Err(_) => Err(Error::from(ErrorKind::InvalidData)),
+        };
+        match shown {
+            Ok(()) => Ok(buf.len()),
+            Err(error) => Err(error),
         }
-        Ok(buf.len())
     }
 
     fn flush(&mut self) -> io::Result<()> {

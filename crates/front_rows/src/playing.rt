@@ -1,6 +1,6 @@
 //! Files of rows, played on the stage. A step may start a ticker's thread, which no method of a trait can: so the stage is no `World` of
 //! `scripts`.
-use crate::stage::Stage;
+use crate::stage::{On, Stage};
 use scripts::got::Got;
 use scripts::play::{Tally, is_wanted, print_row};
 use scripts::row::Row;
@@ -48,7 +48,11 @@ fn play_on_new_stage<
         + 'static,
     L: BufRead + Drop,
 >(rt: &R, path: &str, lines: L) -> io::Result<Tally> {
-    let mut stage = Stage::new(*rt, rt.alloc());
+    let mut stage = Stage {
+        rt: *rt,
+        alloc: rt.alloc(),
+        on: On::Nothing,
+    };
     play_lines(rt, path, lines, &mut stage)
 }
 

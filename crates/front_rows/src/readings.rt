@@ -1,7 +1,7 @@
 //! What a bar tells of itself: `shows`, `message`, `prefix`, `pos`, `len`, `ticks`, `finished`, `hidden`, `tab_width`, `eta`, `duration`,
 //! `elapsed`; `per_sec`, steps and the nanoseconds in which they came; `changed_style`, the last text of a style that was made of the
 //! bar's; and `readings`, all that is only read.
-use crate::bars::{Front, Weak, push_bar};
+use crate::bars::{Front, Weak, contents, push_contents};
 use indicatif::{NoTracker, ProgressStyle, Refusal};
 use scripts::got::{Bad, Got};
 use scripts::lone::push_rate;
@@ -10,7 +10,7 @@ use std::sync::Wait;
 /// Reads something of a bar; whether the text asks for that.
 pub fn read<R: Wait + Copy + Clone + Drop>(bar: &Front<R>, text: &str, got: &mut Got) -> bool {
     match text {
-        "shows" => push_bar(bar, got),
+        "shows" => push_contents(bar.with_term(contents), got),
         "message" => got.text_of(bar.message()),
         "prefix" => got.text_of(bar.prefix()),
         "changed_style" => push_changed(bar, got),

@@ -77,20 +77,16 @@ fn numbered<R: Wait + Copy + Clone + Drop>(
 ) -> Result<Told, Bad> {
     match called_with_number!(bar, name, n) {
         Some(told) => Ok(told),
-        None => counted(bar, name, n),
-    }
-}
-
-fn counted<R: Wait + Copy + Clone + Drop>(bar: &Front<R>, name: &str, n: u64) -> Result<Told, Bad> {
-    match name {
-        "further" => Ok(bar.update(|state| further(state, n))),
-        "absorb" => Ok(absorb(bar, n)),
-        "advance" => Ok(moved(bar, Move::Advance(n))),
-        "place" => Ok(moved(bar, Move::PlaceAt(n))),
-        "with_position" => Ok(build(bar, Built::Position(n))),
-        "with_elapsed" => Ok(build(bar, Built::Elapsed(n))),
-        "with_tab_width" => Ok(build(bar, Built::TabWidth(n as usize))),
-        _ => Err(Bad::Step),
+        None => match name {
+            "further" => Ok(bar.update(|state| further(state, n))),
+            "absorb" => Ok(absorb(bar, n)),
+            "advance" => Ok(moved(bar, Move::Advance(n))),
+            "place" => Ok(moved(bar, Move::PlaceAt(n))),
+            "with_position" => Ok(build(bar, Built::Position(n))),
+            "with_elapsed" => Ok(build(bar, Built::Elapsed(n))),
+            "with_tab_width" => Ok(build(bar, Built::TabWidth(n as usize))),
+            _ => Err(Bad::Step),
+        },
     }
 }
 
@@ -146,27 +142,18 @@ fn worded<R: Wait + Copy + Clone + Drop>(
 ) -> Told {
     match called_with_text!(bar, name, text) {
         Some(told) => told,
-        None => dressed(bar, alloc, name, text),
-    }
-}
-
-fn dressed<R: Wait + Copy + Clone + Drop>(
-    bar: &Front<R>,
-    alloc: Global,
-    name: &str,
-    text: &str,
-) -> Told {
-    match name {
-        "log" => bar.println(text),
-        "template" => set_template(bar, text),
-        "with_message" => build(bar, Built::Message(text)),
-        "with_prefix" => build(bar, Built::Prefix(text)),
-        _ => match spinner(alloc, text) {
-            Ok(style) => match name {
-                "set_style" => bar.set_style(style),
-                _ => build(bar, Built::Style(style)),
+        None => match name {
+            "log" => bar.println(text),
+            "template" => set_template(bar, text),
+            "with_message" => build(bar, Built::Message(text)),
+            "with_prefix" => build(bar, Built::Prefix(text)),
+            _ => match spinner(alloc, text) {
+                Ok(style) => match name {
+                    "set_style" => bar.set_style(style),
+                    _ => build(bar, Built::Style(style)),
+                },
+                Err(refusal) => Err(refusal),
             },
-            Err(refusal) => Err(refusal),
         },
     }
 }
