@@ -1,9 +1,9 @@
 //! A board on a screen.
 use crate::outside;
 use indicatif_bar::style::NoTracker;
-use indicatif_board::multi::{Answer, BarId, Board, Call, Candidate, InsertLocation, Turned};
+use indicatif_board::multi::{Answer, BarId, Board, Call, Candidate, InsertLocation};
 use indicatif_term::draw_target::MultiProgressAlignment;
-use indicatif_text::columns::{Moment, Refusal};
+use indicatif_text::columns::Moment;
 use scripts::boards::{BOARD_ID, bar_id, board_call, candidate, of_bar, placed, push_answer};
 use scripts::commands::command;
 use scripts::got::{Bad, Got};
@@ -15,9 +15,6 @@ use std::rc::Rc;
 
 /// The board.
 pub type Shown = Board<NoTracker, Behind>;
-
-/// What comes of a bar that is to be taken in.
-type Taken = Result<BarId, Turned<NoTracker>>;
 
 /// A board on a screen.
 #[derive(Drop)]
@@ -122,11 +119,16 @@ pub fn push_slot(slot: Option<usize>, got: &mut Got) {
 
 /// Makes a call of a bar by its name, or reads something of the bar.
 fn of_one(board: &mut Shown, id: BarId, (text, at): (&str, At), got: &mut Got) {
-    if look_at_bar(board, id, (text, at.now), got) {
-        return;
+    if let Ok(bar) = board.bar(id) {
+        if read_bar(bar, text, at.now, got) {
+            return;
+        }
     }
     match headed(text) {
-        ("remove", "") => push_removed(board, id, got),
+        ("remove", "") => match board.remove(id) {
+            Ok(found) => got.flag(found.is_some()),
+            Err(refusal) => got.refusal(refusal),
+        },
         ("drop", "") => got.answer(board.drop_bar(id, at.now)),
         ("log", text) => match unescaped(at.alloc, text) {
             Ok(text) => got.answer(board.bar_println(id, text.as_str(), at.now)),
@@ -136,22 +138,6 @@ fn of_one(board: &mut Shown, id: BarId, (text, at): (&str, At), got: &mut Got) {
             Ok(command) => got.answer(board.command(id, command, at.now)),
             Err(bad) => got.bad(bad),
         },
-    }
-}
-
-/// Reads something of a bar at a moment; whether the text asks for that.
-fn look_at_bar(board: &Shown, id: BarId, (text, now): (&str, Moment), got: &mut Got) -> bool {
-    match board.bar(id) {
-        Ok(bar) => read_bar(bar, text, now, got),
-        Err(_) => false,
-    }
-}
-
-/// Takes out a bar, and appends whether it was there.
-fn push_removed(board: &mut Shown, id: BarId, got: &mut Got) {
-    match board.remove(id) {
-        Ok(found) => got.flag(found.is_some()),
-        Err(refusal) => got.refusal(refusal),
     }
 }
 
@@ -166,50 +152,37 @@ fn of_all(board: &mut Shown, step: &str, at: At, got: &mut Got) {
             Ok(text) => got.answer(board.println(text.as_str(), at.now)),
             Err(bad) => got.bad(bad),
         },
-        (name, rest) => match insertion(name, rest, at) {
-            Ok((place, candidate)) => push_taken(taken_in(board, place, candidate), got),
+        (name, rest) => match placed(name, rest) {
+            Ok((place, bar)) => match candidate(at, bar) {
+                Ok(candidate) => take_in(board, place, candidate, got),
+                Err(bad) => got.bad(bad),
+            },
             Err(bad) => got.bad(bad),
         },
     }
 }
 
-/// The place that a step names, and what it takes in there.
-fn insertion(
-    name: &str,
-    rest: &str,
-    at: At,
-) -> Result<(InsertLocation, Candidate<NoTracker>), Bad> {
-    let (place, bar) = placed(name, rest)?;
-    match candidate(at, bar) {
-        Ok(candidate) => Ok((place, candidate)),
-        Err(bad) => Err(bad),
-    }
-}
-
-fn taken_in(board: &mut Shown, place: InsertLocation, candidate: Candidate<NoTracker>) -> Taken {
-    match place {
+/// Takes in a bar, and appends its number; or why it wasn't taken in, and what came back: a new bar by its message, behind `'`, or the
+/// number of one that may be there, behind `=`, and behind `x` where it is of another board.
+fn take_in(
+    board: &mut Shown,
+    place: InsertLocation,
+    candidate: Candidate<NoTracker>,
+    got: &mut Got,
+) {
+    let taken = match place {
         InsertLocation::End => board.add(candidate),
         InsertLocation::Index(index) => board.insert(index, candidate),
         InsertLocation::FromBack(count) => board.insert_from_back(count, candidate),
         InsertLocation::Before(anchor) => board.insert_before(anchor, candidate),
         InsertLocation::After(anchor) => board.insert_after(anchor, candidate),
-    }
-}
-
-/// Appends the number of the bar that was taken in; or why it wasn't, and what came back: a new bar by its message, behind `'`, or the
-/// number of one that may be there, behind `=`, and behind `x` where it is of another board.
-fn push_taken(taken: Taken, got: &mut Got) {
-    match taken {
-        Ok(id) => got.number(id.number),
-        Err(turned) => {
-            got.refusal(turned.refusal);
-            push_candidate(&turned.candidate, got);
-        }
-    }
-}
-
-fn push_candidate(candidate: &Candidate<NoTracker>, got: &mut Got) {
-    match candidate {
+    };
+    let turned = match taken {
+        Ok(id) => return got.number(id.number),
+        Err(turned) => turned,
+    };
+    got.refusal(turned.refusal);
+    match &turned.candidate {
         Candidate::New(bar) => {
             got.text(" '");
             got.text(bar.message());

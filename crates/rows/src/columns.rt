@@ -28,48 +28,42 @@ pub fn measured(name: &str, rest: &str, at: At, got: &mut Got) {
 fn of_text(name: &str, text: &str, got: &mut Got) {
     match (name, text.chars().next()) {
         ("columns", _) => got.number(columns(text)),
-        ("pieces", _) => push_pieces(text, got),
-        ("plain", _) => push_plain(text, got),
+        ("pieces" | "plain", _) => push_pieces(text, name == "plain", got),
         ("width", Some(c)) => got.number(width(c)),
         ("parameter", Some(c)) => got.flag(is_parameter(c)),
         _ => got.bad(Bad::Step),
     }
 }
 
-fn push_pieces(text: &str, got: &mut Got) {
+/// Appends the pieces of a text between their marks, or plainly, without the colours.
+fn push_pieces(text: &str, is_plain: bool, got: &mut Got) {
     for piece in pieces(text) {
-        got.text(if piece.colour { "[" } else { "{" });
+        let (before, behind) = match (is_plain, piece.colour) {
+            (true, true) => continue,
+            (true, false) => ("", ""),
+            (false, true) => ("[", "]"),
+            (false, false) => ("{", "}"),
+        };
+        got.text(before);
         got.text(piece.text);
-        got.text(if piece.colour { "]" } else { "}" });
-    }
-}
-
-fn push_plain(text: &str, got: &mut Got) {
-    for piece in pieces(text) {
-        if !piece.colour {
-            got.text(piece.text);
-        }
-    }
-}
-
-fn push_wrapped(rest: &str, at: At, got: &mut Got) {
-    let mut words = Words::of(rest);
-    let width: usize = words.number();
-    match words.text(at.alloc) {
-        Ok(text) => push_rows(text.as_str(), width, got),
-        Err(bad) => got.bad(bad),
+        got.text(behind);
     }
 }
 
 /// Appends how many rows a text takes, and the columns of the last one.
-fn push_rows(text: &str, width: usize, got: &mut Got) {
-    match wrapped(text, width) {
-        Ok(rows) => {
-            got.number(rows.height);
-            got.text(" ");
-            got.number(rows.last_line_width);
-        }
-        Err(refusal) => got.bad(Bad::Refused(refusal)),
+fn push_wrapped(rest: &str, at: At, got: &mut Got) {
+    let mut words = Words::of(rest);
+    let width: usize = words.number();
+    match words.text(at.alloc) {
+        Ok(text) => match wrapped(text.as_str(), width) {
+            Ok(rows) => {
+                got.number(rows.height);
+                got.text(" ");
+                got.number(rows.last_line_width);
+            }
+            Err(refusal) => got.bad(Bad::Refused(refusal)),
+        },
+        Err(bad) => got.bad(bad),
     }
 }
 
@@ -93,16 +87,14 @@ fn push_clock(rest: &str, got: &mut Got) {
     };
     let count: u8 = words.number();
     match words.done(clock) {
-        Ok(mut clock) => push_readings(&mut clock, count, got),
+        Ok(mut clock) => {
+            let mut parting = "";
+            for _ in 0..count {
+                got.text(parting);
+                got.number(clock.now());
+                parting = " ";
+            }
+        }
         Err(bad) => got.bad(bad),
-    }
-}
-
-fn push_readings(clock: &mut StepClock, count: u8, got: &mut Got) {
-    let mut parting = "";
-    for _ in 0..count {
-        got.text(parting);
-        got.number(clock.now());
-        parting = " ";
     }
 }

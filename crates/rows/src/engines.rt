@@ -41,9 +41,22 @@ impl Drawing {
         }
         match headed(step) {
             ("draw", rest) => self.draw(rest, 0, at, got),
-            ("pass", rest) => self.pass(rest, at, got),
+            ("pass", rest) => {
+                let (count, bars) = headed(rest);
+                match number(count) {
+                    Ok(count) => self.draw(bars, count, at, got),
+                    Err(bad) => got.bad(bad),
+                }
+            }
             ("log", rest) => self.log(rest, at, got),
-            ("keep", rest) => self.keep(rest, got),
+            ("keep", bar) => match number(bar) {
+                Ok(bar) => got.text(match self.engine.keep(bar) {
+                    Keep::Passed => "passed",
+                    Keep::Behind => "behind",
+                    Keep::Absent => "absent",
+                }),
+                Err(bad) => got.bad(bad),
+            },
             ("clear", "") => got.done(self.engine.clear()),
             ("move", word) => match flag(word) {
                 Ok(on) => self.engine.set_move_cursor(on),
@@ -65,15 +78,6 @@ impl Drawing {
         }
     }
 
-    fn pass(&mut self, rest: &str, at: At, got: &mut Got) {
-        let mut words = Words::of(rest);
-        let pass = words.number();
-        match words.done(()) {
-            Ok(()) => self.draw(words.rest(), pass, at, got),
-            Err(bad) => got.bad(bad),
-        }
-    }
-
     fn draw(&mut self, bars: &str, pass: usize, at: At, got: &mut Got) {
         match frame(bars, at) {
             Ok(frame) => got.done(self.engine.draw(&frame, pass, self.alignment)),
@@ -89,17 +93,6 @@ impl Drawing {
             }
             (Err(bad), _) => got.bad(bad),
             (_, Err(bad)) => got.bad(bad),
-        }
-    }
-
-    fn keep(&mut self, bar: &str, got: &mut Got) {
-        match number(bar) {
-            Ok(bar) => got.text(match self.engine.keep(bar) {
-                Keep::Passed => "passed",
-                Keep::Behind => "behind",
-                Keep::Absent => "absent",
-            }),
-            Err(bad) => got.bad(bad),
         }
     }
 }

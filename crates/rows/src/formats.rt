@@ -1,9 +1,8 @@
-//! Texts of formatters: `format FORMATTER VALUE`; and texts that say how many bytes: `--size TEXT`.
+//! Texts of formatters: `format FORMATTER VALUE`.
 use indicatif_text::format::{
     BinaryBytes, DecimalBytes, FormattedDuration, HumanBytes, HumanCount, HumanDuration,
     HumanFloatCount,
 };
-use meter_parts::bytes_said;
 use scripts::got::{Bad, Got};
 use scripts::row::headed;
 use scripts::spelling::number;
@@ -14,45 +13,31 @@ pub fn shown(rest: &str, got: &mut Got) {
     let (formatter, value) = headed(rest);
     match (formatter.strip_prefix("HumanFloatCount"), number(value)) {
         (Some(decimals), _) => push_quotient(decimals, value, got),
-        (None, Ok(value)) => push_number(formatter, value, got),
+        (None, Ok(value)) => match formatter {
+            "BinaryBytes" => got.number(BinaryBytes(value)),
+            "DecimalBytes" => got.number(DecimalBytes(value)),
+            "FormattedDuration" => got.number(FormattedDuration(value)),
+            "HumanBytes" => got.number(HumanBytes(value)),
+            "HumanCount" => got.number(HumanCount(value)),
+            "HumanDuration" => got.number(HumanDuration(value)),
+            "HumanDurationShort" => {
+                let done = HumanDuration(value).write_short(got.room());
+                got.done(done);
+            }
+            _ => got.bad(Bad::Step),
+        },
         (None, Err(bad)) => got.bad(bad),
     }
 }
 
-/// Appends how many bytes a text says, as the option `--size` of `meter` reads it; `-` where it says no number.
-pub fn size_said(text: &str, got: &mut Got) {
-    got.optional(bytes_said(text));
-}
-
-fn push_number(formatter: &str, value: u64, got: &mut Got) {
-    match formatter {
-        "BinaryBytes" => got.number(BinaryBytes(value)),
-        "DecimalBytes" => got.number(DecimalBytes(value)),
-        "FormattedDuration" => got.number(FormattedDuration(value)),
-        "HumanBytes" => got.number(HumanBytes(value)),
-        "HumanCount" => got.number(HumanCount(value)),
-        "HumanDuration" => got.number(HumanDuration(value)),
-        "HumanDurationShort" => {
-            let done = HumanDuration(value).write_short(got.room());
-            got.done(done);
-        }
-        _ => got.bad(Bad::Step),
-    }
-}
-
 fn push_quotient(decimals: &str, value: &str, got: &mut Got) {
-    match quotient(value) {
-        Ok(Some(count)) => push_count(decimals, count, got),
-        Ok(None) => got.text("-"),
-        Err(bad) => got.bad(bad),
-    }
-}
-
-fn quotient(value: &str) -> Result<Option<HumanFloatCount>, Bad> {
     let (num, den) = value.split_once('/').unwrap_or((value, ""));
     match (number(num), number(den)) {
-        (Ok(num), Ok(den)) => Ok(HumanFloatCount::new(num, den)),
-        _ => Err(Bad::Step),
+        (Ok(num), Ok(den)) => match HumanFloatCount::new(num, den) {
+            Some(count) => push_count(decimals, count, got),
+            None => got.text("-"),
+        },
+        _ => got.bad(Bad::Step),
     }
 }
 

@@ -7,7 +7,7 @@ use scripts::row::{At, Words, headed};
 use scripts::spelling::{number, optional, unescaped};
 
 /// A bar that is made at 0: how it looks, what it has reached and says, and where it is shown. Its texts have escapes.
-#[derive(Clone, Copy, Drop)]
+#[derive(Drop)]
 struct Layout<'a> {
     columns: u16,
     template: &'a str,
@@ -19,15 +19,8 @@ struct Layout<'a> {
     len: Option<u64>,
     message: &'a str,
     prefix: &'a str,
-    last: Last,
-}
-
-/// What happens to a bar before it is shown.
-#[derive(Clone, Copy, Drop)]
-enum Last {
-    Nothing,
-    /// It ticks at this moment, and is finished then or not.
-    Tick(Moment, bool),
+    /// It ticks at this moment, where there is one, before it is shown, and is finished then or not.
+    last: Option<(Moment, bool)>,
 }
 
 /// Appends the lines, each with a newline behind it. Between two of what follows stands a tab, but for the first and what belongs
@@ -64,7 +57,7 @@ fn brief<'a>((name, rest): (&str, &'a str), colours: bool) -> Result<Layout<'a>,
         len: None,
         message: "",
         prefix: "",
-        last: Last::Nothing,
+        last: None,
     };
     match name {
         "said" => layout.message = fields.rest(),
@@ -86,23 +79,21 @@ fn whole(rest: &str) -> Result<Layout<'_>, Bad> {
         columns: fields.number(),
         template: fields.word(),
         chars: fields.word(),
-        colours: next_set(&mut fields),
+        colours: {
+            let colours = fields.word();
+            fields.value(is_set(colours), false)
+        },
         tab: fields.number(),
         position: fields.number(),
         len: fields.optional(),
         message: fields.word(),
         prefix: fields.word(),
-        last: Last::Tick(fields.number(), fields.value(is_set(fields.rest()), false)),
+        last: Some((fields.number(), fields.value(is_set(fields.rest()), false))),
     };
     fields.done(layout)
 }
 
-/// Whether the next field is 1.
-fn next_set(fields: &mut Words<'_>) -> bool {
-    let flag = fields.word();
-    fields.value(is_set(flag), false)
-}
-
+/// Whether a field is 1.
 fn is_set(flag: &str) -> Result<bool, Bad> {
     match flag {
         "0" => Ok(false),
@@ -112,16 +103,23 @@ fn is_set(flag: &str) -> Result<bool, Bad> {
 }
 
 fn push(layout: Layout<'_>, at: At, got: &mut Got) {
-    match bar_of(layout, At { now: 0, ..at }) {
+    match bar_of(&layout, At { now: 0, ..at }) {
         Ok(mut bar) => {
-            let now = end(&mut bar, layout.last);
+            let mut now = 0;
+            if let Some((moment, is_finished)) = layout.last {
+                now = moment;
+                bar.tick(now);
+                if is_finished {
+                    bar.finish(now);
+                }
+            }
             push_lines(&bar, layout.columns, now, got);
         }
         Err(bad) => got.bad(bad),
     }
 }
 
-fn bar_of(layout: Layout<'_>, at: At) -> Result<Box<Bar>, Bad> {
+fn bar_of(layout: &Layout<'_>, at: At) -> Result<Box<Bar>, Bad> {
     let mut bar = in_style(look_of(layout, at)?, layout.len, at)?;
     match set_up(&mut bar, layout, at) {
         Ok(()) => Ok(bar),
@@ -129,7 +127,7 @@ fn bar_of(layout: Layout<'_>, at: At) -> Result<Box<Bar>, Bad> {
     }
 }
 
-fn look_of(layout: Layout<'_>, at: At) -> Result<Look, Bad> {
+fn look_of(layout: &Layout<'_>, at: At) -> Result<Look, Bad> {
     let look = style_of(at, layout.template)?;
     let look = with_colours(look, layout.colours, at)?;
     match layout.chars {
@@ -138,24 +136,10 @@ fn look_of(layout: Layout<'_>, at: At) -> Result<Look, Bad> {
     }
 }
 
-fn set_up(bar: &mut Bar, layout: Layout<'_>, at: At) -> Result<(), Bad> {
+fn set_up(bar: &mut Bar, layout: &Layout<'_>, at: At) -> Result<(), Bad> {
     bar.with_tab_width(layout.tab, 0)?;
     bar.with_position(layout.position, 0);
     bar.with_message(unescaped(at.alloc, layout.message)?.as_str(), 0)?;
     bar.with_prefix(unescaped(at.alloc, layout.prefix)?.as_str(), 0)?;
     Ok(())
-}
-
-/// Has the bar tick, and finish; the moment of that.
-fn end(bar: &mut Bar, last: Last) -> Moment {
-    match last {
-        Last::Nothing => 0,
-        Last::Tick(now, is_finished) => {
-            bar.tick(now);
-            if is_finished {
-                bar.finish(now);
-            }
-            now
-        }
-    }
 }

@@ -39,9 +39,10 @@ mod world;
 
 use anyhow::{Context, Result};
 use scripts::play::{Tally, play_file};
+use scripts::row::At;
 use std::env;
 use std::process::ExitCode;
-use world::Stage;
+use world::{On, Stage};
 
 fn main(rt: HostRuntime) -> ExitCode {
     match play_all(rt) {
@@ -65,6 +66,10 @@ fn play_all(rt: HostRuntime) -> Result<Tally> {
 
 /// Plays a file.
 fn play(rt: &HostRuntime, path: &str) -> Result<Tally> {
-    let mut stage = Stage::new(rt.alloc());
+    let alloc = rt.alloc();
+    let mut stage = Stage {
+        at: At { alloc, now: 0 },
+        on: On::Nothing,
+    };
     play_file(rt, path, &mut stage).context(format_args!("{path}"))
 }

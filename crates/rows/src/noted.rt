@@ -7,7 +7,7 @@ ghost use Rattle.rows.specs.Noted.{noted_view};
 
 use crate::cells::next_size;
 use indicatif_bar::style::NoTracker;
-use indicatif_board::multi::{BarId, Board};
+use indicatif_board::multi::Board;
 use indicatif_term::draw_target::ProgressDrawTarget;
 use indicatif_term::in_memory::InMemoryTerm;
 use indicatif_term::term_like::TermLike;
@@ -161,7 +161,10 @@ impl OnNoted {
     /// `contents`.
     pub fn step(&mut self, step: &str, at: At, got: &mut Got) {
         if let Some((id, text)) = of_bar(step) {
-            return self.tell(id, text, at, got);
+            return match command(at.alloc, text) {
+                Ok(command) => got.answer(self.board.command(id, command, at.now)),
+                Err(bad) => got.bad(bad),
+            };
         }
         match headed(step) {
             ("move", word) => match flag(word) {
@@ -173,17 +176,16 @@ impl OnNoted {
                 Ok(text) => got.answer(self.board.println(text.as_str(), at.now)),
                 Err(bad) => got.bad(bad),
             },
-            ("moves", "") => push_moves(&self.memory, got),
-            ("contents", "") => push_contents(&self.memory, got),
+            ("moves", "") => match self.memory.try_borrow_mut() {
+                Ok(mut term) => got.text(term.moves_since_last_check().as_str()),
+                Err(_) => got.bad(Bad::Step),
+            },
+            ("contents", "") => match self.memory.try_borrow() {
+                Ok(term) => got.text_of(term.contents()),
+                Err(_) => got.bad(Bad::Step),
+            },
             ("add", bar) => self.add(bar, at, got),
             _ => got.bad(Bad::Step),
-        }
-    }
-
-    fn tell(&mut self, id: BarId, text: &str, at: At, got: &mut Got) {
-        match command(at.alloc, text) {
-            Ok(command) => got.answer(self.board.command(id, command, at.now)),
-            Err(bad) => got.bad(bad),
         }
     }
 
@@ -195,19 +197,5 @@ impl OnNoted {
             },
             Err(bad) => got.bad(bad),
         }
-    }
-}
-
-fn push_moves(memory: &RefCell<InMemoryTerm>, got: &mut Got) {
-    match memory.try_borrow_mut() {
-        Ok(mut term) => got.text(term.moves_since_last_check().as_str()),
-        Err(_) => got.bad(Bad::Step),
-    }
-}
-
-fn push_contents(memory: &RefCell<InMemoryTerm>, got: &mut Got) {
-    match memory.try_borrow() {
-        Ok(term) => got.text_of(term.contents()),
-        Err(_) => got.bad(Bad::Step),
     }
 }

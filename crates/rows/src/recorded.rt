@@ -1,6 +1,6 @@
 //! A board that keeps its history, on a screen. Its steps are spelled as those of a board, and each is a call as a value.
 use indicatif_bar::style::NoTracker;
-use indicatif_board::multi::{Call, Recorded};
+use indicatif_board::multi::Recorded;
 use indicatif_text::columns::Moment;
 use scripts::boards::{BOARD_ID, board_call, of_bar, push_answer};
 use scripts::got::{Bad, Got};
@@ -32,7 +32,14 @@ impl OnScreen {
             return;
         }
         match board_call(at, step) {
-            Ok(call) => made(&mut self.board, call, at.now, got),
+            Ok(call) => {
+                let (answer, back) = self.board.apply(call, at.now);
+                push_answer(answer, got);
+                if let Some(bar) = back {
+                    got.text(" '");
+                    got.text(bar.message());
+                }
+            }
             Err(bad) => got.bad(bad),
         }
     }
@@ -52,13 +59,4 @@ fn look(board: &Recording, step: &str, now: Moment, got: &mut Got) -> bool {
         _ => return false,
     }
     true
-}
-
-fn made(board: &mut Recording, call: Call<NoTracker>, now: Moment, got: &mut Got) {
-    let (answer, back) = board.apply(call, now);
-    push_answer(answer, got);
-    if let Some(bar) = back {
-        got.text(" '");
-        got.text(bar.message());
-    }
 }

@@ -7,7 +7,7 @@ use scripts::spelling::unescaped;
 use std::io::ErrorKind;
 
 /// The refusals by their names, but for that of a character in a template.
-const NAMED: [(&str, Refusal); 16] = [
+const NAMED: &[(&str, Refusal)] = &[
     ("ZeroRate", Refusal::ZeroRate),
     ("FewTicks", Refusal::FewTicks),
     ("FewProgressChars", Refusal::FewProgressChars),
@@ -65,16 +65,12 @@ pub fn of_template(rest: &str, at: At, got: &mut Got) {
 /// The error of a character in a state.
 fn unexpected(rest: &str, at: At) -> Option<TemplateError> {
     let (spelled, state) = headed(rest);
-    match (character(spelled, at), state_of(state)) {
-        (Some(next), Some(state)) => Some(TemplateError::Unexpected { next, state }),
+    match (unescaped(at.alloc, spelled), state_of(state)) {
+        (Ok(text), Some(state)) => match text.as_str().chars().next() {
+            Some(next) => Some(TemplateError::Unexpected { next, state }),
+            None => None,
+        },
         _ => None,
-    }
-}
-
-fn character(spelled: &str, at: At) -> Option<char> {
-    match unescaped(at.alloc, spelled) {
-        Ok(text) => text.as_str().chars().next(),
-        Err(_) => None,
     }
 }
 
@@ -90,8 +86,8 @@ fn state_of(name: &str) -> Option<TemplateState> {
 
 fn named(name: &str) -> Option<Refusal> {
     for (named, refusal) in NAMED {
-        if named == name {
-            return Some(refusal);
+        if *named == name {
+            return Some(*refusal);
         }
     }
     None

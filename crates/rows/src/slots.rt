@@ -2,7 +2,8 @@
 use crate::boards::push_slot;
 use indicatif_board::multi::MultiState;
 use scripts::got::{Bad, Got};
-use scripts::row::{At, Words};
+use scripts::row::{At, headed};
+use scripts::spelling::number;
 
 /// A table.
 #[derive(Drop)]
@@ -19,25 +20,17 @@ pub fn begin(at: At) -> Result<Table, Bad> {
 impl Table {
     /// `insert PLACE`, `remove PLACE`, `remove_first COUNT`; `order`, `slots` in that order, `slot NUMBER`.
     pub fn step(&mut self, step: &str, got: &mut Got) {
-        match step {
-            "order" => got.numbers(self.0.order()),
-            "slots" => push_slots(&self.0, got),
-            _ => self.by_number(step, got),
-        }
-    }
-
-    fn by_number(&mut self, step: &str, got: &mut Got) {
-        let mut words = Words::of(step);
-        let name = words.word();
-        let number: u64 = words.last();
-        match (words.done(name), number) {
-            (Ok("insert"), place) => match self.0.insert(place as usize) {
+        let (name, word) = headed(step);
+        match (name, number::<u64>(word)) {
+            ("order", _) => got.numbers(self.0.order()),
+            ("slots", _) => push_slots(&self.0, got),
+            ("insert", Ok(place)) => match self.0.insert(place as usize) {
                 Ok(number) => got.number(number),
                 Err(refusal) => got.refusal(refusal),
             },
-            (Ok("remove"), place) => self.0.remove(place as usize),
-            (Ok("remove_first"), count) => self.0.remove_first(count as usize),
-            (Ok("slot"), bar) => push_slot(self.0.slot(bar), got),
+            ("remove", Ok(place)) => self.0.remove(place as usize),
+            ("remove_first", Ok(count)) => self.0.remove_first(count as usize),
+            ("slot", Ok(bar)) => push_slot(self.0.slot(bar), got),
             _ => got.bad(Bad::Step),
         }
     }

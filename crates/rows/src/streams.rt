@@ -20,29 +20,16 @@ pub fn asked(rest: &str, at: At, got: &mut Got) {
     let name = words.word();
     match facts(&mut words, at) {
         Ok(facts) => match name {
-            "bar" => push_ticked(facts, at, got),
-            _ => push_hidden(target(name, facts, (words.rest(), at)), got),
+            "bar" => match ticked(facts, at) {
+                Ok(answer) => got.answer(answer),
+                Err(bad) => got.bad(bad),
+            },
+            _ => match target(name, facts, (words.rest(), at)) {
+                Ok(target) if target.is_hidden() => got.text("hidden"),
+                Ok(_) => got.text("shown"),
+                Err(bad) => got.bad(bad),
+            },
         },
-        Err(bad) => got.bad(bad),
-    }
-}
-
-/// Appends what a tick of a bar answers there.
-fn push_ticked(facts: Facts, at: At, got: &mut Got) {
-    match ticked(facts, at) {
-        Ok(answer) => got.answer(answer),
-        Err(bad) => got.bad(bad),
-    }
-}
-
-/// Appends whether a target is hidden.
-fn push_hidden(target: Result<Target, Bad>, got: &mut Got) {
-    match target {
-        Ok(target) => got.text(if target.is_hidden() {
-            "hidden"
-        } else {
-            "shown"
-        }),
         Err(bad) => got.bad(bad),
     }
 }
@@ -65,16 +52,12 @@ fn facts(words: &mut Words<'_>, at: At) -> Result<Facts, Bad> {
     })
 }
 
-/// The rate that a word spells; none where there is no word, or `-`.
-fn rate_of(word: &str) -> Result<Option<u8>, Bad> {
-    match word {
-        "" | "-" => Ok(None),
-        _ => Ok(Some(number(word)?)),
-    }
-}
-
+/// A target on this stream, with a rate where a word spells one; there is none where there is no word, or `-`.
 fn target(name: &str, facts: Facts, (rate, at): (&str, At)) -> Result<Target, Bad> {
-    let rate = rate_of(rate)?;
+    let rate = match rate {
+        "" | "-" => None,
+        _ => Some(number(rate)?),
+    };
     let writer = Vec::new(at.alloc);
     let made = match (name, rate) {
         ("stdout", None) => Ok(ProgressDrawTarget::stdout(writer, facts, at.now)),

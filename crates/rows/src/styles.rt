@@ -33,18 +33,13 @@ impl Styled {
     /// A builder, or what is read.
     pub fn step(&mut self, step: &str, at: At, got: &mut Got) {
         let (name, rest) = headed(step);
-        let is_read = match &self.look {
-            Some(look) => read(look, (name, rest), at, got),
-            None => false,
-        };
-        if !is_read {
-            self.build((name, rest), at, got);
+        if let Some(look) = &self.look {
+            if read(look, (name, rest), at, got) {
+                return;
+            }
         }
-    }
-
-    fn build(&mut self, step: (&str, &str), at: At, got: &mut Got) {
         let built = match self.look.take() {
-            Some(look) => built(look, step, at),
+            Some(look) => built(look, (name, rest), at),
             None => Err(Bad::Step),
         };
         match built {

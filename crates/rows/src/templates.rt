@@ -108,16 +108,14 @@ pub fn styled(name: &str, rest: &str, at: At, got: &mut Got) {
         "same_style" => got.flag(style == Style::from_dotted_str(rest)),
         "no_style" => got.flag(style == Style::new()),
         "painted" | "unpainted" => match unescaped(at.alloc, rest) {
-            Ok(text) => paint(style, name == "painted", text.as_str(), got),
+            Ok(text) => {
+                let done = style.apply_to(name == "painted", text.as_str(), got.room());
+                got.done(done);
+            }
             Err(bad) => got.bad(bad),
         },
         _ => got.bad(Bad::Step),
     }
-}
-
-fn paint(style: Style, colours: bool, text: &str, got: &mut Got) {
-    let done = style.apply_to(colours, text, got.room());
-    got.done(done);
 }
 
 fn open(style: Style, got: &mut Got) {

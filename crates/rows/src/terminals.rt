@@ -42,32 +42,22 @@ impl Terminal {
 pub fn call<T: Resize>(term: &mut T, step: &str, at: At, got: &mut Got) {
     let (name, rest) = headed(step);
     match (name, number(rest)) {
-        ("size", _) => resize(term, rest, got),
+        ("size", _) => match next_size(&mut Words::of(rest)) {
+            Ok((rows, cols)) => got.done(term.resize(rows, cols)),
+            Err(bad) => got.bad(bad),
+        },
         ("clear_line", _) => push_done(term.clear_line(), got),
         ("flush", _) => push_done(term.flush(), got),
-        ("text" | "line", _) => write(term, (name, rest), at, got),
+        ("text" | "line", _) => match unescaped(at.alloc, rest) {
+            Ok(text) if name == "line" => push_done(term.write_line(text.as_str()), got),
+            Ok(text) => push_done(term.write_str(text.as_str()), got),
+            Err(bad) => got.bad(bad),
+        },
         ("up", Ok(count)) => push_done(term.move_cursor_up(count), got),
         ("down", Ok(count)) => push_done(term.move_cursor_down(count), got),
         ("right", Ok(count)) => push_done(term.move_cursor_right(count), got),
         ("left", Ok(count)) => push_done(term.move_cursor_left(count), got),
         _ => got.bad(Bad::Step),
-    }
-}
-
-fn resize<T: Resize>(term: &mut T, rest: &str, got: &mut Got) {
-    match next_size(&mut Words::of(rest)) {
-        Ok((rows, cols)) => got.done(term.resize(rows, cols)),
-        Err(bad) => got.bad(bad),
-    }
-}
-
-fn write<T: TermLike>(term: &mut T, (name, text): (&str, &str), at: At, got: &mut Got) {
-    match unescaped(at.alloc, text) {
-        Ok(text) => match name {
-            "line" => push_done(term.write_line(text.as_str()), got),
-            _ => push_done(term.write_str(text.as_str()), got),
-        },
-        Err(bad) => got.bad(bad),
     }
 }
 

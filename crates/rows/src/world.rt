@@ -1,20 +1,20 @@
 //! What steps are played on, and which module plays a step. A new kind of world is a module, a variant of `On`, and a line each in
-//! `begun` and `step`; a question that needs no world is a module and a line in `asked`.
+//! `begun` and `go_on`; a question that needs no world is a module and a line in `asked`.
 use crate::terminals::Terminal;
 use crate::{
     boards, cells, columns, engines, formats, limiters, lines, lone, memory, noted, program,
     recorded, records, refusals, runs, slots, streams, styles, templates, terminals,
 };
 use indicatif_text::columns::Moment;
+use meter_parts::bytes_said;
 use scripts::got::{Bad, Got};
 use scripts::play::World;
 use scripts::row::{At, headed, timed};
-use std::alloc::Global;
 use std::mem::replace;
 
 /// What is played on.
 #[derive(Drop)]
-enum On {
+pub enum On {
     Nothing,
     Lone(Box<lone::OnScreen>),
     Record(records::Record),
@@ -29,13 +29,14 @@ enum On {
     Style(styles::Styled),
 }
 
-/// Answers what needs no world; whether the step of this name asks for that.
+/// Answers what needs no world; whether the step of this name asks for that. `--size TEXT`: how many bytes a text says, as the option of
+/// `meter` reads it; `-` where it says no number.
 fn asked(name: &str, rest: &str, at: At, got: &mut Got) -> bool {
     match name {
         "bars" => program::played(rest, at, got),
         "stream" => streams::asked(rest, at, got),
         "format" => formats::shown(rest, got),
-        "--size" => formats::size_said(rest, got),
+        "--size" => got.optional(bytes_said(rest)),
         "columns" | "width" | "parameter" | "wrapped" | "range" | "pieces" | "plain" | "clock" => {
             columns::measured(name, rest, at, got)
         }
@@ -87,24 +88,6 @@ fn begun(name: &str, rest: &str, at: At) -> Option<Result<On, Bad>> {
 }
 
 impl On {
-    /// Makes a step, or reads something.
-    fn step(&mut self, step: &str, at: At, got: &mut Got) {
-        match self {
-            On::Nothing => got.bad(Bad::Step),
-            On::Lone(world) => world.step(step, at, got),
-            On::Record(world) => world.step(step, at, got),
-            On::Board(world) => world.step(step, at, got),
-            On::Recorded(world) => world.step(step, at, got),
-            On::Term(world) => world.step(step, at, got),
-            On::Slots(world) => world.step(step, got),
-            On::Cells(world) => world.step(step, at, got),
-            On::Memory(world) => world.step(step, at, got),
-            On::Noted(world) => world.step(step, at, got),
-            On::Engine(world) => world.step(step, at, got),
-            On::Style(world) => world.step(step, at, got),
-        }
-    }
-
     /// Another world of what is there: `ended`, the bar is gone, and its terminal goes on; `shown ROWS COLS RATE`, a record is the bar
     /// of a screen.
     fn turned(self, step: &str, at: At) -> Result<On, Bad> {
@@ -119,22 +102,46 @@ impl On {
 /// What is played on, and the moment of the last step.
 #[derive(Drop)]
 pub struct Stage {
-    at: At,
-    on: On,
+    pub at: At,
+    pub on: On,
 }
 
 impl Stage {
-    /// Nothing to play on, at the moment 0.
-    pub fn new(alloc: Global) -> Stage {
-        Stage {
-            at: At { alloc, now: 0 },
-            on: On::Nothing,
+    /// Goes on with what is there, at this moment or that of the last step: makes a step, or reads something.
+    fn go_on(&mut self, step: &str, moment: Option<Moment>, got: &mut Got) {
+        self.at.now = moment.unwrap_or(self.at.now);
+        let at = self.at;
+        if let "ended" | "shown" = headed(step).0 {
+            return match replace(&mut self.on, On::Nothing).turned(step, at) {
+                Ok(on) => self.on = on,
+                Err(bad) => got.bad(bad),
+            };
+        }
+        match &mut self.on {
+            On::Nothing => got.bad(Bad::Step),
+            On::Lone(world) => world.step(step, at, got),
+            On::Record(world) => world.step(step, at, got),
+            On::Board(world) => world.step(step, at, got),
+            On::Recorded(world) => world.step(step, at, got),
+            On::Term(world) => world.step(step, at, got),
+            On::Slots(world) => world.step(step, got),
+            On::Cells(world) => world.step(step, at, got),
+            On::Memory(world) => world.step(step, at, got),
+            On::Noted(world) => world.step(step, at, got),
+            On::Engine(world) => world.step(step, at, got),
+            On::Style(world) => world.step(step, at, got),
         }
     }
+}
 
+impl World for Stage {
     /// Begins another world, at this moment or at 0, where the step does so; else goes on with what is there.
-    fn step(&mut self, step: &str, moment: Option<Moment>, got: &mut Got) {
+    fn play(&mut self, step: &str, got: &mut Got) -> Result<(), Bad> {
+        let (step, moment) = timed(step);
         let (name, rest) = headed(step);
+        if asked(name, rest, self.at, got) {
+            return Ok(());
+        }
         let at = At {
             now: moment.unwrap_or(0),
             ..self.at
@@ -146,28 +153,6 @@ impl Stage {
             }
             Some(Err(bad)) => got.bad(bad),
             None => self.go_on(step, moment, got),
-        }
-    }
-
-    /// Goes on with what is there, at this moment or that of the last step.
-    fn go_on(&mut self, step: &str, moment: Option<Moment>, got: &mut Got) {
-        self.at.now = moment.unwrap_or(self.at.now);
-        match headed(step).0 {
-            "ended" | "shown" => match replace(&mut self.on, On::Nothing).turned(step, self.at) {
-                Ok(on) => self.on = on,
-                Err(bad) => got.bad(bad),
-            },
-            _ => self.on.step(step, self.at, got),
-        }
-    }
-}
-
-impl World for Stage {
-    fn play(&mut self, step: &str, got: &mut Got) -> Result<(), Bad> {
-        let (step, moment) = timed(step);
-        let (name, rest) = headed(step);
-        if !asked(name, rest, self.at, got) {
-            self.step(step, moment, got);
         }
         Ok(())
     }
