@@ -160,15 +160,10 @@ impl<R: Wait + Copy + Clone + Drop> Both<R> {
     fn differ_by(&mut self, call: &str) -> Result<Option<&'static str>, Bad> {
         let answer = tell(&self.shared.0, self.alloc, call)?;
         let now = self.clock.now();
-        match tell_alone(&mut self.lone, self.alloc, call, now) {
-            Ok(alone) if alone == answer => Ok(self.differ()),
-            Ok(_) => Ok(Some("answers")),
-            Err(bad) => Err(bad),
-        }
-    }
-
-    fn differ(&mut self) -> Option<&'static str> {
-        if !self.show_same() {
+        let alone = tell_alone(&mut self.lone, self.alloc, call, now)?;
+        Ok(if alone != answer {
+            Some("answers")
+        } else if !self.show_same() {
             Some("rows")
         } else if !self.count_same() {
             Some("numbers")
@@ -178,7 +173,7 @@ impl<R: Wait + Copy + Clone + Drop> Both<R> {
             Some("texts")
         } else {
             None
-        }
+        })
     }
 
     /// Another target of this rate for both: what the shared one answers, and whether they show the same.
@@ -268,7 +263,15 @@ impl<R: Wait + Copy + Clone + Drop> Pair<R> {
     /// Makes a step.
     pub fn step(&mut self, step: &str, got: &mut Got) {
         match step.split_once(' ') {
-            Some(("learn", call)) => self.learn(call, got),
+            Some(("learn", call)) => {
+                let kept = match String::from_str(self.alloc, call) {
+                    Ok(call) => self.calls.push(call).is_ok(),
+                    Err(_) => false,
+                };
+                if !kept {
+                    got.bad(Bad::Refused(Refusal::Memory));
+                }
+            }
             Some(("on", rest)) => match Both::on(self.rt, self.alloc, rest) {
                 Ok(both) => self.both = Some(both),
                 Err(bad) => got.bad(bad),
@@ -298,17 +301,6 @@ impl<R: Wait + Copy + Clone + Drop> Pair<R> {
                 }
             }
             _ => got.bad(Bad::Step),
-        }
-    }
-
-    /// Keeps a call.
-    fn learn(&mut self, call: &str, got: &mut Got) {
-        let done = match String::from_str(self.alloc, call) {
-            Ok(call) => self.calls.push(call).is_ok(),
-            Err(_) => false,
-        };
-        if !done {
-            got.bad(Bad::Refused(Refusal::Memory));
         }
     }
 }

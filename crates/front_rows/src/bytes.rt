@@ -12,7 +12,7 @@
 //!
 //! A failure is spelled as in `scripted`.
 use crate::counted::Counted;
-use crate::polls::{Asked, nexts, poll};
+use crate::polls::{Asked, poll};
 use crate::scripted::{Scripted, kind_name, script_of};
 use futures::test::MockTask;
 use indicatif::{Moves, ProgressBarIter};
@@ -183,7 +183,11 @@ fn counts<P: Moves + Drop>(over: &mut Over<P>, (name, count): (&str, usize), got
     match name {
         "consume" => wrapped.consume(count),
         "drain" => drain(wrapped, count, got),
-        "poll_next" => nexts(wrapped, &over.task, count, got),
+        "poll_next" => {
+            for _ in 0..count {
+                poll(wrapped, &over.task, Asked::Next, got);
+            }
+        }
         _ => reads(over, (name, count), got),
     }
 }

@@ -314,18 +314,6 @@ impl<R: Wait + Copy + Clone + Drop> Fronts<R> {
             },
             _ => return self.draws(step, got),
         };
-        self.settled(answer, got);
-    }
-
-    /// Another target, or none.
-    fn turned_to(&self, is_hidden: bool) -> Result<Target, Refusal> {
-        match is_hidden {
-            true => Ok(ProgressDrawTarget::hidden()),
-            false => self.maker.room.target(self.maker.alloc),
-        }
-    }
-
-    fn settled(&mut self, answer: Result<(), Refusal>, got: &mut Got) {
         match answer {
             Ok(()) => {
                 self.answer = Answered::Answer(Ok(Drawn::Limited));
@@ -335,6 +323,14 @@ impl<R: Wait + Copy + Clone + Drop> Fronts<R> {
                 self.answer = Answered::Answer(Err(refusal));
                 got.refusal(refusal);
             }
+        }
+    }
+
+    /// Another target, or none.
+    fn turned_to(&self, is_hidden: bool) -> Result<Target, Refusal> {
+        match is_hidden {
+            true => Ok(ProgressDrawTarget::hidden()),
+            false => self.maker.room.target(self.maker.alloc),
         }
     }
 

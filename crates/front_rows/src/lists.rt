@@ -50,7 +50,17 @@ pub fn step(list: &mut List, step: &str, got: &mut Got) {
     match step {
         "next" => push_item(wrapped.next(), got),
         "next_back" => push_item(wrapped.next_back(), got),
-        "size" => push_size(wrapped, got),
+        "size" => {
+            let (least, most) = wrapped.size_hint();
+            got.number(least);
+            got.text(" ");
+            match most {
+                Some(most) => got.number(most),
+                None => got.text("-"),
+            }
+            got.text(" ");
+            got.number(wrapped.len());
+        }
         "last" => match wrapped.last_draw() {
             Some(drawn) => got.answer(drawn),
             None => got.text("none"),
@@ -78,16 +88,4 @@ pub fn push_item(item: Option<u32>, got: &mut Got) {
         Some(item) => got.number(item),
         None => got.text("end"),
     }
-}
-
-fn push_size(wrapped: &Wrapped, got: &mut Got) {
-    let (least, most) = wrapped.size_hint();
-    got.number(least);
-    got.text(" ");
-    match most {
-        Some(most) => got.number(most),
-        None => got.text("-"),
-    }
-    got.text(" ");
-    got.number(wrapped.len());
 }

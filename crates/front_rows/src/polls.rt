@@ -1,7 +1,7 @@
 //! Polls of what is wrapped, by hand.
 use crate::bytes::{Wrapped, push_done, push_item, push_number, push_read};
 use futures::stream::Stream;
-use futures::task::{Context, Poll};
+use futures::task::Poll;
 use futures::test::MockTask;
 use indicatif::Moves;
 use scripts::got::Got;
@@ -28,16 +28,7 @@ pub fn poll<P: Moves + Drop>(
     asked: Asked<'_>,
     got: &mut Got,
 ) {
-    task.enter(|cx| push_polled(wrapped, cx, asked, got));
-}
-
-fn push_polled<P: Moves + Drop>(
-    wrapped: &mut Wrapped<P>,
-    cx: &mut Context<'_>,
-    asked: Asked<'_>,
-    got: &mut Got,
-) {
-    match asked {
+    task.enter(|cx| match asked {
         Asked::Read(room) => match wrapped.poll_read(cx, room) {
             Poll::Ready(read) => push_read(read, room, got),
             Poll::Pending => got.text("pending"),
@@ -52,24 +43,12 @@ fn push_polled<P: Moves + Drop>(
             Poll::Ready(item) => push_item(item, got),
             Poll::Pending => got.text("pending"),
         },
-    }
+    });
 }
 
 fn push_polled_done(polled: Poll<io::Result<()>>, got: &mut Got) {
     match polled {
         Poll::Ready(done) => push_done(done, got),
         Poll::Pending => got.text("pending"),
-    }
-}
-
-/// So many polls of the stream, and what each gives.
-pub fn nexts<P: Moves + Drop>(
-    wrapped: &mut Wrapped<P>,
-    task: &MockTask,
-    times: usize,
-    got: &mut Got,
-) {
-    for _ in 0..times {
-        poll(wrapped, task, Asked::Next, got);
     }
 }
