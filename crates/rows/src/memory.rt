@@ -1,12 +1,11 @@
 //! The terminal in memory, and what hides bars.
 use crate::cells::{next_size, push_cursor};
+use crate::streams::facts;
 use crate::terminals::call;
-use indicatif_term::draw_target::Facts;
 use indicatif_term::in_memory::InMemoryTerm;
 use indicatif_term::term_like::TermLike;
 use scripts::got::{Bad, Got};
 use scripts::row::{At, Words};
-use scripts::spelling::unescaped;
 
 /// A terminal in memory.
 #[derive(Drop)]
@@ -36,26 +35,12 @@ impl Memory {
     }
 }
 
-/// Appends whether bars are hidden by `hides ROWS COLS ATTENDED TERM`: by a size, `yes` or `no`, and what `TERM` says, or `-`.
+/// Appends whether bars are hidden by `hides ROWS COLS ATTENDED TERM`: by a size, `yes` or `no`, and what `TERM` says, as in `stream`.
 pub fn hides(rest: &str, at: At, got: &mut Got) {
-    match facts(rest, at) {
+    let mut words = Words::of(rest);
+    let size = (words.number(), words.number());
+    match facts(&mut words, size, at) {
         Ok(facts) => got.flag(facts.hides()),
         Err(bad) => got.bad(bad),
     }
-}
-
-fn facts(rest: &str, at: At) -> Result<Facts, Bad> {
-    let mut words = Words::of(rest);
-    let (rows, cols, attended) = (words.number(), words.number(), words.flag());
-    words.done(())?;
-    let term = match words.rest() {
-        "-" => None,
-        name => Some(unescaped(at.alloc, name)?),
-    };
-    Ok(Facts {
-        rows,
-        cols,
-        attended,
-        term,
-    })
 }

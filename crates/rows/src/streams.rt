@@ -13,12 +13,12 @@ use scripts::spelling::{number, unescaped};
 /// A target on a stream of bytes.
 type Target = ProgressDrawTarget<Term<Vec<u8>>>;
 
-/// `stream NAME ATTENDED TERM`, where the name is `stdout`, `stderr` or `bar`, `-` is for no `TERM` and `''` for an empty one: whether a target there is
-/// hidden; of `bar` what a tick answers. Behind these a rate: one of so many draws a second.
+/// `stream NAME ATTENDED TERM`, of 4 rows and 10 columns, where the name is `stdout`, `stderr` or `bar`, `-` is for no `TERM` and `''` for
+/// an empty one: whether a target there is hidden; of `bar` what a tick answers. Behind these a rate: one of so many draws a second.
 pub fn asked(rest: &str, at: At, got: &mut Got) {
     let mut words = Words::of(rest);
     let name = words.word();
-    match facts(&mut words, at) {
+    match facts(&mut words, (4, 10), at) {
         Ok(facts) => match name {
             "bar" => match ticked(facts, at) {
                 Ok(answer) => got.answer(answer),
@@ -34,8 +34,8 @@ pub fn asked(rest: &str, at: At, got: &mut Got) {
     }
 }
 
-/// Facts of a stream of 4 rows and 10 columns.
-fn facts(words: &mut Words<'_>, at: At) -> Result<Facts, Bad> {
+/// Facts of a stream of this size: the next words, `ATTENDED TERM`.
+pub fn facts(words: &mut Words<'_>, (rows, cols): (u16, u16), at: At) -> Result<Facts, Bad> {
     let attended = words.flag();
     let name = words.word();
     words.done(())?;
@@ -45,8 +45,8 @@ fn facts(words: &mut Words<'_>, at: At) -> Result<Facts, Bad> {
         text => Some(unescaped(at.alloc, text)?),
     };
     Ok(Facts {
-        rows: 4,
-        cols: 10,
+        rows,
+        cols,
         attended,
         term,
     })

@@ -23,32 +23,28 @@ fn push_parts(template: &Template, at: At, got: &mut Got) {
         if follows {
             got.text(" | ");
         }
-        push_part(part, at, got);
         follows = true;
-    }
-}
-
-fn push_part(part: Part<'_>, at: At, got: &mut Got) {
-    match part {
-        Part::Literal(text) => {
-            got.text("L ");
-            got.text(text);
-        }
-        Part::NewLine => got.text("N"),
-        Part::Placeholder {
-            key,
-            align,
-            width,
-            truncate,
-            style,
-            alternative,
-        } => {
-            got.text("P ");
-            got.text(key);
-            push_layout(align, width, got);
-            got.text(if truncate { " !" } else { " -" });
-            push_numbers(style, at, got);
-            push_numbers(alternative, at, got);
+        match part {
+            Part::Literal(text) => {
+                got.text("L ");
+                got.text(text);
+            }
+            Part::NewLine => got.text("N"),
+            Part::Placeholder {
+                key,
+                align,
+                width,
+                truncate,
+                style,
+                alternative,
+            } => {
+                got.text("P ");
+                got.text(key);
+                push_layout(align, width, got);
+                got.text(if truncate { " !" } else { " -" });
+                push_numbers(style, at, got);
+                push_numbers(alternative, at, got);
+            }
         }
     }
 }
