@@ -140,7 +140,7 @@ impl<R: Wait + Copy + Clone + Drop> Fronts<R> {
         }
     }
 
-    // ---- steps: what one of these functions doesn't know it passes on to the next
+    // ---- what is made from now on
 
     /// Sets what is made from now on, or which board steps speak of.
     fn sets(&mut self, step: &str, got: &mut Got) {
@@ -501,7 +501,8 @@ impl<
 impl<
     R: AllocGlobal + RandomSource + Wait + Threads + Clock + Copy + Clone + Drop + Send + 'static,
 > Fronts<R> {
-    /// Makes a step that has nothing to do with what is wrapped.
+    /// Makes a step that has nothing to do with what is wrapped. What it doesn't know it passes on to `takes_in`, that to `settles`, and that to
+    /// `draws`.
     fn step(&mut self, step: &str, got: &mut Got) {
         let (name, rest) = headed(step);
         match step.split_once(": ") {
