@@ -115,7 +115,8 @@ pub fn text_of(word: &Option<String>) -> Option<&str> {
     }
 }
 
-/// What the words behind `sweeps` ask for; the size is the largest where none is spelled. It takes no memory, so that `tools/refusals.sh` refuses it none.
+/// What the words behind `sweeps` ask for; the size is the largest where none is spelled. It takes no memory, so that
+/// `tools/refusals.sh` refuses it none.
 pub fn request(mut words: Args) -> Asked {
     let (first, script) = (words.next(), words.next());
     let (growing, judging) = (words.next(), words.next());
