@@ -18,7 +18,7 @@ type OnWire = Box<Board<NoTracker, Behind>>;
 fn board_on(alloc: Global, record: &Rc<Record>, setting: Setting) -> Result<OnWire, Law> {
     let board = Board::new(alloc, setting.target(record)?, BOARD_ID);
     let mut board = Box::new(alloc, board)?;
-    board.set_move_cursor(setting.moves_cursor());
+    board.set_move_cursor(setting.moves_cursor);
     Ok(board)
 }
 
@@ -46,13 +46,6 @@ enum Wanted {
     Done,
     /// What a draw answers.
     Draw,
-}
-
-fn logged_by(call: &Call<NoTracker>) -> Option<&str> {
-    match call {
-        Call::Log(text) | Call::BarLog(_, text) => Some(text.as_str()),
-        _ => None,
-    }
 }
 
 fn drawn_of(answer: &Answer) -> Result<Result<Drawn, Refusal>, Law> {
@@ -102,13 +95,6 @@ impl Stage {
         }
     }
 
-    fn of_bar(&self, id: BarId) -> Wanted {
-        match self.lacks(id) {
-            Some(refusal) => Wanted::Refused(refusal),
-            None => Wanted::Draw,
-        }
-    }
-
     fn of_insertion(&self, at: InsertLocation, candidate: &Candidate<NoTracker>) -> Wanted {
         let anchor = match at {
             InsertLocation::Before(id) | InsertLocation::After(id) => self.lacks(id),
@@ -128,25 +114,22 @@ impl Stage {
         }
     }
 
-    fn of_command(&self, id: BarId, command: &BarCommand<NoTracker>, now: Moment) -> Wanted {
-        match (self.lacks(id), command) {
-            (Some(refusal), _) => Wanted::Refused(refusal),
-            (None, BarCommand::SetElapsed(nanos)) if *nanos > now => {
-                Wanted::Refused(Refusal::ElapsedBeyondClock)
-            }
-            _ => Wanted::Draw,
-        }
-    }
-
     /// What a call has to answer before anything is drawn.
     fn wanted(&self, call: &Call<NoTracker>, now: Moment) -> Wanted {
         match call {
             Call::Insert { at, candidate } => self.of_insertion(*at, candidate),
             Call::Remove(id) if id.board != BOARD_ID => Wanted::Refused(Refusal::ForeignBar),
             Call::Remove(_) | Call::Align(_) => Wanted::Done,
-            Call::Drop(id) | Call::BarLog(id, _) => self.of_bar(*id),
             Call::Log(_) | Call::Clear | Call::Redraw => Wanted::Draw,
-            Call::Bar(id, command) => self.of_command(*id, command, now),
+            Call::Drop(id) | Call::BarLog(id, _) | Call::Bar(id, _) => match self.lacks(*id) {
+                Some(refusal) => Wanted::Refused(refusal),
+                None => match call {
+                    Call::Bar(_, BarCommand::SetElapsed(nanos)) if *nanos > now => {
+                        Wanted::Refused(Refusal::ElapsedBeyondClock)
+                    }
+                    _ => Wanted::Draw,
+                },
+            },
         }
     }
 
@@ -162,7 +145,7 @@ impl Stage {
         Law::Written.holds(!wrote.has_bytes && !wrote.has_failed)
     }
 
-    /// What is known of the bars behind a call that was taken.
+    /// What is known of the bars behind a call that was taken. Each bar that came stands at most once.
     fn notes(
         &mut self,
         call: &Call<NoTracker>,
@@ -182,19 +165,12 @@ impl Stage {
             }
             _ => {}
         }
-        Law::Order.holds(self.is_order())
-    }
-
-    /// Each bar that came stands at most once.
-    fn is_order(&self) -> bool {
         let order = self.board.order();
         for (at, bar) in order.iter().enumerate() {
             let before = order.get(..at).unwrap_or(&[]);
-            if *bar >= self.came || before.contains(bar) {
-                return false;
-            }
+            Law::Order.holds(*bar < self.came && !before.contains(bar))?;
         }
-        true
+        Ok(())
     }
 
     /// Makes a call that has to answer so, and to leave what it should.
@@ -206,27 +182,12 @@ impl Stage {
         Law::Replay.holds(answer == *in_run)?;
         self.is_right(wanted, &answer, wrote)?;
         self.notes(call, wanted, &answer, now)?;
-        match wanted {
-            Wanted::Draw => self.watch.logged(logged_by(call), &drawn_of(&answer)?),
+        match (call, wanted) {
+            (Call::Log(text) | Call::BarLog(_, text), Wanted::Draw) => {
+                self.watch.logged(text.as_str(), &drawn_of(&answer)?)
+            }
             _ => Ok(()),
         }
-    }
-
-    /// Makes the next call, which has to answer so.
-    fn goes_on(&mut self, numbers: &mut Numbers, now: Moment, in_run: &Answer) -> Held {
-        let call = board_call(self.alloc, numbers)?;
-        self.makes(&call, now, in_run)
-    }
-
-    /// Each call of a list alone answers as it did in a run.
-    fn answers(&mut self, numbers: &mut Numbers, answers: &[Answer]) -> Held {
-        Law::Replay.holds(numbers.up_to(MOST) == answers.len())?;
-        let mut now: Moment = 0;
-        for in_run in answers {
-            self.goes_on(numbers, now, in_run)?;
-            now = numbers.moment(now);
-        }
-        Ok(())
     }
 
     /// The calls of a list, one by one, answer and write what they did in a run of this board, and leave the same order.
@@ -236,7 +197,12 @@ impl Stage {
         answers: &[Answer],
         (run, record): (&OnWire, &Rc<Record>),
     ) -> Held {
-        self.answers(numbers, answers)?;
+        Law::Replay.holds(numbers.up_to(MOST) == answers.len())?;
+        let mut now: Moment = 0;
+        for in_run in answers {
+            self.makes(&board_call(self.alloc, numbers)?, now, in_run)?;
+            now = numbers.moment(now);
+        }
         Law::Replay.holds(run.order() == self.board.order())?;
         self.watch.has_bytes_of(record)
     }

@@ -110,18 +110,14 @@ fn id(numbers: &mut Numbers) -> BarId {
     }
 }
 
-fn location(numbers: &mut Numbers) -> InsertLocation {
-    match numbers.below(6) {
+fn insertion(alloc: Global, numbers: &mut Numbers) -> Result<Call<NoTracker>, Law> {
+    let at = match numbers.below(6) {
         0 | 1 => InsertLocation::End,
         2 => InsertLocation::Index(numbers.below(5)),
         3 => InsertLocation::FromBack(numbers.below(5)),
         4 => InsertLocation::Before(id(numbers)),
         _ => InsertLocation::After(id(numbers)),
-    }
-}
-
-fn insertion(alloc: Global, numbers: &mut Numbers) -> Result<Call<NoTracker>, Law> {
-    let at = location(numbers);
+    };
     let candidate = match numbers.one_in(5) {
         true => Candidate::Member(id(numbers)),
         false => Candidate::New(Box::into_inner(bar(alloc, numbers)?)),

@@ -46,19 +46,16 @@ fn random_bytes(alloc: Global, numbers: &mut Numbers, count: usize) -> Result<Ve
     let mut bytes = Vec::new(alloc);
     for _ in 0..count {
         if bytes.len() < count {
-            push_some(numbers, &mut bytes)?;
+            if numbers.one_in(3) {
+                bytes.push(numbers.byte())?;
+            } else {
+                let at = numbers.below(PIECES.len());
+                bytes.extend_from_slice(PIECES.get(at).copied().unwrap_or(b""))?;
+            }
         }
     }
     bytes.truncate(count);
     Ok(bytes)
-}
-
-fn push_some(numbers: &mut Numbers, bytes: &mut Vec<u8>) -> Held {
-    if numbers.one_in(3) {
-        return Ok(bytes.push(numbers.byte())?);
-    }
-    let at = numbers.below(PIECES.len());
-    Ok(bytes.extend_from_slice(PIECES.get(at).copied().unwrap_or(b""))?)
 }
 
 fn feed(cells: &mut Cells, bytes: &[u8]) -> Held {
@@ -95,12 +92,6 @@ fn are_alike(one: &Cells, other: &Cells) -> Held {
 /// Rows and columns of a terminal.
 type Sizes = (u16, u16);
 
-/// The rows that have scrolled away.
-fn scrolled(picture: &[String], (rows, _): Sizes) -> &[String] {
-    let count = picture.len().saturating_sub(usize::from(rows));
-    picture.get(..count).unwrap_or(picture)
-}
-
 /// No row is too wide, and the cursor stands in the window.
 fn is_within(picture: &[String], cursor: (u16, u16), (rows, cols): Sizes) -> bool {
     for text in picture {
@@ -116,14 +107,15 @@ fn is_within(picture: &[String], cursor: (u16, u16), (rows, cols): Sizes) -> boo
 fn feed_halves(cells: &mut Cells, (front, back): (&[u8], &[u8]), sizes: Sizes) -> Held {
     feed(cells, front)?;
     let before = cells.picture()?;
+    let scrolled = before.len().saturating_sub(usize::from(sizes.0));
     feed(cells, back)?;
     let after = cells.picture()?;
-    Law::Scrolled.holds(after.starts_with(scrolled(&before, sizes)))?;
+    Law::Scrolled.holds(after.starts_with(before.get(..scrolled).unwrap_or(&before)))?;
     Law::Window.holds(is_within(&after, cells.cursor(), sizes))
 }
 
 /// Bytes, a terminal that was fed with all of them at once, and its size.
-#[derive(Clone, Copy, Drop)]
+#[derive(Drop)]
 struct Input<'a> {
     alloc: Global,
     bytes: &'a [u8],
@@ -133,7 +125,7 @@ struct Input<'a> {
 
 impl Input<'_> {
     /// The bytes give the same cells in two halves, parted at this place.
-    fn is_alike_in_halves(self, middle: usize) -> Held {
+    fn is_alike_in_halves(&self, middle: usize) -> Held {
         let front = self.bytes.get(..middle).unwrap_or(&[]);
         let back = self.bytes.get(middle..).unwrap_or(&[]);
         let mut cells = Cells::new(self.alloc, self.sizes.0, self.sizes.1)?;
@@ -142,14 +134,14 @@ impl Input<'_> {
     }
 
     /// They do so in pieces, each of which ends behind a byte once in so many times.
-    fn is_alike_cut(self, numbers: &mut Numbers, count: usize) -> Held {
+    fn is_alike_cut(&self, numbers: &mut Numbers, count: usize) -> Held {
         let mut cells = Cells::new(self.alloc, self.sizes.0, self.sizes.1)?;
         feed_cut(self.alloc, numbers, &mut cells, (self.bytes, count))?;
         are_alike(self.whole, &cells)
     }
 
     /// They do so in two halves, in random pieces and one by one.
-    fn is_alike(self, numbers: &mut Numbers, middle: usize) -> Held {
+    fn is_alike(&self, numbers: &mut Numbers, middle: usize) -> Held {
         self.is_alike_in_halves(middle)?;
         self.is_alike_cut(numbers, 3)?;
         self.is_alike_cut(numbers, 1)

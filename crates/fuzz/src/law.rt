@@ -4,7 +4,7 @@ use scripts::judged::judge::Finding;
 use std::alloc::{AllocError, AllocFailed};
 
 /// What doesn't hold of a run.
-#[derive(Clone, Copy, Debug, Drop)]
+#[derive(Debug, Drop)]
 pub enum Law {
     /// The same bytes give the same cells, however they are cut.
     Cut,
@@ -80,7 +80,7 @@ impl Law {
 }
 
 /// How many runs there were, how many broke a law, and the first of these with its law.
-#[derive(Clone, Copy, Default, Drop)]
+#[derive(Default, Drop)]
 pub struct Tally {
     /// Runs.
     pub runs: u64,
@@ -95,7 +95,9 @@ impl Tally {
     pub fn count(&mut self, held: Held) {
         if let Err(law) = held {
             self.broken = self.broken.saturating_add(1);
-            self.first = Some(self.first.unwrap_or((self.runs, law)));
+            if self.first.is_none() {
+                self.first = Some((self.runs, law));
+            }
         }
         self.runs = self.runs.saturating_add(1);
     }

@@ -23,7 +23,7 @@ fn lone_on(
 ) -> Result<Lone, Law> {
     let lone = LoneBar::new(bar.try_clone()?, setting.target(record)?);
     let mut lone = Box::new(alloc, lone)?;
-    lone.set_move_cursor(setting.moves_cursor());
+    lone.set_move_cursor(setting.moves_cursor);
     Ok(lone)
 }
 
@@ -46,18 +46,6 @@ fn copy_of(alloc: Global, call: &LoneCall<NoTracker>) -> Result<LoneCall<NoTrack
         LoneCall::Log(text) => LoneCall::Log(text.clone()?),
         LoneCall::Clear => LoneCall::Clear,
     })
-}
-
-/// Whether this call is refused because of a time that is beyond its moment.
-fn is_beyond(call: &LoneCall<NoTracker>, now: Moment) -> bool {
-    matches!(call, LoneCall::Bar(BarCommand::SetElapsed(nanos)) if *nanos > now)
-}
-
-fn logged_by(call: &LoneCall<NoTracker>) -> Option<&str> {
-    match call {
-        LoneCall::Log(text) => Some(text.as_str()),
-        _ => None,
-    }
 }
 
 /// What a call answers.
@@ -86,13 +74,13 @@ impl Stage {
         })
     }
 
-    /// Makes a call that has to answer so, and to leave what it should.
+    /// Makes a call that has to answer so, and to leave what it should. A time that is beyond its moment is refused.
     fn makes(&mut self, call: &LoneCall<NoTracker>, now: Moment, wanted: Said) -> Held {
         let before = self.watch.point();
         let said = self.bar.call(copy_of(self.alloc, call)?, now);
         let wrote = self.watch.looks(before)?;
         Law::Replay.holds(said == wanted)?;
-        if is_beyond(call, now) {
+        if matches!(call, LoneCall::Bar(BarCommand::SetElapsed(nanos)) if *nanos > now) {
             return Law::Answer.holds(said == Err(Refusal::ElapsedBeyondClock) && !wrote.has_bytes);
         }
         self.setting.draws(&said, wrote)?;
@@ -100,29 +88,20 @@ impl Stage {
             self.draws = self.draws.saturating_add(1);
             self.setting.allows(self.draws, now)?;
         }
-        self.watch.logged(logged_by(call), &said)
-    }
-
-    /// Makes the next call, which has to answer so.
-    fn goes_on(&mut self, numbers: &mut Numbers, now: Moment, wanted: Said) -> Held {
-        let call = lone_call(self.alloc, numbers)?;
-        self.makes(&call, now, wanted)
-    }
-
-    /// Each call of a list alone answers as it did in a run.
-    fn answers(&mut self, numbers: &mut Numbers, answers: &[Said]) -> Held {
-        Law::Replay.holds(numbers.up_to(MOST) == answers.len())?;
-        let mut now: Moment = 0;
-        for wanted in answers {
-            self.goes_on(numbers, now, *wanted)?;
-            now = numbers.moment(now);
+        match call {
+            LoneCall::Log(text) => self.watch.logged(text.as_str(), &said),
+            _ => Ok(()),
         }
-        Ok(())
     }
 
     /// The calls of a list, one by one, answer and write what they did in a run.
     fn repeats(&mut self, numbers: &mut Numbers, answers: &[Said], record: &Record) -> Held {
-        self.answers(numbers, answers)?;
+        Law::Replay.holds(numbers.up_to(MOST) == answers.len())?;
+        let mut now: Moment = 0;
+        for wanted in answers {
+            self.makes(&lone_call(self.alloc, numbers)?, now, *wanted)?;
+            now = numbers.moment(now);
+        }
         self.watch.has_bytes_of(record)
     }
 }

@@ -12,7 +12,7 @@
 //! - `numbers`: random numbers. `law`: what has to hold. `texts`, `calls`: random texts and calls.
 //! - `cells`: bytes. `templates`: templates and styles.
 //! - `setting`: a terminal, how it fails, and who looks at its bytes. `lone_lists`, `board_lists`: lists of calls.
-//! - `threads`: a shared board that keeps its history. `player`, `deed`: what a thread does.
+//! - `threads`: a shared board that keeps its history. `player`: what a thread does.
 //! - `tickers`: one bar's ticker, told on by one thread and off by another, 200 times each; both have to end.
 //! - `sweeps`: terminals that fail, at each place where they can. `whole_frames`: engines beside one that writes whole frames.
 //! - `measure`: how long calls take.
@@ -21,7 +21,6 @@
 mod board_lists;
 mod calls;
 mod cells;
-mod deed;
 mod law;
 mod lone_lists;
 mod measure;
@@ -37,17 +36,14 @@ mod whole_frames;
 
 use crate::law::{Held, Tally};
 use crate::numbers::Numbers;
-use crate::player::Plays;
-use crate::sweeps::sweep::Runs;
-use crate::threads::Random;
+use crate::player::{Plays, Random};
 use crate::tickers::TIMES;
 use anyhow::{Result, anyhow};
-use std::env::{self, Args, Env};
-use std::io;
+use std::env::{self, Env};
 use std::process::ExitCode;
 
 /// The seed, how many runs of each kind are made, and how many calls each of four threads makes.
-#[derive(Clone, Copy, Drop)]
+#[derive(Drop)]
 struct Counts {
     seed: u64,
     bytes: u64,
@@ -62,7 +58,7 @@ struct Counts {
 const STEPS: u64 = 8;
 
 /// What is asked for.
-#[derive(Clone, Copy, Drop)]
+#[derive(Drop)]
 enum Asked {
     /// All three: random input by these counts, and the other two as without words.
     All(Counts),
@@ -72,16 +68,6 @@ enum Asked {
     WholeFrames(whole_frames::Asked),
     /// The measurement that the words behind `measure` name.
     Measurement,
-}
-
-impl Asked {
-    /// How much random input is asked for, if any is.
-    fn counts(self) -> Option<Counts> {
-        match self {
-            Asked::All(counts) | Asked::Laws(counts) => Some(counts),
-            Asked::Sweeps(_) | Asked::WholeFrames(_) | Asked::Measurement => None,
-        }
-    }
 }
 
 /// The numbers behind so many words.
@@ -106,31 +92,24 @@ fn counts_behind<R: AllocGlobal + Env>(rt: &R, passed: usize) -> Result<Counts> 
     }
 }
 
-/// The words, the first of which is the program's name; they are asked for once more where memory was refused.
-fn words_of<R: AllocGlobal + Env>(rt: &R) -> io::Result<Args> {
-    match env::args(rt) {
-        Ok(words) => Ok(words),
-        Err(_) => env::args(rt),
-    }
-}
-
-/// What the arguments ask for.
+/// What the arguments ask for: the words, the first of which is the program's name. They are read once more where memory was refused.
 fn request<R: AllocGlobal + Env>(rt: &R) -> Result<Asked> {
-    let mut words = words_of(rt)?;
-    let Some(first) = words.nth(1) else {
-        return Ok(Asked::All(counts_behind(rt, 1)?));
+    let mut words = match env::args(rt) {
+        Ok(words) => words,
+        Err(_) => env::args(rt)?,
     };
-    Ok(match first.as_str() {
-        "laws" => Asked::Laws(counts_behind(rt, 2)?),
-        "sweeps" => Asked::Sweeps(sweeps::request(words)),
-        "whole_frames" => Asked::WholeFrames(whole_frames::request(words)),
-        "measure" => Asked::Measurement,
+    let first = words.nth(1);
+    Ok(match sweeps::text_of(&first) {
+        Some("laws") => Asked::Laws(counts_behind(rt, 2)?),
+        Some("sweeps") => Asked::Sweeps(sweeps::request(words)),
+        Some("whole_frames") => Asked::WholeFrames(whole_frames::request(words)),
+        Some("measure") => Asked::Measurement,
         _ => Asked::All(counts_behind(rt, 1)?),
     })
 }
 
 /// A kind of runs.
-#[derive(Clone, Copy, Drop)]
+#[derive(Drop)]
 enum Kind {
     Bytes,
     Templates,
@@ -144,19 +123,8 @@ enum Kind {
 const BYTES: usize = 1000;
 
 impl Kind {
-    /// Its name.
-    fn name(self) -> &'static str {
-        match self {
-            Kind::Bytes => "bytes by thousands",
-            Kind::Templates => "templates",
-            Kind::Lone => "lists of a lone bar",
-            Kind::Board => "lists of a board",
-            Kind::Threads(_) => "lists in four threads",
-        }
-    }
-
     /// Makes the run of this number, by the numbers of a stream of its own.
-    fn plays<R: Plays>(self, rt: R, seed: u64, number: u64) -> Held {
+    fn plays<R: Plays>(&self, rt: R, seed: u64, number: u64) -> Held {
         let mut numbers = Numbers::new(seed, number);
         match self {
             Kind::Bytes => cells::fed(rt.alloc(), &mut numbers, BYTES),
@@ -164,78 +132,72 @@ impl Kind {
             Kind::Lone => lone_lists::played(rt.alloc(), &mut numbers),
             Kind::Board => board_lists::played(rt.alloc(), &mut numbers),
             Kind::Threads(steps) => {
-                let seed = seed.wrapping_add(number);
-                threads::played(rt, Random { seed, steps })
+                let random = Random {
+                    seed: seed.wrapping_add(number),
+                    steps: *steps,
+                };
+                threads::played(rt, &random)
             }
         }
     }
 
-    /// Makes so many runs, and says what came of them; whether none broke a law.
-    fn all<R: Plays + Print>(self, rt: R, seed: u64, count: u64) -> Result<bool> {
+    /// Makes so many runs, and says what came of them by this name; whether none broke a law.
+    fn all<R: Plays + Print>(&self, rt: R, seed: u64, (name, count): (&str, u64)) -> Result<bool> {
         let mut tally = Tally::default();
         for number in 0..count {
             tally.count(self.plays(rt, seed, number));
         }
-        say(&rt, self.name(), tally)
+        let Tally {
+            runs,
+            broken,
+            first,
+        } = tally;
+        println!(rt; "{name}: {runs} runs, {broken} broke a law")?;
+        if let Some((number, law)) = first {
+            println!(rt; "  the first is number {number}: {law:?}")?;
+        }
+        Ok(broken == 0)
     }
-}
-
-/// Says what came of runs; whether none broke a law.
-fn say<R: Print>(rt: &R, name: &str, tally: Tally) -> Result<bool> {
-    let Tally { runs, broken, .. } = tally;
-    println!(rt; "{name}: {runs} runs, {broken} broke a law")?;
-    if let Some((number, law)) = tally.first {
-        println!(rt; "  the first is number {number}: {law:?}")?;
-    }
-    Ok(broken == 0)
-}
-
-/// Makes all runs; whether none broke a law.
-fn make_runs<R: Plays + Print>(rt: R, counts: Counts) -> Result<bool> {
-    let kinds = [
-        (Kind::Bytes, counts.bytes.div_ceil(BYTES as u64)),
-        (Kind::Templates, counts.templates),
-        (Kind::Lone, counts.lone),
-        (Kind::Board, counts.board),
-        (Kind::Threads(counts.steps), counts.threads),
-    ];
-    let mut is_kept = true;
-    for (kind, count) in &kinds {
-        is_kept &= kind.all(rt, counts.seed, *count)?;
-    }
-    Ok(is_kept)
 }
 
 /// Plays random input; whether no law was broken.
-fn make_random<R: Plays + Print>(rt: R, counts: Counts) -> Result<bool> {
-    let is_kept = make_runs(rt, counts)?;
+fn make_random<R: Plays + Print>(rt: R, counts: &Counts) -> Result<bool> {
+    let blocks = counts.bytes.div_ceil(BYTES as u64);
+    let kinds = [
+        (Kind::Bytes, ("bytes by thousands", blocks)),
+        (Kind::Templates, ("templates", counts.templates)),
+        (Kind::Lone, ("lists of a lone bar", counts.lone)),
+        (Kind::Board, ("lists of a board", counts.board)),
+        (
+            Kind::Threads(counts.steps),
+            ("lists in four threads", counts.threads),
+        ),
+    ];
+    let mut is_kept = true;
+    for (kind, named) in &kinds {
+        is_kept &= kind.all(rt, counts.seed, *named)?;
+    }
     tickers::played(rt)?;
     println!(rt; "one ticker: told on {TIMES} times, told off {TIMES} times")?;
     Ok(is_kept)
 }
 
-/// The sweeps and the whole frames that are asked for.
-fn others<R: Runs + Print>(rt: &R, asked: Asked) -> Result<()> {
-    match asked {
-        Asked::Laws(_) | Asked::Measurement => Ok(()),
-        Asked::Sweeps(asked) => sweeps::run(rt, asked),
-        Asked::WholeFrames(asked) => whole_frames::run(rt, asked),
-        Asked::All(_) => {
-            sweeps::run(rt, sweeps::USUAL)?;
-            whole_frames::run(rt, whole_frames::USUAL)
-        }
-    }
-}
-
 fn main(rt: HostRuntime) -> Result<ExitCode> {
     let asked = request(&rt)?;
-    let is_kept = match asked.counts() {
-        Some(counts) => make_random(rt, counts)?,
-        None => true,
+    let is_kept = match &asked {
+        Asked::All(counts) | Asked::Laws(counts) => make_random(rt, counts)?,
+        _ => true,
     };
-    others(&rt, asked)?;
-    if matches!(asked, Asked::Measurement) {
-        measure::run(&rt, &rt)?;
-    }
+    let done = match asked {
+        Asked::Laws(_) => Ok(()),
+        Asked::Sweeps(asked) => sweeps::run(&rt, asked),
+        Asked::WholeFrames(asked) => whole_frames::run(&rt, asked),
+        Asked::Measurement => measure::run(&rt, &rt),
+        Asked::All(_) => {
+            sweeps::run(&rt, sweeps::USUAL)?;
+            whole_frames::run(&rt, whole_frames::USUAL)
+        }
+    };
+    done?;
     Ok(ExitCode::from(u8::from(!is_kept)))
 }

@@ -69,7 +69,11 @@ fn measured_by(rt: &HostRuntime, name: &str, count: u64) -> Result<Measured> {
         "term_feed" => text_benches::term_feed(rt, count),
         "wrap_iter" => bar_benches::wrap_iter(rt, count),
         "board_frame" => board_benches::board_frame(rt, count),
-        _ => drawn_by(rt, name, count),
+        _ => match (of_name(OF_BARS, name), of_name(OF_BOARDS, name)) {
+            (Some(calls), _) => bar_benches::called(rt, calls, count),
+            (None, Some(calls)) => board_benches::called(rt, calls, count),
+            (None, None) => bail!("no measurement of this name"),
+        },
     }
 }
 
@@ -97,22 +101,11 @@ const OF_BOARDS: &[(&str, BoardCalls)] = &[
 ];
 
 /// What stands beside a name.
-fn of_name<C: Copy>(table: &[(&str, C)], name: &str) -> Option<C> {
+pub fn of_name<C: Copy>(table: &[(&str, C)], name: &str) -> Option<C> {
     for (known, calls) in table {
         if *known == name {
             return Some(*calls);
         }
     }
     None
-}
-
-/// That of a bar's or a board's calls.
-fn drawn_by(rt: &HostRuntime, name: &str, count: u64) -> Result<Measured> {
-    if let Some(calls) = of_name(OF_BARS, name) {
-        return bar_benches::called(rt, calls, count);
-    }
-    match of_name(OF_BOARDS, name) {
-        Some(calls) => board_benches::called(rt, calls, count),
-        None => bail!("no measurement of this name"),
-    }
 }

@@ -1,5 +1,4 @@
 //! What a thread does.
-use crate::deed::Deed;
 use crate::numbers::Numbers;
 use indicatif::machine::MachineClock;
 use indicatif::{Change, Drawn, InMemoryTerm, MultiProgress, ProgressBar, Refusal};
@@ -19,26 +18,38 @@ pub type Multi<R> = MultiProgress<InMemoryTerm, MachineClock<R>, R>;
 /// A millisecond.
 const OFTEN: u64 = 1_000_000;
 
-/// A thread with its number, the seed of its numbers, and how many calls it makes.
+/// How many kinds of calls log a line; they are the first ones.
+const LOGS: usize = 2;
+
+/// Random calls of threads on a board: their seed, and how many each makes.
+#[derive(Drop)]
+pub struct Random {
+    pub seed: u64,
+    pub steps: u64,
+}
+
+/// A thread with its number, and what its calls are.
 #[derive(Drop)]
 pub struct Player<'a, R: Plays> {
     pub rt: R,
     pub board: &'a Multi<R>,
     pub bars: &'a [Bar<R>],
     pub number: u64,
-    pub seed: u64,
-    pub steps: u64,
+    pub random: &'a Random,
 }
 
 impl<R: Plays> Player<'_, R> {
-    /// Makes its calls, before some of which it waits for a while; how many lines it logged.
+    /// Makes its calls, before some of which it waits up to a fifth of a millisecond; how many lines it logged.
     pub fn plays(&self) -> Result<u64, Refusal> {
-        let mut numbers = Numbers::new(self.seed, self.number);
+        let mut numbers = Numbers::new(self.random.seed, self.number);
         let mut logged: u64 = 0;
-        for step in 0..self.steps {
-            self.waits(&mut numbers);
-            let deed = Deed::of(numbers.below(16));
-            if deed.logs() {
+        for step in 0..self.random.steps {
+            if numbers.one_in(3) {
+                let nanos = u64::from(numbers.next() % 200_000);
+                sleep(&self.rt, Duration::from_nanos(nanos));
+            }
+            let deed = numbers.below(16);
+            if deed < LOGS {
                 logged = logged.wrapping_add(1);
             }
             self.makes(deed, numbers.below(self.bars.len()), step)?;
@@ -46,24 +57,16 @@ impl<R: Plays> Player<'_, R> {
         Ok(logged)
     }
 
-    /// Waits up to a fifth of a millisecond, or not at all.
-    fn waits(&self, numbers: &mut Numbers) {
-        if numbers.one_in(3) {
-            let nanos = u64::from(numbers.next() % 200_000);
-            sleep(&self.rt, Duration::from_nanos(nanos));
-        }
-    }
-
-    /// Makes one call, of a bar that this number picks.
-    fn makes(&self, deed: Deed, pick: usize, step: u64) -> Result<(), Refusal> {
+    /// Makes the call of this number below 16, of a bar that another number picks.
+    fn makes(&self, deed: usize, pick: usize, step: u64) -> Result<(), Refusal> {
         let Some(bar) = self.bars.get(pick) else {
             return Ok(());
         };
         match deed {
-            Deed::TellOn => bar.enable_steady_tick(OFTEN),
-            Deed::TellOff => bar.disable_steady_tick(),
-            Deed::ComeAndGo => self.comes_and_goes(),
-            Deed::InAndOut => self.in_and_out(),
+            2 => bar.enable_steady_tick(OFTEN),
+            3 => bar.disable_steady_tick(),
+            11 => self.comes_and_goes(),
+            12 => self.in_and_out(),
             _ => {
                 self.draws(deed, bar, step)?;
                 Ok(())
@@ -71,20 +74,20 @@ impl<R: Plays> Player<'_, R> {
         }
     }
 
-    /// Makes a call that draws.
-    fn draws(&self, deed: Deed, bar: &Bar<R>, step: u64) -> Result<Drawn, Refusal> {
+    /// Makes one of the other calls, which draw.
+    fn draws(&self, deed: usize, bar: &Bar<R>, step: u64) -> Result<Drawn, Refusal> {
         match deed {
-            Deed::Log => self.board.println(self.text("log", step)?.as_str()),
-            Deed::LogByBar => bar.println(self.text("log", step)?.as_str()),
-            Deed::Message => bar.set_message(self.text("m", step)?.as_str()),
-            Deed::Suspend => self.board.suspend(|| 1u8).1,
-            Deed::SuspendBar => bar.suspend(|| 1u8).1,
-            Deed::Clear => self.board.clear(),
-            Deed::Finish => bar.finish(),
-            Deed::FinishAndClear => bar.finish_and_clear(),
-            Deed::Reset => bar.reset(),
-            Deed::Length => bar.set_length(step),
-            Deed::Update => bar.update(|state| Change {
+            0 => self.board.println(self.text("log", step)?.as_str()),
+            1 => bar.println(self.text("log", step)?.as_str()),
+            4 => bar.set_message(self.text("m", step)?.as_str()),
+            5 => self.board.suspend(|| 1u8).1,
+            6 => self.board.clear(),
+            7 => bar.finish(),
+            8 => bar.reset(),
+            9 => bar.set_length(step),
+            10 => bar.suspend(|| 1u8).1,
+            13 => bar.finish_and_clear(),
+            14 => bar.update(|state| Change {
                 pos: Some(state.pos().wrapping_add(1)),
                 len: None,
             }),

@@ -15,7 +15,8 @@ pub struct Setting {
     size: Size,
     plan: Plan,
     is_limited: bool,
-    moves_cursor: bool,
+    /// Whether draws write over what stands, by moves of the cursor alone.
+    pub moves_cursor: bool,
     look: Look,
 }
 
@@ -27,31 +28,22 @@ const INTERVAL: Moment = 50_000_000;
 /// How many draws are in hand at once.
 const AT_ONCE: u64 = 20;
 
-fn random_plan(numbers: &mut Numbers) -> Plan {
-    match numbers.below(10) {
-        0 => Plan::Call(numbers.up_to(60) as u64),
-        1 => Plan::Byte(numbers.below(400)),
-        2 => Plan::From(numbers.up_to(60) as u64),
-        3 => Plan::Both(numbers.up_to(30) as u64, numbers.up_to(60) as u64),
-        _ => Plan::Never,
-    }
-}
-
-/// One to five rows and one to ten columns; once in twenty times any of the two may be 0.
-fn random_size(numbers: &mut Numbers) -> Size {
-    let least = if numbers.one_in(20) { 0 } else { 1 };
-    Size {
-        rows: numbers.size(4).saturating_add(least),
-        cols: numbers.size(9).saturating_add(least),
-    }
-}
-
 impl Setting {
-    /// Any.
+    /// Any: one to five rows and one to ten columns; once in twenty times any of the two may be 0.
     pub fn by(numbers: &mut Numbers) -> Setting {
+        let least = if numbers.one_in(20) { 0 } else { 1 };
         Setting {
-            size: random_size(numbers),
-            plan: random_plan(numbers),
+            size: Size {
+                rows: numbers.size(4).saturating_add(least),
+                cols: numbers.size(9).saturating_add(least),
+            },
+            plan: match numbers.below(10) {
+                0 => Plan::Call(numbers.up_to(60) as u64),
+                1 => Plan::Byte(numbers.below(400)),
+                2 => Plan::From(numbers.up_to(60) as u64),
+                3 => Plan::Both(numbers.up_to(30) as u64, numbers.up_to(60) as u64),
+                _ => Plan::Never,
+            },
             is_limited: numbers.one_in(3),
             moves_cursor: numbers.one_in(3),
             look: if numbers.one_in(8) {
@@ -60,11 +52,6 @@ impl Setting {
                 Look::EachCall
             },
         }
-    }
-
-    /// Whether draws write over what stands, by moves of the cursor alone.
-    pub fn moves_cursor(self) -> bool {
-        self.moves_cursor
     }
 
     /// What the terminal is given.
@@ -79,14 +66,6 @@ impl Setting {
             true => ProgressDrawTarget::term_like_with_hz(term, RATE, 0),
             false => Ok(ProgressDrawTarget::term_like(term)),
         }
-    }
-
-    /// Who judges the bytes; nobody where the terminal has no rows or no columns.
-    pub fn judge(self, alloc: Global) -> Result<Option<Judge>, Law> {
-        if self.size.rows == 0 || self.size.cols == 0 {
-            return Ok(None);
-        }
-        Ok(Some(Judge::new(alloc, self.size, self.look)?))
     }
 
     /// So many draws that weren't forced, the last of them at this moment, are as many as the rate allows.
@@ -140,9 +119,13 @@ impl Drop for Watch {
 }
 
 impl Watch {
-    /// Watches this record in this setting.
+    /// Watches this record in this setting. Nobody judges the bytes where the terminal has no rows or no columns.
     pub fn new(alloc: Global, setting: Setting, record: Rc<Record>) -> Result<Watch, Law> {
-        let judge = setting.judge(alloc)?;
+        let Setting { size, look, .. } = setting;
+        let judge = match size.rows == 0 || size.cols == 0 {
+            true => None,
+            false => Some(Judge::new(alloc, size, look)?),
+        };
         Ok(Watch {
             alloc,
             record,
@@ -175,10 +158,10 @@ impl Watch {
         Law::Replay.holds(bytes == wanted)
     }
 
-    /// A text was logged, where that is so.
-    pub fn logged(&mut self, text: Option<&str>, said: &Result<Drawn, Refusal>) -> Held {
-        match (&mut self.judge, text) {
-            (Some(judge), Some(text)) if *said == Ok(Drawn::Yes) => Ok(judge.logged(text)?),
+    /// A text was to be logged by a call that answered so.
+    pub fn logged(&mut self, text: &str, said: &Result<Drawn, Refusal>) -> Held {
+        match &mut self.judge {
+            Some(judge) if *said == Ok(Drawn::Yes) => Ok(judge.logged(text)?),
             _ => Ok(()),
         }
     }

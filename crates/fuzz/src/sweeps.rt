@@ -18,10 +18,11 @@ mod planted;
 mod printing;
 pub mod sweep;
 
+use crate::measure::of_name;
 use crate::sweeps::kinds::{KINDS, Kind};
-use crate::sweeps::memory::{Growing, Judging, PLAYED, Played, Playing};
+use crate::sweeps::memory::{PLAYED, Played, Playing, ROOM};
 use crate::sweeps::planted::PLANTED;
-use crate::sweeps::sweep::{Case, LARGEST, Runs, Sweep, Tally};
+use crate::sweeps::sweep::{Case, LARGEST, Runs, SIZES, Sweep, Tally, size_of};
 use anyhow::{Result, anyhow};
 use scripts::judged::judge::Finding;
 use scripts::judged::record::Size;
@@ -39,19 +40,23 @@ pub enum Telling {
 
 /// Says what came of a sweep.
 fn say<R: Print>(rt: &R, telling: Telling, tally: Tally) -> Result<()> {
-    let Tally { runs, differ, .. } = tally;
+    let Tally {
+        runs,
+        differ,
+        first,
+    } = tally;
     match telling {
         _ if differ > 0 => println!(rt; "{differ} of {runs} runs differ")?,
         Telling::Verdicts => println!(rt; "as it should be")?,
         Telling::Counts => println!(rt; "{runs} runs, all as they should be")?,
     }
-    if let Some((Case { size, plan, .. }, found)) = tally.first {
+    if let Some((Case { size, plan, .. }, found)) = first {
         println!(rt; "  {size:?}, {plan:?}: {found:?}")?;
     }
     Ok(())
 }
 
-/// Makes a sweep of a script on terminals of each size.
+/// Makes a sweep of a script on terminals of one to four rows and of one to six columns.
 fn sweep_each_size<R: Runs + Print>(
     rt: &R,
     telling: Telling,
@@ -59,7 +64,11 @@ fn sweep_each_size<R: Runs + Print>(
     sweep: Sweep,
 ) -> Result<()> {
     print!(rt; "{}, {} at each size: ", kind.name(), sweep.name())?;
-    say(rt, telling, sweep.at_each_size(*rt, kind))
+    let mut tally = Tally::default();
+    for number in 0..SIZES {
+        sweep.at(*rt, kind, size_of(number), &mut tally);
+    }
+    say(rt, telling, tally)
 }
 
 /// The sweeps that are made at each size.
@@ -77,22 +86,8 @@ fn sweep_all<R: Runs + Print>(rt: &R, telling: Telling, kind: Kind) -> Result<()
     say(rt, telling, tally)
 }
 
-/// The sweeps of two calls at each size.
-fn sweep_pairs<R: Runs + Print>(rt: &R) -> Result<()> {
-    for kind in KINDS {
-        sweep_each_size(rt, Telling::Counts, *kind, Sweep::EachPair)?;
-    }
-    Ok(())
-}
-
-/// The sweeps of `bars run`.
-fn sweep_program<R: AllocGlobal + Print>(rt: &R, telling: Telling) -> Result<()> {
-    print!(rt; "bars run, each byte and each call of its output fail at each size: ")?;
-    say(rt, telling, printing::each_failure(rt.alloc())?)
-}
-
 /// What is asked for.
-#[derive(Clone, Copy, Drop)]
+#[derive(Drop)]
 pub enum Asked {
     /// All sweeps but the longest.
     Sweeps(Telling),
@@ -107,61 +102,46 @@ pub enum Asked {
 /// What no word asks for: all sweeps but the longest.
 pub const USUAL: Asked = Asked::Sweeps(Telling::Verdicts);
 
-/// What is played by this name.
-fn played_by(name: &str) -> Option<Played> {
-    for (other, played) in PLAYED {
-        if name == *other {
-            return Some(*played);
-        }
-    }
-    None
-}
-
 /// The number that a word spells.
 fn spelled(word: Option<&str>) -> Option<u16> {
     word?.parse().ok()
 }
 
-/// The size that is asked for; the largest where none is.
-fn size_of(rows: Option<&str>, cols: Option<&str>) -> Size {
-    match (spelled(rows), spelled(cols)) {
-        (Some(rows), Some(cols)) => Size { rows, cols },
-        _ => LARGEST,
-    }
-}
-
 /// The text of a word, where there is one.
-fn text_of(word: &Option<String>) -> Option<&str> {
+pub fn text_of(word: &Option<String>) -> Option<&str> {
     match word {
         Some(word) => Some(word.as_str()),
         None => None,
     }
 }
 
-/// What the words behind `sweeps` ask for. It takes no memory, so that `tools/refusals.sh` refuses it none.
+/// What the words behind `sweeps` ask for; the size is the largest where none is spelled. It takes no memory, so that
+/// `tools/refusals.sh` refuses it none.
 pub fn request(mut words: Args) -> Asked {
     let (first, script) = (words.next(), words.next());
     let (growing, judging) = (words.next(), words.next());
     let (rows, cols) = (words.next(), words.next());
-    let growing = match text_of(&growing) {
-        Some("grows") => Growing::Terminal,
-        _ => Growing::Library,
-    };
-    let (judging, telling) = match text_of(&judging) {
-        Some("count") => (Judging::Judged, Telling::Counts),
-        Some("unjudged") => (Judging::Unjudged, Telling::Verdicts),
-        _ => (Judging::Judged, Telling::Verdicts),
+    let (is_judged, telling) = match text_of(&judging) {
+        Some("count") => (true, Telling::Counts),
+        Some("unjudged") => (false, Telling::Verdicts),
+        _ => (true, Telling::Verdicts),
     };
     let playing = Playing {
-        size: size_of(text_of(&rows), text_of(&cols)),
-        growing,
-        judging,
+        size: match (spelled(text_of(&rows)), spelled(text_of(&cols))) {
+            (Some(rows), Some(cols)) => Size { rows, cols },
+            _ => LARGEST,
+        },
+        room: match text_of(&growing) {
+            Some("grows") => 0,
+            _ => ROOM,
+        },
+        is_judged,
     };
     match text_of(&first) {
         None => USUAL,
         Some("count") => Asked::Sweeps(Telling::Counts),
         Some("pairs") => Asked::Pairs,
-        Some("memory") => match played_by(text_of(&script).unwrap_or("")) {
+        Some("memory") => match of_name(PLAYED, text_of(&script).unwrap_or("")) {
             Some(played) => Asked::Memory(played, playing, telling),
             None => Asked::Nothing,
         },
@@ -183,12 +163,12 @@ fn say_found<R: Print>(rt: &R, telling: Telling, found: Result<Where, Finding>) 
 fn play_unrefused<R: Runs + Print>(rt: &R) -> Result<()> {
     let playing = Playing {
         size: LARGEST,
-        growing: Growing::Terminal,
-        judging: Judging::Judged,
+        room: 0,
+        is_judged: true,
     };
     for (name, played) in PLAYED {
         print!(rt; "{name}, memory: ")?;
-        say_found(rt, Telling::Counts, memory::found(*rt, *played, playing))?;
+        say_found(rt, Telling::Counts, memory::found(*rt, *played, &playing))?;
     }
     Ok(())
 }
@@ -197,7 +177,7 @@ fn play_unrefused<R: Runs + Print>(rt: &R) -> Result<()> {
 fn play_wrong_bodies<R: Runs + Print>(rt: &R) -> Result<()> {
     for planted in PLANTED {
         print!(rt; "planted, {}: ", planted.name)?;
-        say_found(rt, Telling::Counts, planted::found(*rt, *planted))?;
+        say_found(rt, Telling::Counts, planted::found(*rt, planted))?;
     }
     Ok(())
 }
@@ -207,7 +187,8 @@ fn sweep_kinds<R: Runs + Print>(rt: &R, telling: Telling) -> Result<()> {
     for kind in KINDS {
         sweep_all(rt, telling, *kind)?;
     }
-    sweep_program(rt, telling)?;
+    print!(rt; "bars run, each byte and each call of its output fail at each size: ")?;
+    say(rt, telling, printing::each_failure(rt.alloc())?)?;
     play_unrefused(rt)?;
     play_wrong_bodies(rt)
 }
@@ -216,9 +197,14 @@ fn sweep_kinds<R: Runs + Print>(rt: &R, telling: Telling) -> Result<()> {
 pub fn run<R: Runs + Print>(rt: &R, asked: Asked) -> Result<()> {
     match asked {
         Asked::Sweeps(telling) => sweep_kinds(rt, telling),
-        Asked::Pairs => sweep_pairs(rt),
+        Asked::Pairs => {
+            for kind in KINDS {
+                sweep_each_size(rt, Telling::Counts, *kind, Sweep::EachPair)?;
+            }
+            Ok(())
+        }
         Asked::Memory(played, playing, telling) => {
-            say_found(rt, telling, memory::found(*rt, played, playing))
+            say_found(rt, telling, memory::found(*rt, played, &playing))
         }
         Asked::Nothing => Err(anyhow!(
             "usage: fuzz sweeps [count | pairs | memory SCRIPT [grows | stays] [count | unjudged] [ROWS COLS]]"

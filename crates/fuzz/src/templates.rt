@@ -58,15 +58,6 @@ const PIECES: &[&str] = &[
     "{key}",
 ];
 
-/// The first so many characters of a text.
-fn front_of(alloc: Global, text: &str, count: usize) -> Result<String, Law> {
-    let mut front = String::new(alloc);
-    for c in text.chars().take(count) {
-        front.push(c)?;
-    }
-    Ok(front)
-}
-
 /// What refuses a text.
 fn refusal_of(alloc: Global, text: &str) -> Result<Option<Refusal>, Law> {
     match Template::parse(alloc, text) {
@@ -87,8 +78,11 @@ fn has_a_fair_beginning(
     refusal: Option<Refusal>,
 ) -> Held {
     let count = numbers.below(text.len().saturating_add(1));
-    let front = front_of(alloc, text, count)?;
-    match refusal_of(alloc, front.as_str())? {
+    let mut end: usize = 0;
+    for c in text.chars().take(count) {
+        end = end.saturating_add(c.len_utf8());
+    }
+    match refusal_of(alloc, text.get(..end).unwrap_or(text))? {
         Some(found) => Law::Beginning.holds(refusal == Some(found)),
         None => Ok(()),
     }
@@ -116,22 +110,18 @@ const CLUSTERS: &[(&str, usize)] = &[
     ("\u{2}", 0),
 ];
 
-/// Whether each of these widths is this one.
-fn are_all(widths: &[usize], width: usize) -> bool {
-    for other in widths {
-        if *other != width {
-            return false;
-        }
-    }
-    true
-}
-
 /// What refuses these clusters.
 fn cluster_refusal(widths: &[usize]) -> Option<Refusal> {
-    match widths {
-        [] | [_] => Some(Refusal::FewProgressChars),
-        [first, rest @ ..] if !are_all(rest, *first) => Some(Refusal::UnequalWidths),
-        [0, ..] => Some(Refusal::ZeroWidthChars),
+    let [first, _, ..] = widths else {
+        return Some(Refusal::FewProgressChars);
+    };
+    for width in widths {
+        if *width != *first {
+            return Some(Refusal::UnequalWidths);
+        }
+    }
+    match *first {
+        0 => Some(Refusal::ZeroWidthChars),
         _ => None,
     }
 }
@@ -203,14 +193,6 @@ fn tell(alloc: Global, numbers: &mut Numbers, bar: &mut Bar) -> Held {
     Ok(())
 }
 
-/// The same bar in a copy of its style, with colours or without.
-fn coloured(alloc: Global, bar: &Bar, colours: bool) -> Result<Bar, Law> {
-    let style = bar.style().try_clone()?.with_colors(colours)?;
-    let mut copy = Box::new(alloc, bar.try_clone()?)?;
-    copy.with_style(style, 0)?;
-    Ok(copy)
-}
-
 /// No line has a newline or a tab in it.
 fn are_lines(lines: &[LineType]) -> bool {
     for line in lines {
@@ -253,7 +235,7 @@ fn push_visible(line: &str, text: &mut String) -> Held {
 ///
 /// A wide message gives up the white space at its end where nothing stands behind it in its line of the template. Colours behind it are
 /// something: those of its own placeholder, or of an empty one.
-#[derive(Clone, Copy, Drop)]
+#[derive(Drop)]
 enum Leave {
     /// In an empty line at the end. What stands behind the last newline is a line where it isn't empty, and colours alone are enough for that.
     LastLine,
@@ -265,46 +247,34 @@ impl Leave {
     /// What a template leaves open: it is the last line where no wide message is among them, or where each line ends in
     /// a character of its own.
     fn of(template: &Template) -> Leave {
-        if template.parts().any(is_wide_message) && !lines_end_in_text(template) {
-            return Leave::WhiteSpace;
+        let mut has_wide_message = false;
+        let mut each_ends_in_text = true;
+        let mut ends_in_text = false;
+        for part in template.parts() {
+            match part {
+                Part::Literal(_) => ends_in_text = true,
+                Part::Placeholder { key, .. } => {
+                    has_wide_message |= key == "wide_msg";
+                    ends_in_text = false;
+                }
+                Part::NewLine => {
+                    each_ends_in_text &= ends_in_text;
+                    ends_in_text = false;
+                }
+            }
         }
-        Leave::LastLine
+        match has_wide_message && !(each_ends_in_text && ends_in_text) {
+            true => Leave::WhiteSpace,
+            false => Leave::LastLine,
+        }
     }
 
     /// Whether the visible lines are as they may be.
     fn holds(self, plain: &str, coloured: &str) -> bool {
         match self {
-            Leave::LastLine => is_but_for_a_line(plain, coloured),
+            Leave::LastLine => matches!(coloured.strip_prefix(plain), Some("" | "\n")),
             Leave::WhiteSpace => is_but_for_white_space(plain, coloured),
         }
-    }
-}
-
-fn is_wide_message(part: Part<'_>) -> bool {
-    match part {
-        Part::Placeholder { key, .. } => key == "wide_msg",
-        _ => false,
-    }
-}
-
-/// Whether each line of a template ends in a character of its own.
-fn lines_end_in_text(template: &Template) -> bool {
-    let mut ends_in_text = false;
-    for part in template.parts() {
-        match part {
-            Part::Literal(_) => ends_in_text = true,
-            Part::Placeholder { .. } => ends_in_text = false,
-            Part::NewLine if ends_in_text => ends_in_text = false,
-            Part::NewLine => return false,
-        }
-    }
-    ends_in_text
-}
-
-fn is_but_for_a_line(plain: &str, coloured: &str) -> bool {
-    match coloured.strip_prefix(plain) {
-        Some(rest) => rest.is_empty() || rest == "\n",
-        None => false,
     }
 }
 
@@ -325,14 +295,16 @@ fn is_but_for_white_space(plain: &str, coloured: &str) -> bool {
 /// When a bar is drawn, and on how many columns.
 type Place = (Moment, u16);
 
-/// The lines of the same bar with colours or without.
+/// The lines of the same bar in a copy of its style, with colours or without.
 fn coloured_lines(
     alloc: Global,
     bar: &Bar,
     colours: bool,
     (now, width): Place,
 ) -> Result<Vec<LineType>, Law> {
-    let copy = coloured(alloc, bar, colours)?;
+    let style = bar.style().try_clone()?.with_colors(colours)?;
+    let mut copy = Box::new(alloc, bar.try_clone()?)?;
+    copy.with_style(style, 0)?;
     Ok(copy.lines(now, width)?)
 }
 

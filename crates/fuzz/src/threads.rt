@@ -1,6 +1,6 @@
 //! Random calls on a shared board, and what has to hold of it at the end.
 use crate::law::{Held, Law};
-use crate::player::{Bar, Multi, Player, Plays};
+use crate::player::{Bar, Multi, Player, Plays, Random};
 use indicatif::machine::MachineClock;
 use indicatif::{
     Board, Entry, InMemoryTerm, MultiProgress, NoTracker, ProgressBar, ProgressDrawTarget,
@@ -21,13 +21,7 @@ fn target(alloc: Global) -> Result<ProgressDrawTarget<InMemoryTerm>, Refusal> {
     Ok(ProgressDrawTarget::term_like(term))
 }
 
-/// A board that keeps its history.
-fn board_of<R: Plays>(rt: R) -> Result<Multi<R>, Refusal> {
-    let clock = MachineClock::new(rt);
-    MultiProgress::recorded(rt, rt.alloc(), target(rt.alloc())?, clock, BOARD_ID)
-}
-
-/// Its bars.
+/// The bars of a board.
 fn bars_of<R: Plays>(rt: R, board: &Multi<R>) -> Result<Vec<Bar<R>>, Refusal> {
     let mut bars = Vec::new(rt.alloc());
     for _ in 0..BARS {
@@ -35,14 +29,6 @@ fn bars_of<R: Plays>(rt: R, board: &Multi<R>) -> Result<Vec<Bar<R>>, Refusal> {
         bars.push(board.add(bar)?)?;
     }
     Ok(bars)
-}
-
-/// Tells each bar's ticker off.
-fn come_to_rest<R: Plays>(bars: &[Bar<R>]) -> Result<(), Refusal> {
-    for bar in bars {
-        bar.disable_steady_tick()?;
-    }
-    Ok(())
 }
 
 /// How many of the rows are logged lines.
@@ -80,16 +66,6 @@ fn rows_of(term: Option<&InMemoryTerm>) -> Result<Vec<String>, Refusal> {
     }
 }
 
-/// A fresh board that makes the calls of a history gives the same answers, shows the same, and has so many logged lines.
-fn is_one_run(alloc: Global, recorded: &Recording, logged: u64) -> Held {
-    let board = Board::new(alloc, target(alloc)?, recorded.opening().board_id);
-    let mut fresh = Box::new(alloc, board)?;
-    Law::Replay.holds(answers_so(&mut fresh, alloc, recorded.entries())?)?;
-    let rows = rows_of(recorded.board().term())?;
-    Law::Replay.holds(rows_of(fresh.term())? == rows)?;
-    Law::Logged.holds(logged_in(&rows) == logged)
-}
-
 /// Reads a history in which so many lines were logged.
 #[derive(Drop)]
 struct RunsAgain {
@@ -100,50 +76,41 @@ struct RunsAgain {
 impl RecordReader<InMemoryTerm, NoTracker> for RunsAgain {
     type Found = Held;
 
+    /// A fresh board that makes the calls of the history gives the same answers, shows the same, and has so many logged lines.
     fn read(self, record: Option<&Recording>) -> Held {
-        match record {
-            Some(recorded) => is_one_run(self.alloc, recorded, self.logged),
-            None => Err(Law::Replay),
-        }
+        let RunsAgain { alloc, logged } = self;
+        let Some(recorded) = record else {
+            return Err(Law::Replay);
+        };
+        let board = Board::new(alloc, target(alloc)?, recorded.opening().board_id);
+        let mut fresh = Box::new(alloc, board)?;
+        Law::Replay.holds(answers_so(&mut fresh, alloc, recorded.entries())?)?;
+        let rows = rows_of(recorded.board().term())?;
+        Law::Replay.holds(rows_of(fresh.term())? == rows)?;
+        Law::Logged.holds(logged_in(&rows) == logged)
     }
-}
-
-/// Random calls of threads on a board: their seed, and how many each makes.
-#[derive(Clone, Copy, Drop)]
-pub struct Random {
-    pub seed: u64,
-    pub steps: u64,
 }
 
 /// How many threads there are.
 const THREADS: usize = 4;
-
-/// What the thread of this number does, counted from 0; how many lines it logged.
-fn played_by<R: Plays>(
-    rt: R,
-    board: &Multi<R>,
-    bars: &[Bar<R>],
-    (random, number): (Random, usize),
-) -> Result<u64, Refusal> {
-    let player = Player {
-        rt,
-        board,
-        bars,
-        number: (number as u64).wrapping_add(1),
-        seed: random.seed,
-        steps: random.steps,
-    };
-    player.plays()
-}
 
 /// Threads make random calls; how many lines they logged.
 fn logged_by_all<R: Plays>(
     rt: R,
     board: &Multi<R>,
     bars: &[Bar<R>],
-    random: Random,
+    random: &Random,
 ) -> Result<u64, Refusal> {
-    let plays = |number: usize| played_by(rt, board, bars, (random, number));
+    let plays = |number: usize| {
+        let player = Player {
+            rt,
+            board,
+            bars,
+            number: (number as u64).wrapping_add(1),
+            random,
+        };
+        player.plays()
+    };
     let mut total: u64 = 0;
     for logged in map_indices(&rt, rt.alloc(), THREADS, &plays)? {
         total = total.wrapping_add(logged?);
@@ -151,17 +118,21 @@ fn logged_by_all<R: Plays>(
     Ok(total)
 }
 
-/// Threads make random calls of a board and its bars: what they logged stands there, and its history is one run.
-fn played_on<R: Plays>(rt: R, board: &Multi<R>, bars: &[Bar<R>], random: Random) -> Held {
+/// Threads make random calls of a board and its bars: once each ticker is told off, what they logged stands there, and its history is one
+/// run.
+fn played_on<R: Plays>(rt: R, board: &Multi<R>, bars: &[Bar<R>], random: &Random) -> Held {
     let logged = logged_by_all(rt, board, bars, random)?;
-    come_to_rest(bars)?;
+    for bar in bars {
+        bar.disable_steady_tick()?;
+    }
     let alloc = rt.alloc();
     board.with_record(RunsAgain { alloc, logged })
 }
 
-/// Threads make random calls of a new board, as they should.
-pub fn played<R: Plays>(rt: R, random: Random) -> Held {
-    let board = board_of(rt)?;
+/// Threads make random calls of a new board that keeps its history, as they should.
+pub fn played<R: Plays>(rt: R, random: &Random) -> Held {
+    let clock = MachineClock::new(rt);
+    let board = MultiProgress::recorded(rt, rt.alloc(), target(rt.alloc())?, clock, BOARD_ID)?;
     let bars = bars_of(rt, &board)?;
     played_on(rt, &board, &bars, random)
 }

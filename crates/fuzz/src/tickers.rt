@@ -10,15 +10,6 @@ pub const TIMES: u64 = 200;
 /// A millisecond.
 const OFTEN: u64 = 1_000_000;
 
-/// A bar on a terminal of 4 rows and 30 columns.
-fn bar_of<R: Plays>(rt: R) -> Result<Bar<R>, Refusal> {
-    let setup = Setup {
-        target: ProgressDrawTarget::term_like(InMemoryTerm::new(rt.alloc(), 4, 30)?),
-        clock: MachineClock::new(rt),
-    };
-    ProgressBar::new(rt, rt.alloc(), 10, setup)
-}
-
 /// Tells the bar's ticker on, or off, again and again.
 fn tell<R: Plays>(bar: &Bar<R>, on: bool) -> Result<(), Refusal> {
     for _ in 0..TIMES {
@@ -39,8 +30,12 @@ fn tell_both<R: Plays>(rt: R, bar: &Bar<R>) -> Result<(), Refusal> {
     bar.disable_steady_tick()
 }
 
-/// Two threads tell the ticker of a new bar on and off; both come to an end.
+/// Two threads tell the ticker of a new bar on 4 rows and 30 columns on and off; both come to an end.
 pub fn played<R: Plays>(rt: R) -> Result<(), Refusal> {
-    let bar = bar_of(rt)?;
+    let setup = Setup {
+        target: ProgressDrawTarget::term_like(InMemoryTerm::new(rt.alloc(), 4, 30)?),
+        clock: MachineClock::new(rt),
+    };
+    let bar = ProgressBar::new(rt, rt.alloc(), 10, setup)?;
     tell_both(rt, &bar)
 }

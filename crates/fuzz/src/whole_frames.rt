@@ -17,6 +17,7 @@ use indicatif_term::draw_target::{Engine, MultiProgressAlignment};
 use indicatif_term::in_memory::InMemoryTerm;
 use indicatif_term::term_like::{Term, TermLike};
 use indicatif_text::columns::Refusal;
+use scripts::judged::record::Size;
 use std::alloc::Global;
 use std::env::Args;
 
@@ -69,15 +70,12 @@ impl<T: TermLike + Drop> Three<T> {
                 self.whole.log(text.as_str(), bars, alignment),
             ],
             Call::Clear => [self.engine.clear(), self.moving.clear(), self.whole.clear()],
-            Call::Keep(bar) => return self.keep_alike(*bar),
+            Call::Keep(bar) => {
+                let whole = self.whole.keep(*bar);
+                return self.engine.keep(*bar) == whole && self.moving.keep(*bar) == whole;
+            }
         };
         engine == whole && moving == whole
-    }
-
-    /// Whether all keep a bar, or none.
-    fn keep_alike(&mut self, bar: u64) -> bool {
-        let whole = self.whole.keep(bar);
-        self.engine.keep(bar) == whole && self.moving.keep(bar) == whole
     }
 }
 
@@ -93,12 +91,6 @@ fn is_as(here: &InMemoryTerm, there: &InMemoryTerm) -> Result<bool, Refusal> {
 }
 
 /// A terminal's size.
-#[derive(Clone, Copy, Drop)]
-struct Size {
-    rows: u16,
-    cols: u16,
-}
-
 fn size_by(numbers: &mut Numbers) -> Size {
     let rows = 1 + numbers.below(5) as u16;
     let cols = 1 + numbers.below(7) as u16;
@@ -197,7 +189,7 @@ fn number_or(word: Option<&String>, other: u64) -> u64 {
 }
 
 /// What is asked for: so many lists by a seed, which are compared, or whose bytes are printed.
-#[derive(Clone, Copy, Drop)]
+#[derive(Drop)]
 pub struct Asked {
     seed: u64,
     count: u64,
@@ -228,17 +220,17 @@ pub fn request(mut words: Args) -> Asked {
 
 /// Does what is asked for.
 pub fn run<R: AllocGlobal + Print>(rt: &R, asked: Asked) -> Result<()> {
-    let mut numbers = Numbers::new(asked.seed, STREAM);
-    match asked.prints {
-        true => print_all(rt, &mut numbers, asked.count),
-        false => compare(rt, &mut numbers, asked.count),
+    let Asked {
+        seed,
+        count,
+        prints,
+    } = asked;
+    let mut numbers = Numbers::new(seed, STREAM);
+    if !prints {
+        return compare(rt, &mut numbers, count);
     }
-}
-
-/// Prints what so many lists write.
-fn print_all<R: AllocGlobal + Print>(rt: &R, numbers: &mut Numbers, count: u64) -> Result<()> {
     for _ in 0..count {
-        print_written(rt, numbers)?;
+        print_written(rt, &mut numbers)?;
     }
     Ok(())
 }

@@ -4,7 +4,7 @@ use std::time::{Clock, Instant};
 use std::{fmt, io};
 
 /// How long a piece of work took, done many times.
-#[derive(Clone, Copy)]
+#[derive(Drop)]
 pub struct Measured {
     /// The time in nanoseconds.
     pub nanos: u64,
@@ -13,7 +13,7 @@ pub struct Measured {
 }
 
 /// What a piece of work makes.
-#[derive(Clone, Copy)]
+#[derive(Drop)]
 pub enum Made {
     /// So many bytes, written or read.
     Bytes(u64),

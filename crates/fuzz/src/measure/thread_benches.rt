@@ -106,15 +106,13 @@ fn mapped<R: Shares>(rt: &R, bar: Bar<R>, count: u64) -> Result<Measured> {
         rt.alloc(),
         |x: &u64| x.wrapping_mul(2_654_435_761) >> 3,
     );
-    let measured = Measured::since(rt, start, Made::Sum(0))?;
+    let Measured { nanos, .. } = Measured::since(rt, start, Made::Sum(0))?;
     let mut sum: u64 = 0;
     for number in &made? {
         sum = sum.wrapping_add(*number);
     }
-    Ok(Measured {
-        made: Made::Sum(sum),
-        ..measured
-    })
+    let made = Made::Sum(sum);
+    Ok(Measured { nanos, made })
 }
 
 /// What is done with a bar that is made for it, so many times.

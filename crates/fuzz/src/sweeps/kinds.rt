@@ -144,18 +144,12 @@ impl<R: Runs> Stages for Players<R> {
     }
 }
 
-/// What came of a run: how many of its calls failed, and what the writer was given.
-#[derive(Clone, Copy, Drop)]
-pub struct Outcome {
-    pub failed: u64,
-    pub point: Point,
-}
-
 /// How many bytes a record has room for at first.
 const ROOM: usize = 4096;
 
-/// Plays a script on a terminal that fails as planned, and the draw behind it on one that doesn't.
-pub fn run<R: Runs>(rt: R, case: Case) -> Result<Outcome, Finding> {
+/// Plays a script on a terminal that fails as planned, and the draw behind it on one that doesn't; how many of the script's calls failed,
+/// and what the writer was given.
+pub fn run<R: Runs>(rt: R, case: Case) -> Result<(u64, Point), Finding> {
     let Case { kind, size, .. } = case;
     let record = Record::new(rt.alloc(), case.plan, ROOM)?;
     let mut judge = Judge::new(rt.alloc(), size, case.look)?;
@@ -168,10 +162,10 @@ fn judged<S: Stage>(
     record: &Record,
     kind: Kind,
     judge: &mut Judge,
-) -> Result<Outcome, Finding> {
+) -> Result<(u64, Point), Finding> {
     let failed = played(stage, record, kind.script(), judge)?;
     let point = record.point();
     record.heal();
     played(stage, record, kind.last(), judge)?;
-    Ok(Outcome { failed, point })
+    Ok((failed, point))
 }

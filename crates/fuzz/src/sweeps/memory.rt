@@ -10,40 +10,16 @@ use std::alloc::Global;
 use std::rc::Rc;
 
 /// How many bytes the terminal's writer has room for from the first, where it takes no memory.
-const ROOM: usize = 4096;
-
-/// Where memory is taken and may be refused.
-#[derive(Clone, Copy, Drop)]
-pub enum Growing {
-    /// By the library alone.
-    Library,
-    /// By the terminal too.
-    Terminal,
-}
-
-/// What becomes of a script once it was played.
-#[derive(Clone, Copy, Drop)]
-pub enum Judging {
-    /// It is judged.
-    Judged,
-    /// Nothing: so it shows how often a script takes memory.
-    Unjudged,
-}
+pub const ROOM: usize = 4096;
 
 /// How a script is played. The terminal of `bars run` has a size of its own.
-#[derive(Clone, Copy, Drop)]
+#[derive(Drop)]
 pub struct Playing {
     pub size: Size,
-    pub growing: Growing,
-    pub judging: Judging,
-}
-
-/// The room that a writer has at first.
-fn room(growing: Growing) -> usize {
-    match growing {
-        Growing::Library => ROOM,
-        Growing::Terminal => 0,
-    }
+    /// How many bytes the terminal's writer has room for from the first; where that is too little the terminal takes memory, too.
+    pub room: usize,
+    /// Whether the script is judged once it was played. If not, it shows how often it takes memory.
+    pub is_judged: bool,
 }
 
 /// A record with this room of a terminal that doesn't fail; it is made once more where memory was refused.
@@ -51,13 +27,6 @@ pub fn record_of(alloc: Global, room: usize) -> Result<Rc<Record>, Refusal> {
     match Record::new(alloc, Plan::Never, room) {
         Ok(record) => Ok(record),
         Err(_) => Record::new(alloc, Plan::Never, room),
-    }
-}
-
-fn notes_of(alloc: Global) -> Result<Notes, Finding> {
-    match Notes::new(alloc) {
-        Ok(notes) => Ok(notes),
-        Err(_) => Notes::new(alloc),
     }
 }
 
@@ -73,13 +42,16 @@ fn note<M: Stages>(stages: &M, record: &Rc<Record>, notes: &mut Notes) -> Result
 }
 
 /// Plays a script, and judges it; once more where the judge finds no memory.
-fn played_by<M: Stages>(alloc: Global, stages: &M, playing: Playing) -> Result<Where, Finding> {
-    let record = record_of(alloc, room(playing.growing))?;
-    let mut notes = notes_of(alloc)?;
+fn played_by<M: Stages>(alloc: Global, stages: &M, playing: &Playing) -> Result<Where, Finding> {
+    let record = record_of(alloc, playing.room)?;
+    let mut notes = match Notes::new(alloc) {
+        Ok(notes) => notes,
+        Err(_) => Notes::new(alloc)?,
+    };
     if !note(stages, &record, &mut notes)? {
         return Ok(Where::Unmade);
     }
-    if let Judging::Unjudged = playing.judging {
+    if !playing.is_judged {
         return Ok(Where::Nowhere);
     }
     let run = Run {
@@ -114,7 +86,7 @@ pub const PLAYED: &[(&str, Played)] = &[
 ];
 
 /// Where memory was refused in what is played.
-pub fn found<R: Runs>(rt: R, played: Played, playing: Playing) -> Result<Where, Finding> {
+pub fn found<R: Runs>(rt: R, played: Played, playing: &Playing) -> Result<Where, Finding> {
     let size = playing.size;
     match played {
         Played::Script(kind) => {

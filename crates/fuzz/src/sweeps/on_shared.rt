@@ -60,26 +60,24 @@ impl<R: Wait + Copy + Clone + Drop> OnShared<R> {
         }
     }
 
-    fn add(&mut self, text: &str) -> Result<(), Refusal> {
-        let bar = self.board.add(self.saying(text)?)?;
-        Ok(self.bars.push(Some(bar))?)
-    }
-
-    fn before(&mut self, anchor: u64, text: &str) -> Result<(), Refusal> {
+    /// A new bar that says this comes before another, or last.
+    fn add(&mut self, anchor: Option<u64>, text: &str) -> Result<(), Refusal> {
         let new = self.saying(text)?;
-        let bar = self.board.insert_before(self.bar(anchor)?, new)?;
-        Ok(self.bars.push(Some(bar))?)
+        let taken = match anchor {
+            Some(anchor) => self.board.insert_before(self.bar(anchor)?, new),
+            None => self.board.add(new),
+        };
+        Ok(self.bars.push(Some(taken?))?)
     }
 
-    fn told(&mut self, number: u64, text: &str) -> Result<(), Refusal> {
+    /// A bar says this text, or is to keep its rows where there is none; it isn't drawn.
+    fn told(&mut self, number: u64, text: Option<&str>) -> Result<(), Refusal> {
         let bar = self.bar(number)?.clone()?;
-        drop(bar.with_message(text)?);
-        Ok(())
-    }
-
-    fn keep(&mut self, number: u64) -> Result<(), Refusal> {
-        let bar = self.bar(number)?.clone()?;
-        drop(bar.with_finish(ProgressFinish::AndLeave)?);
+        let told = match text {
+            Some(text) => bar.with_message(text),
+            None => bar.with_finish(ProgressFinish::AndLeave),
+        };
+        drop(told?);
         Ok(())
     }
 
@@ -95,17 +93,13 @@ impl<R: Wait + Copy + Clone + Drop> OnShared<R> {
         }
     }
 
-    fn remove(&self, number: u64) -> Result<(), Refusal> {
-        self.board.remove(self.bar(number)?)
-    }
-
     fn settles(&mut self, step: Step) -> Result<(), Refusal> {
         match step {
-            Step::Add(text) => self.add(text),
-            Step::Before(anchor, text) => self.before(anchor, text),
-            Step::Told(bar, text) => self.told(bar, text),
-            Step::Keep(bar) => self.keep(bar),
-            Step::Remove(bar) => self.remove(bar),
+            Step::Add(text) => self.add(None, text),
+            Step::Before(anchor, text) => self.add(Some(anchor), text),
+            Step::Told(bar, text) => self.told(bar, Some(text)),
+            Step::Keep(bar) => self.told(bar, None),
+            Step::Remove(bar) => self.board.remove(self.bar(bar)?),
             Step::Bottom => self.board.set_alignment(MultiProgressAlignment::Bottom),
             Step::Top => self.board.set_alignment(MultiProgressAlignment::Top),
             _ => Err(Refusal::NotMember),

@@ -13,7 +13,7 @@ use std::io::Write;
 use std::rc::Rc;
 
 /// What a call does in the place of what it should.
-#[derive(Clone, Copy, Drop)]
+#[derive(Drop)]
 enum Body {
     /// Nothing.
     Nothing,
@@ -24,7 +24,7 @@ enum Body {
 }
 
 /// A wrong body of calls of a board's script: whose calls, which of them, what each does, and what it answers.
-#[derive(Clone, Copy, Drop)]
+#[derive(Drop)]
 pub struct Planted {
     pub name: &'static str,
     kind: Kind,
@@ -154,24 +154,8 @@ const WIDE: Step = Step::Size(Size { rows: 4, cols: 20 });
 struct OnPlanted {
     board: OnBoard<Behind>,
     record: Rc<Record>,
-    planted: Planted,
+    planted: &'static Planted,
     made: usize,
-}
-
-impl OnPlanted {
-    fn does(&mut self, body: Body) {
-        match body {
-            Body::Nothing => {}
-            Body::Writes(bytes) => {
-                if let Ok(record) = self.record.clone() {
-                    let _ = Wire(record).write(bytes.as_bytes());
-                }
-            }
-            Body::Makes(step) => {
-                let _ = self.board.make(step);
-            }
-        }
-    }
 }
 
 impl Stage for OnPlanted {
@@ -181,7 +165,17 @@ impl Stage for OnPlanted {
         if !self.planted.at.contains(&at) {
             return self.board.make(step);
         }
-        self.does(self.planted.body);
+        match &self.planted.body {
+            Body::Nothing => {}
+            Body::Writes(bytes) => {
+                if let Ok(record) = self.record.clone() {
+                    let _ = Wire(record).write(bytes.as_bytes());
+                }
+            }
+            Body::Makes(step) => {
+                let _ = self.board.make(*step);
+            }
+        }
         self.planted.said
     }
 
@@ -191,7 +185,7 @@ impl Stage for OnPlanted {
 }
 
 /// What the judge of refused memory finds of a board's script with this body.
-pub fn found<R: Runs>(rt: R, planted: Planted) -> Result<Where, Finding> {
+pub fn found<R: Runs>(rt: R, planted: &'static Planted) -> Result<Where, Finding> {
     let record = Record::new(rt.alloc(), Plan::Never, 4096)?;
     let mut notes = Notes::new(rt.alloc())?;
     note(rt.alloc(), planted, &record, &mut notes)?;
@@ -213,7 +207,7 @@ pub fn found<R: Runs>(rt: R, planted: Planted) -> Result<Where, Finding> {
 /// Plays the script with this body, and notes what its calls do.
 fn note(
     alloc: Global,
-    planted: Planted,
+    planted: &'static Planted,
     record: &Rc<Record>,
     notes: &mut Notes,
 ) -> Result<(), Finding> {

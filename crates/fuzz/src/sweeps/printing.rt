@@ -7,7 +7,7 @@ use indicatif_text::columns::Refusal;
 use scripts::judged::judge::Finding;
 use scripts::judged::record::{Plan, Point, Record, Size, Wire};
 use scripts::judged::refused::Where;
-use std::alloc::{AllocError, Global};
+use std::alloc::Global;
 
 /// What is played, and what it prints on four rows and ten columns: `b` is finished and cleared when it is dropped, and the row of `c` stays
 /// until the next draw.
@@ -58,11 +58,6 @@ impl Ran {
         })
     }
 
-    /// Whether it printed all, and said nothing.
-    fn is_whole(&self) -> bool {
-        self.status == 0 && self.point.failures == 0 && self.said.is_empty()
-    }
-
     /// Whether it printed a beginning of what the other one did, said that its output failed, and asked no more of it.
     fn is_beginning_of(&self, whole: &Ran) -> bool {
         self.status == 2
@@ -100,11 +95,11 @@ fn fails_at_each(tally: &mut Tally, alloc: Global, (args, whole): (&[String], &R
     Ok(())
 }
 
-/// Counts the runs on a terminal of this size: one where nothing fails, which it gives, and those where the output fails.
+/// Counts the runs on a terminal of this size: one where nothing fails and nothing is said, which it gives, and those where the output fails.
 fn runs_at(tally: &mut Tally, alloc: Global, size: Size) -> Result<Ran> {
     let args = words(alloc, size)?;
     let whole = Ran::new(alloc, &args, Plan::Never)?;
-    tally.count(whole.is_whole());
+    tally.count(whole.status == 0 && whole.point.failures == 0 && whole.said.is_empty());
     fails_at_each(tally, alloc, (args.as_slice(), &whole))?;
     Ok(whole)
 }
@@ -127,7 +122,10 @@ pub fn refused(alloc: Global) -> Result<Where, Finding> {
         Err(_) => words(alloc, WIDE)?,
     };
     let record = record_of(alloc, ROOM)?;
-    let mut said = again(Vec::with_capacity(alloc, ROOM), alloc)?;
+    let mut said: Vec<u8> = match Vec::with_capacity(alloc, ROOM) {
+        Ok(said) => said,
+        Err(_) => Vec::with_capacity(alloc, ROOM)?,
+    };
     let mut output = Wire(record.clone()?);
     let status = run_bars(alloc, &args, COMMANDS, &mut output, &mut said);
     let printed = match record.between(alloc, Point::default(), record.point()) {
@@ -138,14 +136,6 @@ pub fn refused(alloc: Global) -> Result<Where, Finding> {
         0 if printed.as_slice() == PRINTED && said.is_empty() => Ok(Where::Nowhere),
         1 if printed.is_empty() => named(&said),
         _ => Err(Finding::Answer),
-    }
-}
-
-/// The room, or as much once more where memory was refused.
-fn again(room: Result<Vec<u8>, AllocError>, alloc: Global) -> Result<Vec<u8>, Finding> {
-    match room {
-        Ok(room) => Ok(room),
-        Err(_) => Ok(Vec::with_capacity(alloc, ROOM)?),
     }
 }
 

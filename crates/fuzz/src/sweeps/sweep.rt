@@ -14,11 +14,6 @@ pub struct Case {
 }
 
 impl Case {
-    /// The same with another plan.
-    fn by(self, plan: Plan) -> Case {
-        Case { plan, ..self }
-    }
-
     /// Whether so many of its calls may fail.
     fn admits(self, failed: u64) -> bool {
         match self.plan {
@@ -31,7 +26,7 @@ impl Case {
 }
 
 /// How many runs there were, how many weren't as they should be, and what the first of these was found to be where it is a script's.
-#[derive(Clone, Copy, Default, Drop)]
+#[derive(Default, Drop)]
 pub struct Tally {
     pub runs: u64,
     pub differ: u64,
@@ -39,7 +34,7 @@ pub struct Tally {
 }
 
 /// What a run was found to be.
-#[derive(Clone, Copy, Debug, Drop)]
+#[derive(Debug, Drop)]
 pub enum Found {
     /// Not as it should be.
     Wrong(Finding),
@@ -64,22 +59,25 @@ impl Tally {
     /// Plays this case, and counts it; what the writer was given, nothing where the run isn't as it should be.
     fn plays<R: Runs>(&mut self, rt: R, case: Case) -> Point {
         let found = match run(rt, case) {
-            Ok(outcome) if case.admits(outcome.failed) => {
+            Ok((failed, point)) if case.admits(failed) => {
                 self.count(true);
-                return outcome.point;
+                return point;
             }
-            Ok(outcome) => Found::Failed(outcome.failed),
+            Ok((failed, _)) => Found::Failed(failed),
             Err(finding) => Found::Wrong(finding),
         };
         self.count(false);
-        self.first = Some(self.first.unwrap_or((case, found)));
+        if self.first.is_none() {
+            self.first = Some((case, found));
+        }
         Point::default()
     }
 
     /// Makes the runs in which this call fails, and one behind it, each up to the last.
     fn with_each_later<R: Runs>(&mut self, rt: R, case: Case, (first, last): (u64, u64)) {
         for second in first.saturating_add(1)..=last {
-            self.plays(rt, case.by(Plan::Both(first, second)));
+            let plan = Plan::Both(first, second);
+            self.plays(rt, Case { plan, ..case });
         }
     }
 }
@@ -122,26 +120,8 @@ impl Sweep {
         }
     }
 
-    /// How closely bytes are looked at. Where two calls fail, behind each call; else behind each byte from the first failure on, but on
-    /// smaller terminals only while a failure isn't drawn over.
-    fn look(self, size: Size) -> Look {
-        match self {
-            Sweep::EachPair => Look::EachCall,
-            _ if size == LARGEST => Look::FromFailure,
-            _ => Look::AtFailure,
-        }
-    }
-
-    /// Makes the runs on terminals of one to four rows and of one to six columns.
-    pub fn at_each_size<R: Runs>(self, rt: R, kind: Kind) -> Tally {
-        let mut tally = Tally::default();
-        for number in 0..SIZES {
-            self.at(rt, kind, size_of(number), &mut tally);
-        }
-        tally
-    }
-
-    /// Makes the runs at one size, and counts them.
+    /// Makes the runs at one size, and counts them. Where two calls fail, bytes are looked at behind each call; else behind each byte from
+    /// the first failure on, but on smaller terminals only while a failure isn't drawn over.
     pub fn at<R: Runs>(self, rt: R, kind: Kind, size: Size, tally: &mut Tally) {
         let unfailed = Case {
             kind,
@@ -150,7 +130,11 @@ impl Sweep {
             look: Look::EachByte,
         };
         let point = tally.plays(rt, unfailed);
-        let look = self.look(size);
+        let look = match self {
+            Sweep::EachPair => Look::EachCall,
+            _ if size == LARGEST => Look::FromFailure,
+            _ => Look::AtFailure,
+        };
         let case = Case { look, ..unfailed };
         match self {
             Sweep::EachCall | Sweep::FromEachCall => self.each(rt, case, point.calls, tally),
@@ -163,19 +147,15 @@ impl Sweep {
         }
     }
 
-    /// Makes the runs that fail at so many places.
+    /// Makes the runs that fail at so many places, counted from 0.
     fn each<R: Runs>(self, rt: R, case: Case, places: u64, tally: &mut Tally) {
         for place in 0..places {
-            tally.plays(rt, case.by(self.plan(place)));
-        }
-    }
-
-    /// How a terminal fails at a place, counted from 0.
-    fn plan(self, place: u64) -> Plan {
-        match self {
-            Sweep::EachByte => Plan::Byte(place as usize),
-            Sweep::FromEachCall => Plan::From(place.saturating_add(1)),
-            Sweep::EachCall | Sweep::EachPair => Plan::Call(place.saturating_add(1)),
+            let plan = match self {
+                Sweep::EachByte => Plan::Byte(place as usize),
+                Sweep::FromEachCall => Plan::From(place.saturating_add(1)),
+                Sweep::EachCall | Sweep::EachPair => Plan::Call(place.saturating_add(1)),
+            };
+            tally.plays(rt, Case { plan, ..case });
         }
     }
 }

@@ -7,7 +7,7 @@ use std::convert::AsStr;
 use std::io;
 
 /// How many rows a bar has.
-#[derive(Clone, Copy, Drop)]
+#[derive(Drop)]
 struct BarRows {
     bar: u64,
     rows: usize,
@@ -194,7 +194,7 @@ impl<T: TermLike + Drop> WholeFrames<T> {
         Ok(shown)
     }
 
-    /// The same of a bar, in the room that is left.
+    /// The same of a bar, in the room that is left: none once a line found too little.
     fn show<'a>(
         &self,
         bar: &'a Segment,
@@ -204,7 +204,10 @@ impl<T: TermLike + Drop> WholeFrames<T> {
         let mut rows = 0_usize;
         for line in &bar.lines {
             let height = wrapped(line.as_str(), self.width())?.height;
-            *room = room_behind(*room, height);
+            *room = match *room {
+                Some(left) => left.checked_sub(height),
+                None => None,
+            };
             if room.is_some() {
                 shown.lines.push(line.as_str())?;
                 rows = rows.saturating_add(height);
@@ -285,11 +288,6 @@ impl<T: TermLike + Drop> WholeFrames<T> {
         self.below = goes_below;
         Ok(())
     }
-}
-
-/// How much room a line of these rows leaves; none once one found too little.
-fn room_behind(room: Option<usize>, rows: usize) -> Option<usize> {
-    room?.checked_sub(rows)
 }
 
 fn total(bars: &[BarRows]) -> usize {
