@@ -1,5 +1,5 @@
 //! What steps are played on, and which module plays a step. A new kind of world is a module, a variant of `On`, and a line each in
-//! `begun` and `play`; a question that needs no world is a module and a line in `play`.
+//! `begun` and `step`; a question that needs no world is a module and a line in `play`.
 use crate::beside::Pair;
 use crate::bytes::{self, OverCounted};
 use crate::fronts::World;
@@ -65,6 +65,24 @@ impl<R: AllocGlobal + RandomSource + Wait + Copy + Clone + Drop> Stage<R> {
 
 impl<
     R: AllocGlobal + RandomSource + Wait + Threads + Clock + Copy + Clone + Drop + Send + 'static,
+> On<R> {
+    /// Makes a step, or reads something.
+    fn step(&mut self, step: &str, got: &mut Got) {
+        match self {
+            On::Nothing => got.bad(Bad::Step),
+            On::Fronts(world) => world.step(step, got),
+            On::Beside(world) => world.step(step, got),
+            On::Bytes(world) => bytes::step(world, step, got),
+            On::List(world) => lists::step(world, step, got),
+            On::Loop(world) => world.step(step, got),
+            On::Places(world) => world.step(step, got),
+            On::Pane(world) => world.step(step, got),
+        }
+    }
+}
+
+impl<
+    R: AllocGlobal + RandomSource + Wait + Threads + Clock + Copy + Clone + Drop + Send + 'static,
 > Stage<R> {
     /// Makes a step, and appends what it gives.
     pub fn play(&mut self, step: &str, got: &mut Got) {
@@ -77,16 +95,7 @@ impl<
             _ => match self.begun(name, rest) {
                 Some(Ok(on)) => self.on = on,
                 Some(Err(bad)) => got.bad(bad),
-                None => match &mut self.on {
-                    On::Nothing => got.bad(Bad::Step),
-                    On::Fronts(world) => world.step(step, got),
-                    On::Beside(world) => world.step(step, got),
-                    On::Bytes(world) => bytes::step(world, step, got),
-                    On::List(world) => lists::step(world, step, got),
-                    On::Loop(world) => world.step(step, got),
-                    On::Places(world) => world.step(step, got),
-                    On::Pane(world) => world.step(step, got),
-                },
+                None => self.on.step(step, got),
             },
         }
     }

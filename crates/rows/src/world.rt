@@ -1,5 +1,5 @@
 //! What steps are played on, and which module plays a step. A new kind of world is a module, a variant of `On`, and a line each in
-//! `begun` and `go_on`; a question that needs no world is a module and a line in `asked`.
+//! `begun` and `step`; a question that needs no world is a module and a line in `asked`.
 use crate::terminals::Terminal;
 use crate::{
     boards, cells, columns, engines, formats, limiters, lines, lone, memory, noted, program,
@@ -88,6 +88,24 @@ fn begun(name: &str, rest: &str, at: At) -> Option<Result<On, Bad>> {
 }
 
 impl On {
+    /// Makes a step, or reads something.
+    fn step(&mut self, step: &str, at: At, got: &mut Got) {
+        match self {
+            On::Nothing => got.bad(Bad::Step),
+            On::Lone(world) => world.step(step, at, got),
+            On::Record(world) => world.step(step, at, got),
+            On::Board(world) => world.step(step, at, got),
+            On::Recorded(world) => world.step(step, at, got),
+            On::Term(world) => world.step(step, at, got),
+            On::Slots(world) => world.step(step, got),
+            On::Cells(world) => world.step(step, at, got),
+            On::Memory(world) => world.step(step, at, got),
+            On::Noted(world) => world.step(step, at, got),
+            On::Engine(world) => world.step(step, at, got),
+            On::Style(world) => world.step(step, at, got),
+        }
+    }
+
     /// Another world of what is there: `ended`, the bar is gone, and its terminal goes on; `shown ROWS COLS RATE`, a record is the bar
     /// of a screen.
     fn turned(self, step: &str, at: At) -> Result<On, Bad> {
@@ -110,26 +128,12 @@ impl Stage {
     /// Goes on with what is there, at this moment or that of the last step: makes a step, or reads something.
     fn go_on(&mut self, step: &str, moment: Option<Moment>, got: &mut Got) {
         self.at.now = moment.unwrap_or(self.at.now);
-        let at = self.at;
-        if let "ended" | "shown" = headed(step).0 {
-            return match replace(&mut self.on, On::Nothing).turned(step, at) {
+        match headed(step).0 {
+            "ended" | "shown" => match replace(&mut self.on, On::Nothing).turned(step, self.at) {
                 Ok(on) => self.on = on,
                 Err(bad) => got.bad(bad),
-            };
-        }
-        match &mut self.on {
-            On::Nothing => got.bad(Bad::Step),
-            On::Lone(world) => world.step(step, at, got),
-            On::Record(world) => world.step(step, at, got),
-            On::Board(world) => world.step(step, at, got),
-            On::Recorded(world) => world.step(step, at, got),
-            On::Term(world) => world.step(step, at, got),
-            On::Slots(world) => world.step(step, got),
-            On::Cells(world) => world.step(step, at, got),
-            On::Memory(world) => world.step(step, at, got),
-            On::Noted(world) => world.step(step, at, got),
-            On::Engine(world) => world.step(step, at, got),
-            On::Style(world) => world.step(step, at, got),
+            },
+            _ => self.on.step(step, self.at, got),
         }
     }
 }
