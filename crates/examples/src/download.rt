@@ -6,9 +6,12 @@ use indicatif::{BarState, InMemoryTerm, LoneBar, NoTracker, ProgressDrawTarget, 
 /// The file's length in bytes.
 const LENGTH: u64 = 3_000_000;
 
+/// The moments at which is looked.
+const SECONDS: &[u32] = &[0, 1, 3, 6];
+
 fn download(rt: &HostRuntime, bar: &mut LoneBar<NoTracker, InMemoryTerm>) -> Result<()> {
-    for second in [0u32, 1, 3, 6] {
-        let second = u64::from(second);
+    for second in SECONDS {
+        let second = u64::from(*second);
         bar.set_position(second * 500_000, second * 1_000_000_000)?;
         print(rt, bar.term())?;
     }

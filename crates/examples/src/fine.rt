@@ -3,9 +3,11 @@ use crate::shown::print;
 use anyhow::Result;
 use indicatif::{BarState, InMemoryTerm, LoneBar, NoTracker, ProgressDrawTarget, ProgressStyle};
 
+const PERCENTS: &[u32] = &[0, 1, 2, 7, 13, 30, 50, 64, 99, 100];
+
 fn fill(rt: &HostRuntime, bar: &mut LoneBar<NoTracker, InMemoryTerm>) -> Result<()> {
-    for percent in [0u32, 1, 2, 7, 13, 30, 50, 64, 99, 100] {
-        let done = u64::from(percent);
+    for percent in PERCENTS {
+        let done = u64::from(*percent);
         bar.set_position(done, done * 1_000_000_000)?;
         print(rt, bar.term())?;
     }

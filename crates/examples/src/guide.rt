@@ -1,5 +1,5 @@
-//! Shows the programs of the guide at the head of crate `indicatif`: a first bar, templates and keys of one's own, a board, a wrapper,
-//! and what goes wrong beside what goes right. Each prints what stands on a terminal in memory in the end.
+//! Shows the programs of the guide at the head of crate `indicatif`: templates and keys of one's own, a board, a wrapper, and what goes
+//! wrong beside what goes right (`first` is the first one). Each prints what stands on a terminal in memory in the end.
 use crate::guide_key;
 use crate::shown::{self, print};
 use anyhow::Result;
@@ -34,16 +34,6 @@ pub fn show<R: Print + Wait + Copy + Drop, K: Tracks>(
 fn show_all<R: Print + Wait + Copy + Drop>(rt: R, name: &str, board: &Several<R>) -> Result<()> {
     println!(rt; "-- {name}")?;
     board.with_term(|term| print(&rt, term))
-}
-
-fn first_bar<R: AllocGlobal + Print + Wait + Copy + Drop>(rt: R) -> Result<()> {
-    let setup = setup(rt.alloc())?;
-    let bar = ProgressBar::new(rt, rt.alloc(), 3, setup)?;
-    for _ in 0..3u32 {
-        bar.inc(1)?;
-    }
-    bar.finish()?;
-    show(rt, "a first bar", &bar)
 }
 
 fn template<R: AllocGlobal + Print + Wait + Copy + Drop>(rt: R) -> Result<()> {
@@ -112,9 +102,11 @@ fn dropped_early<R: AllocGlobal + Print + Wait + Copy + Drop>(rt: R) -> Result<(
     show_all(rt, "a bar dropped too early", &board)
 }
 
-fn finished<R: AllocGlobal + Print + Wait + Copy + Drop>(rt: R) -> Result<()> {
-    let setup = setup(rt.alloc())?;
-    let board = MultiProgress::new(rt, rt.alloc(), setup, 1)?;
+/// Bars of files that are done, each finished. Both have an owner, which comes back.
+fn finish_each<R: AllocGlobal + Wait + Copy + Drop>(
+    rt: R,
+    board: &Several<R>,
+) -> Result<Vec<Bar<R>>> {
     let mut bars = Vec::new(rt.alloc());
     for name in ["a.txt", "b.txt"] {
         let bar = board.new_bar(3)?;
@@ -123,6 +115,13 @@ fn finished<R: AllocGlobal + Print + Wait + Copy + Drop>(rt: R) -> Result<()> {
         bar.finish()?;
         bars.push(bar)?; // both bars have an owner to the end
     }
+    Ok(bars)
+}
+
+fn finished<R: AllocGlobal + Print + Wait + Copy + Drop>(rt: R) -> Result<()> {
+    let setup = setup(rt.alloc())?;
+    let board = MultiProgress::new(rt, rt.alloc(), setup, 1)?;
+    let _bars = finish_each(rt, &board)?;
     show_all(rt, "bars that were finished", &board)
 }
 
@@ -144,7 +143,6 @@ fn run_traps<R: AllocGlobal + Print + Wait + Copy + Drop>(rt: R) -> Result<()> {
 }
 
 pub fn main<R: AllocGlobal + Print + Wait + Copy + Drop>(rt: R) -> Result<()> {
-    first_bar(rt)?;
     template(rt)?;
     guide_key::main(rt)?;
     board(rt)?;

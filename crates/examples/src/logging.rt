@@ -3,13 +3,16 @@
 use anyhow::Result;
 use indicatif::{BarState, InMemoryTerm, LoneBar, NoTracker, ProgressDrawTarget, ProgressStyle};
 
+/// What is logged, and what the bar says behind it.
+const LINES: &[(&str, &str)] = &[
+    ("copied a.txt", "copying\n1 of 4"),
+    ("copied b.txt", "copying\n2 of 4"),
+    ("copied c.txt", "copying\n3 of 4"),
+    ("copied d.txt", "copying\n4 of 4"),
+];
+
 fn copy_all(rt: &HostRuntime, bar: &mut LoneBar<NoTracker, InMemoryTerm>) -> Result<()> {
-    for (line, message) in [
-        ("copied a.txt", "copying\n1 of 4"),
-        ("copied b.txt", "copying\n2 of 4"),
-        ("copied c.txt", "copying\n3 of 4"),
-        ("copied d.txt", "copying\n4 of 4"),
-    ] {
+    for (line, message) in LINES {
         bar.println(line, 0)?;
         bar.set_message(message, 0)?;
     }

@@ -2,8 +2,10 @@
 use anyhow::Result;
 use indicatif::{BarState, InMemoryTerm, LoneBar, NoTracker, ProgressDrawTarget, ProgressStyle};
 
+const MESSAGES: &[&str] = &["a", "国", "b"];
+
 fn say_all(rt: &HostRuntime, bar: &mut LoneBar<NoTracker, InMemoryTerm>) -> Result<()> {
-    for message in ["a", "国", "b"] {
+    for message in MESSAGES {
         match bar.set_message(message, 0) {
             Ok(_) => println!(rt; "drawn"),
             Err(refusal) => println!(rt; "E{}: {refusal}", refusal.number()),
