@@ -19,7 +19,6 @@ pub enum Kind<'a> {
     Log(&'a str),
     /// A bar whose owner is gone.
     Gone,
-    Remove,
     TickerTick,
     /// A ticker that is installed, or told off.
     Ticker(bool),
@@ -27,7 +26,7 @@ pub enum Kind<'a> {
 
 fn is_of(call: &Call<NoTracker>, kind: Kind<'_>) -> bool {
     match (call, kind) {
-        (_, Kind::Any) | (Call::Drop(_), Kind::Gone) | (Call::Remove(_), Kind::Remove) => true,
+        (_, Kind::Any) | (Call::Drop(_), Kind::Gone) => true,
         (Call::Log(found), Kind::Log(text)) => found.as_str() == text,
         (Call::Bar(_, command), kind) => is_ticker(command, kind),
         _ => false,

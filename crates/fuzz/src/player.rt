@@ -1,7 +1,9 @@
 //! What a thread does.
 use crate::numbers::Numbers;
 use indicatif::machine::MachineClock;
-use indicatif::{Change, Drawn, InMemoryTerm, MultiProgress, ProgressBar, Refusal};
+use indicatif::{
+    Change, Drawn, InMemoryTerm, MultiProgress, MultiProgressAlignment, ProgressBar, Refusal,
+};
 use std::sync::Wait;
 use std::thread::{Threads, sleep};
 use std::time::{Clock, Duration};
@@ -28,7 +30,7 @@ pub struct Random {
     pub steps: u64,
 }
 
-/// A thread with its number, and what its calls are.
+/// A thread with its number, and what its calls are. The last bar is for `tosses` alone.
 #[derive(Drop)]
 pub struct Player<'a, R: Plays> {
     pub rt: R,
@@ -48,16 +50,17 @@ impl<R: Plays> Player<'_, R> {
                 let nanos = u64::from(numbers.next() % 200_000);
                 sleep(&self.rt, Duration::from_nanos(nanos));
             }
-            let deed = numbers.below(16);
+            let deed = numbers.below(20);
             if deed < LOGS {
                 logged = logged.wrapping_add(1);
             }
-            self.makes(deed, numbers.below(self.bars.len()), step)?;
+            let pick = numbers.below(self.bars.len().saturating_sub(1));
+            self.makes(deed, pick, step)?;
         }
         Ok(logged)
     }
 
-    /// Makes the call of this number below 16, of a bar that another number picks.
+    /// Makes the call of this number below 20, of a bar that another number picks.
     fn makes(&self, deed: usize, pick: usize, step: u64) -> Result<(), Refusal> {
         let Some(bar) = self.bars.get(pick) else {
             return Ok(());
@@ -67,6 +70,9 @@ impl<R: Plays> Player<'_, R> {
             3 => bar.disable_steady_tick(),
             11 => self.comes_and_goes(),
             12 => self.in_and_out(),
+            15 => self.tosses(),
+            16 => self.board.set_alignment(MultiProgressAlignment::Bottom),
+            17 => self.board.set_alignment(MultiProgressAlignment::Top),
             _ => {
                 self.draws(deed, bar, step)?;
                 Ok(())
@@ -91,6 +97,7 @@ impl<R: Plays> Player<'_, R> {
                 pos: Some(state.pos().wrapping_add(1)),
                 len: None,
             }),
+            18 => bar.force_draw(),
             _ => bar.inc(1),
         }
     }
@@ -120,5 +127,17 @@ impl<R: Plays> Player<'_, R> {
         let bar = self.board.insert(1, self.another()?)?;
         bar.tick()?;
         self.board.remove(&bar)
+    }
+
+    /// A bar that all threads have is taken out, told something while it stands alone, and taken in before all others. (No line is logged
+    /// by it: one that is logged meanwhile goes to no board.)
+    fn tosses(&self) -> Result<(), Refusal> {
+        let Some(bar) = self.bars.last() else {
+            return Ok(());
+        };
+        self.board.remove(bar)?;
+        bar.inc(1)?;
+        self.board.insert(0, bar.clone()?)?;
+        Ok(())
     }
 }
