@@ -5,6 +5,7 @@ usage: tools/pages.py [--write]   (at the root of the repository)
 
 - Each row of a table of docs/TEMPLATES.md is one row of crates/rows/data/templates_page.txt, which `crates/rows` plays. Each key of
   crates/indicatif_bar/specs/Keys.antt has a row there, and each word of crates/indicatif_text/specs/StyleWords.antt stands on the page.
+- Each file of rows is played: the arguments of crates/rows and crates/front_rows name all files of their `data`.
 - The README's program is that of crates/code_tests/src/readme.rt, but for `#[test]`.
 - Each call, clause, law and file that a table of docs/PROVED.md names is there; so are the edit and the callers of each row of its table
   of wrong bodies.
@@ -421,7 +422,7 @@ def stands_at(name, place):
     if place.endswith(".txt"):
         files = (pathlib.Path(f"crates/{player}/data/{place}") for player in ("rows", "front_rows"))
         return any(re.search(rf"^# {name}\b", read(file), re.M) for file in files if file.is_file())
-    return re.search(rf"\bfn {name}\b", read(f"crates/code_tests/src/{place}.rt"))
+    return re.search(rf"#\[test\]\s*fn {name}\b", read(f"crates/code_tests/src/{place}.rt"))
 
 
 def faults_of_carried(page):
@@ -833,6 +834,13 @@ def faults_of_examples():
                     yield f"{path}: this example stands in no code that runs: {block[0]}"
 
 
+def faults_of_players():
+    for player in ("rows", "front_rows"):
+        there = {it.name for it in pathlib.Path(f"crates/{player}/data").glob("*.txt")}
+        for name in sorted(there ^ set(read(f"crates/{player}/args").split())):
+            yield f"crates/{player}: {name} isn't both in data and in args"
+
+
 def main():
     rows = HEAD + "".join(row(*it) + "\n" for it in tables(PAGE.read_text(encoding="utf-8")))
     if "--write" in sys.argv[1:]:
@@ -850,6 +858,7 @@ def main():
     if len(texts[0].splitlines()) > 90:
         faults.append("README.md has more than 90 lines")
     faults += faults_of_templates()
+    faults += faults_of_players()
     faults += faults_of_proved()
     faults += faults_of_bodies()
     faults += faults_of_refused()

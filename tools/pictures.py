@@ -6,12 +6,12 @@ usage: tools/pictures.py   (by .ci/run, behind `rt ci`)
 A picture's command is run in a shell behind a pseudo terminal of the picture's size. The program `rows` tells what cells show of the bytes
 that come from there. All rows have to be the picture's, with the shell's `$` where the cursor is at the end; and what a program writes before
 it sleeps has to come before what it writes behind that. So a wrong call of a type that hands calls on to standard error, whose bytes no
-contract tells, is noticed, but for calls that no bar makes. tools/gallery.sh does the same in tmux, by hand, for all pictures, and at each
-moment.
+contract tells, is noticed, but for calls that no bar makes. A program with coloured bars is also run in four environments: colours have to
+come unless these say no. tools/gallery.sh compares all pictures in tmux, by hand, and at each moment.
 
 The programs are those that `rt ci` has built, or those in the folder $PROGRAMS. Four pictures are passed over: two that have a `~`, one that
-is taken before the end, and that of `readme`, which isn't a program of this repository. The exit status is 1 if a picture differs, or if a
-command is stopped or crashes. A machine without pseudo terminals says so, and the status is 0.
+is taken before the end, and that of `readme`, which isn't a program of this repository. The exit status is 1 if a picture differs, if
+colours come or don't against the environment, or if a command is stopped or crashes. A machine without pseudo terminals says so, and the status is 0.
 """
 import concurrent.futures
 import fcntl
@@ -44,6 +44,8 @@ COLOURED = "examples ported"
 ASKED = [({}, True), ({"NO_COLOR": "1"}, False), ({"CLICOLOR": "0"}, False), ({"NO_COLOR": "1", "CLICOLOR_FORCE": "1"}, True)]
 COLOUR_NAMES = {"NO_COLOR", "CLICOLOR", "CLICOLOR_FORCE"}
 CYAN, ANY_COLOUR = b"\x1b[36m", re.compile(rb"\x1b\[[\d;]*m")
+# what its bars show in any case
+IN_ANY_COLOUR = b"22.05 MiB"
 # DEC's private modes, as `meter` switches the terminal's wrap off and on: cells show them
 MODES = re.compile(rb"\x1b\[\?\d+[hl]")
 
@@ -128,12 +130,14 @@ def shown(pictures, runs):
 
 
 def wrongly_coloured(picture, folder):
-    """The environments by which the program's bars have no colours though they should, or have some though they shouldn't."""
+    """The environments in which the program's bars have no colours though they should, or have some though they shouldn't, and why."""
     wrong = []
     for asked, are_wanted in ASKED:
-        written = Run(picture, folder, asked).bytes
-        if not (CYAN in written if are_wanted else not ANY_COLOUR.search(written)):
-            wrong.append(asked)
+        run = Run(picture, folder, asked)
+        if run.fault or IN_ANY_COLOUR not in run.bytes:
+            wrong.append((asked, run.fault or "no bar is shown"))
+        elif not (CYAN in run.bytes if are_wanted else not ANY_COLOUR.search(run.bytes)):
+            wrong.append((asked, "no colours" if are_wanted else "colours"))
     return wrong
 
 
@@ -159,13 +163,13 @@ def main():
             os.symlink(built(program), folder / program)
         (folder / "disk.iso").write_bytes(bytes(3 << 20))
         with concurrent.futures.ThreadPoolExecutor(4) as pool:
-            coloured = next(it for it in found if it.command == COLOURED)
+            coloured = next((it for it in found if it.command == COLOURED), None) or sys.exit(f"no picture of {COLOURED}")
             wrong = pool.submit(wrongly_coloured, coloured, folder)
             runs = list(pool.map(lambda it: Run(it, folder), pictures))
             wrong = wrong.result()
     got = shown(pictures, runs)
-    for asked in wrong:
-        print(f"{COLOURED}: colours come or don't against what the environment asks: {asked}")
+    for asked, why in wrong:
+        print(f"{COLOURED} where the environment has {asked}: {why}")
     differ = 0
     for picture, run, rows in zip(pictures, runs, got, strict=True):
         if run.fault or rows != picture.shown:
