@@ -13,7 +13,7 @@ use std::alloc::Global;
 use std::marker::Model;
 
 /// What stands in a cell.
-#[derive(Clone, Copy, Debug, Drop)]
+#[derive(Clone, Copy, Drop)]
 enum CellKind {
     /// Nothing.
     Empty,
@@ -26,7 +26,7 @@ enum CellKind {
 }
 
 /// A cell of a row. Contracts see the place of its last mark in the place of its marks.
-#[derive(Debug, Drop)]
+#[derive(Drop)]
 pub(crate) struct Cell {
     kind: CellKind,
 }

@@ -13,6 +13,7 @@ use crate::in_memory::scanner::{Scanner, WholeSequence};
 use crate::in_memory::whole_char::{WholeChar, whole_char_of};
 use indicatif_text::columns::Refusal;
 use std::alloc::Global;
+use std::fmt::{self, Debug, Formatter};
 use std::marker::Model;
 
 /// A terminal of cells, which is fed bytes: UTF-8 first, escape sequences (ECMA-48) next. What can't be understood
@@ -26,10 +27,19 @@ use std::marker::Model;
 ///
 /// Memory grows with what is written: of a row the cells up to the last one that was written are kept. Rows that scroll
 /// away are kept too.
-#[derive(Debug, Drop)]
+#[derive(Drop)]
 pub struct Cells {
     grid: Grid,
     scanner: Scanner,
+}
+
+/// Programmers are shown where the cursor stands.
+impl Debug for Cells {
+    fn fmt<W: fmt::Write>(&self, f: &mut Formatter<W>) -> fmt::Result {
+        f.debug_struct("Cells")
+            .field("cursor", &self.cursor())
+            .finish_non_exhaustive()
+    }
 }
 
 impl Model for Cells {

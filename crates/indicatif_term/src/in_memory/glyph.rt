@@ -5,7 +5,7 @@ use std::alloc::Global;
 use std::marker::Model;
 
 /// A character, and the marks that are joined to it.
-#[derive(Debug, Drop)]
+#[derive(Drop)]
 pub(crate) struct Glyph {
     base: char,
     newest_first: Vec<char>,

@@ -40,7 +40,7 @@ pub(crate) enum Op {
 }
 
 /// The rows that scrolled away, those of the window, and the cursor.
-#[derive(Debug, Drop)]
+#[derive(Drop)]
 pub(crate) struct Grid {
     alloc: Global,
     columns: u16,

@@ -5,7 +5,7 @@ ghost use Rattle.unicode_width.specs.Width.{char_width};
 use unicode_width::UnicodeWidthChar;
 
 /// A character and its columns; none where it has no width.
-#[derive(Debug, Drop)]
+#[derive(Drop)]
 pub(crate) struct KnownWidth {
     of: char,
     columns: Option<usize>,

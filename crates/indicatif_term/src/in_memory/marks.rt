@@ -8,7 +8,7 @@ use std::alloc::Global;
 
 /// A mark, and the place of the one that was joined to the same character before it: counted from 1, and 0 where there
 /// is none.
-#[derive(Clone, Copy, Debug, Drop)]
+#[derive(Clone, Copy, Drop)]
 pub(crate) struct CombiningMark {
     character: char,
     before: u32,

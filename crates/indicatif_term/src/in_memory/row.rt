@@ -18,7 +18,7 @@ use std::marker::Model;
 
 /// A row of cells, of which those up to the last one that was written are kept: a row that nothing was written into
 /// takes no memory of its own.
-#[derive(Debug, Drop)]
+#[derive(Drop)]
 pub(crate) struct Row {
     columns: u16,
     cells: Vec<Cell>,

@@ -11,7 +11,7 @@ use indicatif_text::columns::is_parameter;
 use std::marker::Model;
 
 /// Where in an escape sequence the next character stands.
-#[derive(Clone, Copy, Debug, Drop)]
+#[derive(Clone, Copy, Drop)]
 pub(crate) enum Stage {
     /// Outside.
     Outside,
@@ -187,7 +187,7 @@ pub(crate) struct Reading {
 }
 
 /// What was read of a character and of a sequence.
-#[derive(Debug, Drop)]
+#[derive(Drop)]
 pub(crate) struct Scanner {
     stage: Stage,
     spelling: Spelling,

@@ -7,7 +7,7 @@ use std::marker::Model;
 use std::str;
 
 /// At most four bytes, as many as a character has.
-#[derive(Debug, Drop)]
+#[derive(Drop)]
 pub(crate) struct Spelling {
     bytes: [u8; 4],
     len: usize,
