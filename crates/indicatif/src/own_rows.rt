@@ -24,7 +24,6 @@ use std::io;
 /// let term = OwnRows::new(Term::new(writer, 24, 79)); // for a terminal of 80 columns, or of any other number
 /// let target = ProgressDrawTarget::term(term, facts, 20, now)?;
 /// ```
-#[derive(Debug)]
 pub struct OwnRows<T> {
     term: T,
     ends: RowEnds,
@@ -47,8 +46,17 @@ impl<T: Drop> Drop for OwnRows<T> {
     }
 }
 
+/// Programmers are shown the terminal.
+impl<T: Debug> Debug for OwnRows<T> {
+    fn fmt<W: fmt::Write>(&self, f: &mut Formatter<W>) -> fmt::Result {
+        f.debug_struct("OwnRows")
+            .field("term", &self.term)
+            .finish_non_exhaustive()
+    }
+}
+
 /// Who ends a row that is full.
-#[derive(Clone, Copy, Debug, Drop, PartialEq, Eq)]
+#[derive(Clone, Copy, Drop, PartialEq, Eq)]
 enum RowEnds {
     /// The program.
     ByProgram,
@@ -57,7 +65,7 @@ enum RowEnds {
 }
 
 /// Where the cursor is.
-#[derive(Clone, Copy, Debug, Drop, PartialEq, Eq)]
+#[derive(Clone, Copy, Drop, PartialEq, Eq)]
 enum Place {
     /// Within a drawing, at its column; the wrap is off.
     Drawing,

@@ -79,14 +79,14 @@ impl Rate {
 }
 
 /// So many steps were made by a moment.
-#[derive(Clone, Copy, Debug, Drop)]
+#[derive(Clone, Copy, Drop)]
 pub struct Sample {
     steps: u64,
     moment: Moment,
 }
 
 /// The two samples that a rate is read from: where its count began, and where it stands.
-#[derive(Clone, Copy, Debug, Drop)]
+#[derive(Clone, Copy, Drop)]
 pub struct Samples {
     base: Sample,
     last: Sample,

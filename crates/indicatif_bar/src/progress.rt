@@ -13,11 +13,12 @@ pub use crate::measures::{Fraction, Rate};
 use crate::tabbed_text::TabbedText;
 use indicatif_text::columns::{Moment, Refusal};
 use std::alloc::Global;
+use std::fmt::{self, Debug, Formatter};
 use std::marker::Model;
 use std::mem::replace;
 
 /// Whether a bar goes on, or how it was finished.
-#[derive(Clone, Copy, Debug, Drop)]
+#[derive(Clone, Copy, Drop)]
 pub(crate) enum Status {
     /// It goes on.
     InProgress,
@@ -37,7 +38,6 @@ pub(crate) enum Status {
 /// bar.set_position(3, 2_000_000_000); // it stood at 2
 /// let rate = bar.state().per_sec(2_000_000_000); // 1 step in 1,000,000,000 nanoseconds
 /// ```
-#[derive(Debug)]
 pub struct ProgressState {
     alloc: Global,
     position: u64,
@@ -70,6 +70,16 @@ impl Drop for ProgressState {
             spare: _,
             tab: _,
         } = self;
+    }
+}
+
+/// Programmers are shown the position and the length.
+impl Debug for ProgressState {
+    fn fmt<W: fmt::Write>(&self, f: &mut Formatter<W>) -> fmt::Result {
+        f.debug_struct("ProgressState")
+            .field("position", &self.position)
+            .field("len", &self.len)
+            .finish_non_exhaustive()
     }
 }
 

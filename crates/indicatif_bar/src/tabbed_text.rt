@@ -9,7 +9,7 @@ use std::marker::Model;
 
 /// A text and the width of its tabs. What it is with so many spaces for each tab is at hand; a text without tabs is kept
 /// once.
-#[derive(Debug, Drop)]
+#[derive(Drop)]
 pub(crate) struct TabbedText {
     text: String,
     has_tabs: bool,
