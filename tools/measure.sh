@@ -1,12 +1,12 @@
 #!/usr/bin/env bash
-# Counts the instructions and the allocations of each measurement of `fuzz measure`, which unlike times don't depend on the machine's
+# Counts the instructions and the allocations of each measurement (tools/measure), which unlike times don't depend on the machine's
 # load: what a run of 2 N operations has more than one of N, divided by N.
 #
 # usage: tools/measure.sh PROGRAM [WORD ..] [-- NAME ..]
-#   PROGRAM WORD ..  what measures by `PROGRAM WORD .. NAME N`: out/fuzz measure, or another program that knows the same names
+#   PROGRAM WORD ..  what measures by `PROGRAM WORD .. NAME N`: out/measure, or another program that knows the same names
 #   NAME             the measurements to make; all that the program knows if none is named
 #
-# It is run where the measurements' data lies (crates/fuzz/data), and installs Debian's package valgrind if there is none.
+# It is run where the measurements' data lies (tools/measure/data, or its copy), and installs Debian's package valgrind if there is none.
 set -eu
 [ $# -ge 1 ] || { sed -n '5,7s/^# //p' "$0" >&2; exit 2; }
 program=()

@@ -508,7 +508,8 @@ def words_of_sources():
     for pattern in ("*/src/**/*.rt", "*/specs/**/*.antt", "*/proofs/*.antt", "*/data/*.txt"):
         for path in pathlib.Path("crates").glob(pattern):
             found |= {path.stem, *re.findall(r"\w+", path.read_text(encoding="utf-8", errors="replace"))}
-    for path in [*filter(pathlib.Path.is_file, pathlib.Path("tools").iterdir()), pathlib.Path("crates.txt")]:
+    tools = [*filter(pathlib.Path.is_file, pathlib.Path("tools").iterdir()), *pathlib.Path("tools/measure").rglob("*.in")]
+    for path in [*tools, pathlib.Path("crates.txt")]:
         found |= set(re.findall(r"\w+", read(path)))
     found |= {path.stem for path in pathlib.Path("tools/edits").glob("*/*.edit")}
     return found

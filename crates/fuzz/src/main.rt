@@ -1,13 +1,12 @@
-//! Random input, and laws that have to hold whatever it is; terminals that fail; the engine beside one that writes whole frames; and
-//! measurements.
+//! Random input, and laws that have to hold whatever it is; terminals that fail; and the engine beside one that writes whole frames.
 //!
 //! `fuzz laws SEED BYTES TEMPLATES LONE BOARD THREADS [STEPS]` feeds so many random bytes to cell terminals, reads so many random templates,
 //! and plays so many random lists of calls: of a lone bar, of a board, and of a board in four threads with random delays, each of which
 //! makes so many calls, 8 where none are said. It prints how many runs of each kind there were and how many broke a law; of the first of
 //! these its number and the law. The same seed gives the same bytes, templates and lists. The exit status is 1 where a law was broken.
 //!
-//! `fuzz sweeps ..`, `fuzz whole_frames ..` and `fuzz measure ..` do what the modules of these names say. `fuzz SEED BYTES ..`, with the
-//! numbers alone, plays random input, then the sweeps, and compares the engines last.
+//! `fuzz sweeps ..` and `fuzz whole_frames ..` do what the modules of these names say. `fuzz SEED BYTES ..`, with the numbers alone, plays
+//! random input, then the sweeps, and compares the engines last.
 //!
 //! - `numbers`: random numbers. `law`: what has to hold. `texts`, `calls`: random texts and calls.
 //! - `cells`: bytes. `templates`: templates and styles.
@@ -15,7 +14,6 @@
 //! - `threads`: a shared board that keeps its history. `player`: what a thread does.
 //! - `tickers`: one bar's ticker, told on by one thread and off by another, 200 times each; both have to end.
 //! - `sweeps`: terminals that fail, at each place where they can. `whole_frames`: engines beside one that writes whole frames.
-//! - `measure`: how long calls take.
 #![tactic(auto)]
 
 mod board_lists;
@@ -23,7 +21,6 @@ mod calls;
 mod cells;
 mod law;
 mod lone_lists;
-mod measure;
 mod numbers;
 mod player;
 mod setting;
@@ -66,8 +63,6 @@ enum Asked {
     Laws(Counts),
     Sweeps(sweeps::Asked),
     WholeFrames(whole_frames::Asked),
-    /// The measurement that the words behind `measure` name.
-    Measurement,
 }
 
 /// The numbers behind so many words.
@@ -87,7 +82,7 @@ fn counts_behind<R: AllocGlobal + Env>(rt: &R, passed: usize) -> Result<Counts> 
             steps: rest.first().copied().unwrap_or(STEPS),
         }),
         _ => Err(anyhow!(
-            "usage: fuzz [laws] SEED BYTES TEMPLATES LONE BOARD THREADS [STEPS] | sweeps .. | whole_frames .. | measure NAME N"
+            "usage: fuzz [laws] SEED BYTES TEMPLATES LONE BOARD THREADS [STEPS] | sweeps .. | whole_frames .."
         )),
     }
 }
@@ -103,7 +98,6 @@ fn request<R: AllocGlobal + Env>(rt: &R) -> Result<Asked> {
         Some("laws") => Asked::Laws(counts_behind(rt, 2)?),
         Some("sweeps") => Asked::Sweeps(sweeps::request(words)),
         Some("whole_frames") => Asked::WholeFrames(whole_frames::request(words)),
-        Some("measure") => Asked::Measurement,
         _ => Asked::All(counts_behind(rt, 1)?),
     })
 }
@@ -192,7 +186,6 @@ fn main(rt: HostRuntime) -> Result<ExitCode> {
         Asked::Laws(_) => Ok(()),
         Asked::Sweeps(asked) => sweeps::run(&rt, asked),
         Asked::WholeFrames(asked) => whole_frames::run(&rt, asked),
-        Asked::Measurement => measure::run(&rt, &rt),
         Asked::All(_) => {
             sweeps::run(&rt, sweeps::USUAL)?;
             whole_frames::run(&rt, whole_frames::USUAL)

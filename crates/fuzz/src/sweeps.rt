@@ -18,7 +18,6 @@ mod planted;
 mod printing;
 pub mod sweep;
 
-use crate::measure::of_name;
 use crate::sweeps::kinds::{KINDS, Kind};
 use crate::sweeps::memory::{PLAYED, Played, Playing, ROOM};
 use crate::sweeps::planted::PLANTED;
@@ -115,6 +114,16 @@ pub fn text_of(word: &Option<String>) -> Option<&str> {
     }
 }
 
+/// The script of this name.
+fn script_of(name: &str) -> Option<Played> {
+    for (known, played) in PLAYED {
+        if *known == name {
+            return Some(*played);
+        }
+    }
+    None
+}
+
 /// What the words behind `sweeps` ask for; the size is the largest where none is spelled. It takes no memory, so that
 /// `tools/refusals.sh` refuses it none.
 pub fn request(mut words: Args) -> Asked {
@@ -141,7 +150,7 @@ pub fn request(mut words: Args) -> Asked {
         None => USUAL,
         Some("count") => Asked::Sweeps(Telling::Counts),
         Some("pairs") => Asked::Pairs,
-        Some("memory") => match of_name(PLAYED, text_of(&script).unwrap_or("")) {
+        Some("memory") => match script_of(text_of(&script).unwrap_or("")) {
             Some(played) => Asked::Memory(played, playing, telling),
             None => Asked::Nothing,
         },

@@ -6,6 +6,7 @@ ghost use Rattle.indicatif.specs.OwnRows.{quiet, Quietly, new_rows};
 
 use indicatif_term::term_like::{Resize, TermLike};
 use indicatif_text::columns::{Piece, Refusal, columns, pieces, width};
+use std::fmt::{self, Debug, Formatter};
 use std::io;
 
 /// A terminal of which nobody knows how wide it is: no drawing on it erases a row that isn't the bars' own, whatever was told.
