@@ -5,7 +5,7 @@ usage: tools/pages.py [--write]   (at the root of the repository)
 
 - Each row of a table of docs/TEMPLATES.md is one row of crates/rows/data/templates_page.txt, which `crates/rows` plays. Each key of
   crates/indicatif_bar/specs/Keys.antt has a row there, and each word of crates/indicatif_text/specs/StyleWords.antt stands on the page.
-- Each file of rows is played: the arguments of crates/rows and crates/front_rows name all files of their `data`.
+- Each file of rows is played: the arguments of crates/rows name all files of its `data`.
 - The README's program is that of crates/code_tests/src/readme.rt, but for `#[test]`.
 - Each call, clause, law and file that a table of docs/PROVED.md names is there; so are the edit and the callers of each row of its table
   of wrong bodies.
@@ -174,7 +174,7 @@ def clauses_of(found, owner, name, whole):
 def is_file(name):
     return any(
         pathlib.Path(folder, name).is_file()
-        for folder in (".", "crates", "crates/rows/data", "crates/front_rows/data")
+        for folder in (".", "crates", "crates/rows/data", "crates/rows/data/front")
     )
 
 
@@ -420,7 +420,7 @@ def faults_of_values(page, rows):
 def stands_at(name, place):
     """Whether a test stands in a file of rows, below its name, or in a module of code_tests."""
     if place.endswith(".txt"):
-        files = (pathlib.Path(f"crates/{player}/data/{place}") for player in ("rows", "front_rows"))
+        files = (pathlib.Path(folder, place) for folder in ("crates/rows/data", "crates/rows/data/front"))
         return any(re.search(rf"^# {name}\b", read(file), re.M) for file in files if file.is_file())
     return re.search(rf"#\[test\]\s*fn {name}\b", read(f"crates/code_tests/src/{place}.rt"))
 
@@ -495,17 +495,18 @@ def faults_of_names():
                 yield f"{path}: no file {word}"
 
 
-# Names of the Rust crate, of its tests that are left out, and of others.
+# Names of the Rust crate, of its tests that are left out, of a crate that `rows` took in, and of others.
 FOREIGN = set(
     """WithStyle WithElapsed read_vectored write_vectored AsRef contents_formatted on_bright on_123 blink_fast AsyncSeek AsyncBufRead
-    par_iter FROM_RUST Grapheme_Extend clock_gettime is_stderr_for_multi test_duration_stuff human_float_count_negative""".split()
+    par_iter FROM_RUST Grapheme_Extend clock_gettime is_stderr_for_multi test_duration_stuff human_float_count_negative
+    front_rows""".split()
 )
 
 
 def words_of_sources():
     """The words of sources, data and tools, and the names of their files."""
     found = set()
-    for pattern in ("*/src/**/*.rt", "*/specs/**/*.antt", "*/proofs/*.antt", "*/data/*.txt"):
+    for pattern in ("*/src/**/*.rt", "*/specs/**/*.antt", "*/proofs/*.antt", "*/data/**/*.txt"):
         for path in pathlib.Path("crates").glob(pattern):
             found |= {path.stem, *re.findall(r"\w+", path.read_text(encoding="utf-8", errors="replace"))}
     tools = [*filter(pathlib.Path.is_file, pathlib.Path("tools").iterdir()), *pathlib.Path("tools/measure").rglob("*.in")]
@@ -661,11 +662,10 @@ def is_defined(block, specs):
 
 def results():
     """What rows give, each as lines."""
-    for pattern in ("rows/data/*.txt", "front_rows/data/*.txt"):
-        for path in sorted(pathlib.Path("crates").glob(pattern)):
-            for line in path.read_text(encoding="utf-8").splitlines():
-                if line.endswith("\\n") and " -> " in line:
-                    yield bare(line.rpartition(" -> ")[2].replace("\\s", " ").split("\\n"), False)
+    for path in sorted(pathlib.Path("crates/rows/data").glob("**/*.txt")):
+        for line in path.read_text(encoding="utf-8").splitlines():
+            if line.endswith("\\n") and " -> " in line:
+                yield bare(line.rpartition(" -> ")[2].replace("\\s", " ").split("\\n"), False)
 
 
 # The first words of a line of commands. One that ends with `{`, `(`, `,` or `;` is code all the same.
@@ -694,7 +694,7 @@ class Sources:
         self.code.append(bare(["#![tactic(auto)]", *program(read(README), README_HEAD)], True))
         self.spaceless = [without_space("\n".join(it)) for it in self.code]
         self.specs = sources(["*/specs/**/*.antt"], False)
-        self.shown = sources(["*/stdout", "*rows/data/*.txt"], False)
+        self.shown = sources(["*/stdout", "rows/data/**/*.txt"], False)
         self.results = list(results())
         self.crates = [bare(read("crates.txt").splitlines(), False)]
         self.program = read("crates/rows/data/program.txt").splitlines()
@@ -836,10 +836,10 @@ def faults_of_examples():
 
 
 def faults_of_players():
-    for player in ("rows", "front_rows"):
-        there = {it.name for it in pathlib.Path(f"crates/{player}/data").glob("*.txt")}
-        for name in sorted(there ^ set(read(f"crates/{player}/args").split())):
-            yield f"crates/{player}: {name} isn't both in data and in args"
+    data = pathlib.Path("crates/rows/data")
+    there = {it.relative_to(data).as_posix() for it in data.glob("**/*.txt")}
+    for name in sorted(there ^ set(read("crates/rows/args").split())):
+        yield f"crates/rows: {name} isn't both in data and in args"
 
 
 def main():

@@ -3,7 +3,7 @@
 
 usage: tools/turned.py   (at the root of the repository)
 
-In a copy of each file of rows (`data/` of the crates in PLAYED) the last value is turned: `~` is put behind it. `rt try` plays the
+In a copy of each file of rows (`crates/rows/data`) the last value is turned: `~` is put behind it. `rt try` plays the
 copies. Each file has to count one row that failed, and to print that row. The exit status is 1 where one doesn't.
 """
 import pathlib
@@ -12,7 +12,7 @@ import subprocess
 import sys
 import tempfile
 
-PLAYED = ("rows", "front_rows")
+DATA = pathlib.Path("crates/rows/data")
 
 
 def turned(text):
@@ -31,29 +31,31 @@ def told(name, row):
     return f"{name}, line {line}: {steps}\n  wanted {wanted}\n  got {got}\n"
 
 
-def unnamed(crate):
-    """The files of a crate of which a turned value isn't named."""
-    files = sorted(pathlib.Path("crates", crate, "data").glob("*.txt"))
+def unnamed():
+    """The files of which a turned value isn't named."""
+    files = sorted(DATA.glob("**/*.txt"))
     rows = {}
     with tempfile.TemporaryDirectory() as room:
         words = ["rt", "try"]
         for file in files:
-            text, rows[file.name] = turned(file.read_text(encoding="utf-8"))
-            copy = pathlib.Path(room, file.name)
+            name = file.relative_to(DATA).as_posix()
+            text, rows[name] = turned(file.read_text(encoding="utf-8"))
+            copy = pathlib.Path(room, name)
+            copy.parent.mkdir(exist_ok=True)
             copy.write_text(text, encoding="utf-8")
-            words += ["--data", f"{file.name}={copy}"]
+            words += ["--data", f"{name}={copy}"]
         words += ["--", *rows]
-        ran = subprocess.run(words, cwd=f"crates/{crate}", stdout=subprocess.PIPE, stderr=subprocess.STDOUT)
+        ran = subprocess.run(words, cwd=DATA.parent, stdout=subprocess.PIPE, stderr=subprocess.STDOUT)
     said = ran.stdout.decode(errors="replace")
     if " passed, " not in said:
-        sys.exit(f"{crate} wasn't played: {said[-600:]}")
+        sys.exit(f"the rows weren't played: {said[-600:]}")
     for name, row in rows.items():
         if told(name, row) not in said or not re.search(rf"^{re.escape(name)}: \d+ passed, 1 failed$", said, re.M):
-            yield f"{crate}/data/{name}, line {row[0]}"
+            yield f"{DATA}/{name}, line {row[0]}"
 
 
 def main():
-    lost = [name for crate in PLAYED for name in unnamed(crate)]
+    lost = list(unnamed())
     print("\n".join([*lost, f"{len(lost)} files in which a turned value isn't named"]))
     sys.exit(1 if lost else 0)
 

@@ -1,5 +1,5 @@
-//! Tests that need code: they have trackers, closures, threads, terminals and types of their own. All other tests are rows of data (crates
-//! `rows` and `front_rows`). Expected values come from outside.
+//! Tests that need code: they have trackers, closures, threads, terminals and types of their own. All other tests are rows of data (crate
+//! `rows`). Expected values come from outside.
 //!
 //! Of the four lower libraries, and of what plays rows and scripts over them:
 //!

@@ -1,8 +1,11 @@
 //! Plays files of rows: `rows FILE ..`. Each row that differs is printed, with its file and its line, what was wanted and what came;
 //! then for each file how many rows agreed.
 //!
+//! Files in a folder `front` are played over crate `indicatif`, all others over the four libraries below it.
+//!
 //! The exit status is 1 if a row differed or there was none, and 2 where a file can't be read or standard output fails.
 //!
+//! - `front`: what is played over `indicatif`. All that follows is played over the libraries below it.
 //! - `world`: what is played on, and which module plays a step.
 //! - `lone`, `boards`: a lone bar and a board on a screen. `records`: a bar's record. `terminals`: a terminal before a screen.
 //! - `recorded`: a board that keeps its history. `outside`: what others write to a board's screen while it is suspended.
@@ -14,11 +17,22 @@
 //! - `styles`: styles and their builders. `lines`: lines of bars. `runs`: long texts, told by their runs.
 #![tactic(auto)]
 
+/// What is played on from now on, if it could be made: an `On` of the module where this stands.
+macro_rules! on {
+    ($kind:ident, $made:expr) => {
+        match $made {
+            Ok(world) => Ok(On::$kind(world)),
+            Err(bad) => Err(bad),
+        }
+    };
+}
+
 mod boards;
 mod cells;
 mod columns;
 mod engines;
 mod formats;
+mod front;
 mod limiters;
 mod lines;
 mod lone;
@@ -38,11 +52,16 @@ mod terminals;
 mod world;
 
 use anyhow::{Context, Result};
-use scripts::play::{Tally, play_file};
-use scripts::row::At;
-use std::env;
+use scripts::play::Tally;
+use std::env::{self, Env};
+use std::fs::Files;
+use std::io::BufReader;
 use std::process::ExitCode;
-use world::{On, Stage};
+use std::random::RandomSource;
+use std::sync::Wait;
+use std::thread::Threads;
+use std::time::Clock;
+use std::{fs, io};
 
 fn main(rt: HostRuntime) -> ExitCode {
     match play_all(rt) {
@@ -56,20 +75,51 @@ fn main(rt: HostRuntime) -> ExitCode {
 }
 
 /// Plays the files that the arguments name.
-fn play_all(rt: HostRuntime) -> Result<Tally> {
+fn play_all<
+    R: AllocGlobal
+        + Env
+        + Files
+        + Print
+        + RandomSource
+        + Wait
+        + Threads
+        + Clock
+        + Copy
+        + Clone
+        + Drop
+        + Send
+        + 'static,
+>(rt: R) -> Result<Tally> {
     let mut tally = Tally::default();
     for path in env::args(&rt)?.skip(1) {
-        tally = tally.and(play(&rt, path.as_str())?);
+        let played = play_file(&rt, path.as_str());
+        tally = tally.and(played.context(format_args!("{path}"))?);
     }
     Ok(tally)
 }
 
-/// Plays a file.
-fn play(rt: &HostRuntime, path: &str) -> Result<Tally> {
-    let alloc = rt.alloc();
-    let mut stage = Stage {
-        at: At { alloc, now: 0 },
-        on: On::Nothing,
+/// Plays the rows of a file on a new stage, prints each that differs, and last how many agreed.
+fn play_file<
+    R: AllocGlobal
+        + Files
+        + Print
+        + RandomSource
+        + Wait
+        + Threads
+        + Clock
+        + Copy
+        + Clone
+        + Drop
+        + Send
+        + 'static,
+>(rt: &R, path: &str) -> io::Result<Tally> {
+    let lines = BufReader::new(rt.alloc(), fs::open(rt, path)?)?;
+    let tally = if path.starts_with("front/") || path.contains("/front/") {
+        front::playing::play_on_new_stage(rt, path, lines)?
+    } else {
+        world::play_on_new_stage(rt, path, lines)?
     };
-    play_file(rt, path, &mut stage).context(format_args!("{path}"))
+    let Tally { passed, failed } = tally;
+    println!(rt; "{path}: {passed} passed, {failed} failed")?;
+    Ok(tally)
 }

@@ -8,13 +8,15 @@ use crate::{
 use indicatif_text::columns::Moment;
 use meter_parts::bytes_said;
 use scripts::got::{Bad, Got};
-use scripts::play::World;
+use scripts::play::{Tally, World, play_rows};
 use scripts::row::{At, headed, timed};
+use std::alloc::Global;
+use std::io::{self, BufRead};
 use std::mem::replace;
 
 /// What is played on.
 #[derive(Drop)]
-pub enum On {
+enum On {
     Nothing,
     Lone(Box<lone::OnScreen>),
     Record(records::Record),
@@ -55,16 +57,6 @@ fn asked(name: &str, rest: &str, at: At, got: &mut Got) -> bool {
         _ => return false,
     }
     true
-}
-
-/// What is played on from now on, if it could be made.
-macro_rules! on {
-    ($kind:ident, $made:expr) => {
-        match $made {
-            Ok(world) => Ok(On::$kind(world)),
-            Err(bad) => Err(bad),
-        }
-    };
 }
 
 /// The world that the step of this name begins.
@@ -119,9 +111,26 @@ impl On {
 
 /// What is played on, and the moment of the last step.
 #[derive(Drop)]
-pub struct Stage {
-    pub at: At,
-    pub on: On,
+struct Stage {
+    at: At,
+    on: On,
+}
+
+/// Plays the rows of what a reader gives on a new stage, and prints each that differs under this name.
+pub fn play_on_new_stage<R: Print + Alloc<A = Global>, L: BufRead + Drop>(
+    rt: &R,
+    path: &str,
+    lines: L,
+) -> io::Result<Tally> {
+    let at = At {
+        alloc: rt.alloc(),
+        now: 0,
+    };
+    let mut stage = Stage {
+        at,
+        on: On::Nothing,
+    };
+    play_rows(rt, path, lines, &mut stage)
 }
 
 impl Stage {

@@ -285,7 +285,8 @@ fn push_text(name: &str, text: &str, got: &mut Got) {
     got.text(text);
 }
 
-fn push_number(name: &str, number: u64, got: &mut Got) {
+/// Appends a name, and a number behind a space.
+pub fn push_number(name: &str, number: u64, got: &mut Got) {
     got.text(name);
     got.text(" ");
     got.number(number);

@@ -3,9 +3,7 @@ use crate::got::{Bad, Got};
 use crate::row::Row;
 use crate::spelling::{Escaped, unescaped};
 use std::alloc::Global;
-use std::fs::Files;
-use std::io::{BufRead, BufReader};
-use std::{fs, io};
+use std::io::{self, BufRead};
 
 /// What steps are played on.
 pub trait World {
@@ -134,19 +132,6 @@ pub fn is_wanted(alloc: Global, got: &Got, wanted: &str) -> bool {
         Ok(wanted) => !got.is_lost() && got.as_str() == wanted.as_str(),
         Err(_) => false,
     }
-}
-
-/// Plays the rows of a file on a world, prints each that differs, and last how many agreed.
-pub fn play_file<R: Files + Print + Alloc<A = Global>, W: World>(
-    rt: &R,
-    path: &str,
-    world: &mut W,
-) -> io::Result<Tally> {
-    let lines = BufReader::new(rt.alloc(), fs::open(rt, path)?)?;
-    let tally = play_rows(rt, path, lines, world)?;
-    let Tally { passed, failed } = tally;
-    println!(rt; "{path}: {passed} passed, {failed} failed")?;
-    Ok(tally)
 }
 
 /// Plays the rows of what a reader gives, and prints each that differs under this name.

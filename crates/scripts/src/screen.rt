@@ -110,20 +110,18 @@ impl Screen {
     }
 
     /// All rows, also those scrolled away.
-    fn picture(&self) -> Result<Vec<String>, Refusal> {
+    pub fn picture(&self) -> Result<Vec<String>, Refusal> {
         match self.cells.try_borrow() {
             Ok(cells) => cells.picture(),
             Err(_) => Err(Refusal::Memory),
         }
     }
 
-    /// Appends the row and the column of the cursor.
-    fn push_cursor(&self, got: &mut Got) {
-        if let Ok(cells) = self.cells.try_borrow() {
-            let (row, column) = cells.cursor();
-            got.number(row);
-            got.text(" ");
-            got.number(column);
+    /// The row and the column of the cursor.
+    pub fn cursor(&self) -> Option<(u16, u16)> {
+        match self.cells.try_borrow() {
+            Ok(cells) => Some(cells.cursor()),
+            Err(_) => None,
         }
     }
 
@@ -280,7 +278,13 @@ pub fn look_at(screen: &Screen, step: &str, at: At, got: &mut Got) -> bool {
         "shows" => got.text_of(screen.contents()),
         "picture" => got.rows_of(screen.picture()),
         "rows" => push_filled(screen.picture(), got),
-        "cursor" => screen.push_cursor(got),
+        "cursor" => {
+            if let Some((row, column)) = screen.cursor() {
+                got.number(row);
+                got.text(" ");
+                got.number(column);
+            }
+        }
         "written" => screen.push_written(got),
         "bytes" => got.number(screen.counts.get().bytes),
         "writes" => got.number(screen.counts.get().writes),

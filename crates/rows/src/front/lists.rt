@@ -2,7 +2,7 @@
 //!
 //! `list POSITION ITEMS`, the items parted by spaces, begins; `next`, `next_back`, `size` (the two bounds and the length), `last`,
 //! `stands`, `finished`, and `unwrap`, which gives where the bar stands that comes back.
-use crate::counted::Counted;
+use crate::front::counted::Counted;
 use indicatif::{ProgressBarIter, ProgressIterator};
 use scripts::got::{Bad, Got};
 use scripts::row::Words;

@@ -7,7 +7,7 @@
 //!   bar's own style with another template; `with_finish`: a call that finishes a bar.
 //!
 //! What answers with the bar counts as `limited`, since it draws nothing.
-use crate::bars::{Front, spinner};
+use crate::front::bars::{Front, spinner};
 use indicatif::{
     Change, Drawn, Move, Moves, NoTracker, ProgressFinish, ProgressState, ProgressStyle, Refusal,
 };

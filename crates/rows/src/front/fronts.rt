@@ -23,15 +23,15 @@
 //! - `shows`, `hidden`, `order`, `adds`: what is seen of the board; the calls that its history has gained since it was last asked.
 //!   `adds OWNER: CALL`: a call, and what it adds. Behind them stands `!answer` where the last of them is kept with another answer than
 //!   was given, and `!run` where a fresh board that makes all that were kept gives another answer or shows something else.
-use crate::bars::{
+use crate::front::bars::{
     Bar, Front, FrontBoard, Maker, Pace, Room, Shared, Target, Weak, contents, push_contents,
 };
-use crate::bytes::{Over, asks, passed_over};
-use crate::clock::{RowClock, moments_of};
-use crate::history::{Answered, Look, Question, shown};
-use crate::readings::read;
-use crate::scripted::script_of;
-use crate::tell::{Told, tell};
+use crate::front::bytes::{Over, asks, passed_over};
+use crate::front::clock::{RowClock, moments_of};
+use crate::front::history::{Answered, Look, Question, shown};
+use crate::front::readings::read;
+use crate::front::scripted::script_of;
+use crate::front::tell::{Told, tell};
 use indicatif::{Drawn, MultiProgressAlignment, ProgressBar, ProgressDrawTarget, Refusal};
 use scripts::got::{Bad, Got};
 use scripts::row::{Words, headed};

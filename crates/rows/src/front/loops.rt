@@ -4,10 +4,10 @@
 //! `style TEMPLATE`, or `made` (a bar of length 1 that was made before). Then `next`, `shows`, `last`, `pos`, `len`, `finished`, and what is
 //! said of the bar before it moves: `with_style TEMPLATE`, `with_prefix TEXT`, `with_message TEXT`, `with_position N`, `with_elapsed N`,
 //! `with_finish CALL`.
-use crate::bars::Room;
-use crate::clock::RowClock;
-use crate::fronts::room_of;
-use crate::lists::{items_of, push_item};
+use crate::front::bars::Room;
+use crate::front::clock::RowClock;
+use crate::front::fronts::room_of;
+use crate::front::lists::{items_of, push_item};
 use indicatif::{
     BarState, InMemoryTerm, LoneBar, NoTracker, OwnedBar, ProgressBarIter, ProgressFinish,
     ProgressIterator, ProgressStyle, Refusal, Setup,

@@ -1,5 +1,5 @@
 //! Polls of what is wrapped, by hand.
-use crate::bytes::{Wrapped, push_done, push_item, push_number, push_read};
+use crate::front::bytes::{Wrapped, push_done, push_item, push_number, push_read};
 use futures::stream::Stream;
 use futures::task::Poll;
 use futures::test::MockTask;

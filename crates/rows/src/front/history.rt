@@ -1,7 +1,7 @@
 //! What a board has kept: its order, its calls, and whether a fresh board that makes them gives the same answers and the same picture.
-use crate::bars::{FrontBoard, Room};
-use crate::entries::push_call;
-use crate::tell::Told;
+use crate::front::bars::{FrontBoard, Room};
+use crate::front::entries::push_call;
+use crate::front::tell::Told;
 use indicatif::{
     Answer, Board, Drawn, Entry, InMemoryTerm, NoTracker, RecordReader, Recorded, Refusal,
 };

@@ -1,7 +1,7 @@
 //! Calls of a board as rows spell them: a style by its last text, a new bar by its message.
 use indicatif::{BarId, Call, Candidate, InsertLocation, MultiProgressAlignment, NoTracker};
 use scripts::boards::BOARD_ID;
-use scripts::commands::push_command;
+use scripts::commands::{push_command, push_number};
 use scripts::got::Got;
 
 /// Appends a call.
@@ -40,12 +40,6 @@ fn push_about(id: BarId, name: &str, got: &mut Got) {
     push_id(id, got);
     got.text(": ");
     got.text(name);
-}
-
-fn push_number(name: &str, number: u64, got: &mut Got) {
-    got.text(name);
-    got.text(" ");
-    got.number(number);
 }
 
 fn push_insertion(at: InsertLocation, candidate: &Candidate<NoTracker>, got: &mut Got) {

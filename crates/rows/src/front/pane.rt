@@ -1,18 +1,19 @@
-//! A terminal whose wrap can be turned off and on: cells, and DEC's private mode 7 before them (ESC `[?7l`, ESC `[?7h`).
+//! A terminal whose wrap can be turned off and on: a screen, and DEC's private mode 7 before it (ESC `[?7l`, ESC `[?7h`).
 //!
 //! With the wrap off a character on the last column leaves the cursor there, so that the next one takes its place; one of two columns
 //! that would begin there is passed over. So does tmux.
-use indicatif::{Cells, Refusal, width};
+use indicatif::{Refusal, width};
+use scripts::screen::Screen;
 use std::alloc::Global;
-use std::cell::{Cell, RefCell};
+use std::cell::Cell;
 use std::io::{self, Error, ErrorKind, Write};
 use std::rc::Rc;
 use std::str;
 
-/// The cells, whether a full row goes on on the next one, and which write fails.
+/// The screen, whether a full row goes on on the next one, and which write fails.
 #[derive(Drop)]
 pub struct Pane {
-    cells: RefCell<Cells>,
+    pub screen: Rc<Screen>,
     columns: Cell<u16>,
     pub wraps: Cell<bool>,
     /// How many writes from now on the one is that fails; none where it is 0.
@@ -23,7 +24,7 @@ impl Pane {
     /// An empty one of this size, which wraps.
     pub fn new(alloc: Global, rows: u16, columns: u16) -> Result<Rc<Pane>, Refusal> {
         let pane = Pane {
-            cells: RefCell::new(Cells::new(alloc, rows, columns)?),
+            screen: Screen::new(alloc, rows, columns)?,
             columns: Cell::new(columns),
             wraps: Cell::new(true),
             fails: Cell::new(0),
@@ -33,20 +34,9 @@ impl Pane {
 
     /// Gets another size.
     pub fn resize(&self, rows: u16, columns: u16) -> Result<(), Refusal> {
-        let Ok(mut cells) = self.cells.try_borrow_mut() else {
-            return Err(Refusal::Memory);
-        };
-        cells.resize(rows, columns)?;
+        self.screen.resize(rows, columns)?;
         self.columns.set(columns);
         Ok(())
-    }
-
-    /// The rows, also those scrolled away.
-    pub fn picture(&self) -> Result<Vec<String>, Refusal> {
-        match self.cells.try_borrow() {
-            Ok(cells) => cells.picture(),
-            Err(_) => Err(Refusal::Memory),
-        }
     }
 
     /// Shows a text.
@@ -90,9 +80,9 @@ impl Pane {
 
     /// The column of the cursor, and whether it stands behind a full row.
     fn column(&self) -> u16 {
-        match self.cells.try_borrow() {
-            Ok(cells) => cells.cursor().1,
-            Err(_) => 0,
+        match self.screen.cursor() {
+            Some((_, column)) => column,
+            None => 0,
         }
     }
 
@@ -115,24 +105,14 @@ impl Pane {
         if self.column() < self.columns.get() {
             return Ok(());
         }
-        self.feed_bytes(b"\x1b[1D")
+        self.screen.feed(b"\x1b[1D")
     }
 
-    /// Hands a character to the cells.
+    /// Hands a character to the screen.
     fn feed(&self, c: char) -> io::Result<()> {
         let mut bytes = [0u8; 4];
         let text = c.encode_utf8(&mut bytes);
-        self.feed_bytes(text.as_bytes())
-    }
-
-    fn feed_bytes(&self, bytes: &[u8]) -> io::Result<()> {
-        let Ok(mut cells) = self.cells.try_borrow_mut() else {
-            return Err(Error::from(ErrorKind::OutOfMemory));
-        };
-        match cells.feed(bytes) {
-            Ok(()) => Ok(()),
-            Err(_) => Err(Error::from(ErrorKind::OutOfMemory)),
-        }
+        self.screen.feed(text.as_bytes())
     }
 }
 

@@ -1,13 +1,13 @@
 //! What steps are played on, and which module plays a step. A new kind of world is a module, a variant of `On`, and a line each in
 //! `begun` and `step`; a question that needs no world is a module and a line in `play`.
-use crate::beside::Pair;
-use crate::bytes::{self, OverCounted};
-use crate::fronts::World;
-use crate::lists::{self, List};
-use crate::loops::Looped;
-use crate::on_pane::OnPane;
-use crate::places::Places;
-use crate::{beside, environment, fronts, loops, on_pane, places};
+use crate::front::beside::Pair;
+use crate::front::bytes::{self, OverCounted};
+use crate::front::fronts::World;
+use crate::front::lists::{self, List};
+use crate::front::loops::Looped;
+use crate::front::on_pane::OnPane;
+use crate::front::places::Places;
+use crate::front::{beside, environment, fronts, loops, on_pane, places};
 use scripts::got::{Bad, Got};
 use scripts::row::headed;
 use std::alloc::Global;
@@ -35,16 +35,6 @@ pub struct Stage<R: Wait + Copy + Clone + Drop> {
     pub rt: R,
     pub alloc: Global,
     pub on: On<R>,
-}
-
-/// What is played on from now on, if it could be made.
-macro_rules! on {
-    ($kind:ident, $made:expr) => {
-        match $made {
-            Ok(world) => Ok(On::$kind(world)),
-            Err(bad) => Err(bad),
-        }
-    };
 }
 
 impl<R: AllocGlobal + RandomSource + Wait + Copy + Clone + Drop> Stage<R> {

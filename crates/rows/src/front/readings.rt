@@ -1,7 +1,7 @@
 //! What a bar tells of itself: `shows`, `message`, `prefix`, `pos`, `len`, `ticks`, `finished`, `hidden`, `tab_width`, `eta`, `duration`,
 //! `elapsed`; `per_sec`, steps and the nanoseconds in which they came; `changed_style`, the last text of a style that was made of the
 //! bar's; and `readings`, all that is only read.
-use crate::bars::{Front, Weak, contents, push_contents};
+use crate::front::bars::{Front, Weak, contents, push_contents};
 use indicatif::{NoTracker, ProgressStyle, Refusal};
 use scripts::got::{Bad, Got};
 use scripts::lone::push_rate;

@@ -1,5 +1,5 @@
 //! Bars and boards that are shared, on terminals in memory, and how they are made.
-use crate::clock::RowClock;
+use crate::front::clock::RowClock;
 use indicatif::{
     InMemoryTerm, Moment, MultiProgress, NoTracker, ProgressBar, ProgressDrawTarget, ProgressStyle,
     Refusal, Setup, WeakProgressBar,

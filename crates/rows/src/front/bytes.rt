@@ -11,9 +11,9 @@
 //!   there, by no move.
 //!
 //! A failure is spelled as in `scripted`.
-use crate::counted::Counted;
-use crate::polls::{Asked, poll};
-use crate::scripted::{Scripted, kind_name, script_of};
+use crate::front::counted::Counted;
+use crate::front::polls::{Asked, poll};
+use crate::front::scripted::{Scripted, kind_name, script_of};
 use futures::test::MockTask;
 use indicatif::{Moves, ProgressBarIter};
 use scripts::got::{Bad, Got};

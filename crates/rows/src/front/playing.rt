@@ -1,40 +1,17 @@
 //! Files of rows, played on the stage. A step may start a ticker's thread, which no method of a trait can: so the stage is no `World` of
 //! `scripts`.
-use crate::stage::{On, Stage};
+use crate::front::stage::{On, Stage};
 use scripts::got::Got;
 use scripts::play::{Tally, is_wanted, print_row};
 use scripts::row::Row;
-use std::fs::Files;
-use std::io::{BufRead, BufReader};
+use std::io::{self, BufRead};
 use std::random::RandomSource;
 use std::sync::Wait;
 use std::thread::Threads;
 use std::time::Clock;
-use std::{fs, io};
 
-/// Plays the rows of a file on a new stage, prints each that differs, and last how many agreed.
-pub fn play_file<
-    R: AllocGlobal
-        + Files
-        + Print
-        + RandomSource
-        + Wait
-        + Threads
-        + Clock
-        + Copy
-        + Clone
-        + Drop
-        + Send
-        + 'static,
->(rt: &R, path: &str) -> io::Result<Tally> {
-    let lines = BufReader::new(rt.alloc(), fs::open(rt, path)?)?;
-    let tally = play_on_new_stage(rt, path, lines)?;
-    let Tally { passed, failed } = tally;
-    println!(rt; "{path}: {passed} passed, {failed} failed")?;
-    Ok(tally)
-}
-
-fn play_on_new_stage<
+/// Plays the rows of what a reader gives on a new stage, and prints each that differs under this name.
+pub fn play_on_new_stage<
     R: AllocGlobal
         + Print
         + RandomSource

@@ -8,7 +8,7 @@
 //! - `others TEXT`: what another program writes. `fails N`: the write of this number fails, counted from now on.
 //! - `rows`: what stands there, up to the last row that isn't empty. `wraps`: whether the wrap is on.
 //! - Any other step is a call of the board or of a bar.
-use crate::pane::{Pane, Wire};
+use crate::front::pane::{Pane, Wire};
 use indicatif::{Answer, Board, NoTracker, OwnRows, ProgressDrawTarget, Term};
 use scripts::boards::{BOARD_ID, board_call, push_answer};
 use scripts::got::{Bad, Got};
@@ -67,7 +67,7 @@ impl OnPane {
                 Err(bad) => got.bad(bad),
             },
             ("wraps", "") => got.flag(self.pane.wraps.get()),
-            ("rows", "") => push_filled(self.pane.picture(), got),
+            ("rows", "") => push_filled(self.pane.screen.picture(), got),
             _ => self.call(step, got),
         }
     }

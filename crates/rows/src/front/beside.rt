@@ -5,11 +5,11 @@
 //! this size, by clocks that stand at `FROM` and go on by `STEP`; they are drawn at most `RATE` times a second where that isn't 0, and
 //! with the rate `hidden` there is no terminal. `turn RATE` gives both another terminal. `call CALL` tells both, `each` makes the calls
 //! that were learnt, and `random N SEED` N of them, by the numbers of a generator: `same`, or the call and what differs behind it.
-use crate::bars::{Bar, Pace, Room, Target, spinner};
-use crate::clock::RowClock;
-use crate::fronts::room_of;
-use crate::history::{rows_of, same_rows};
-use crate::tell::{Told, further, tell};
+use crate::front::bars::{Bar, Pace, Room, Target, spinner};
+use crate::front::clock::RowClock;
+use crate::front::fronts::room_of;
+use crate::front::history::{rows_of, same_rows};
+use crate::front::tell::{Told, further, tell};
 use indicatif::{
     BarCommand, BarState, Clock, InMemoryTerm, LoneBar, LoneCall, Moment, NoTracker, ProgressBar,
     ProgressDrawTarget, ProgressStyle, Refusal, Setup,
