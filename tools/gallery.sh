@@ -59,7 +59,6 @@ built_readme() {
 }
 pages=("$@")
 built_readme
-built examples fine
 built bars demo
 built meter --help
 
