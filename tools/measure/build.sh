@@ -23,7 +23,7 @@ for library in $libraries; do
 done
 {
     grep '^indicatif' "$root/crates.txt"
-    echo "measure may_wait=9:" $libraries anyhow
+    echo "measure may_wait=8:" $libraries anyhow
 } > "$copy/crates.txt"
 cd "$copy" && rt ci
 echo "$crate/out/measure"
