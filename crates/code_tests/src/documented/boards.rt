@@ -1,8 +1,7 @@
-//! Examples of a board and of sums.
+//! Examples of a board.
 use crate::checks::Granted;
 use indicatif_bar::state::BarState;
 use indicatif_bar::style::{NoTracker, ProgressStyle};
-use indicatif_board::done::Done;
 use indicatif_board::multi::{Answer, BarId, Board, Call, Candidate, InsertLocation};
 use indicatif_term::draw_target::ProgressDrawTarget;
 use indicatif_term::in_memory::InMemoryTerm;
@@ -142,13 +141,4 @@ fn copy_of_a_candidate(rt: HostRuntime) {
     let candidate = Candidate::<NoTracker>::Member(id);
     let again = candidate.try_clone().granted(rt);
     holds!(rt; matches!(again, Candidate::Member(_)));
-}
-
-#[test]
-fn sum_of_a_worker(rt: HostRuntime) {
-    let rt = &rt;
-    let alloc = rt.alloc();
-    let (done, mut worker) = Done::new(alloc).expect(rt, "granted");
-    worker.add(&done, 5);
-    same!(rt; done.close(worker), 5);
 }
