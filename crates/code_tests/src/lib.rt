@@ -5,8 +5,7 @@
 //!
 //! - `named`: each command of a bar as a call, compared with the same command as a value.
 //! - `values`: what bars return, what comes by default, and closures that bars take.
-//! - `faults`, `writers`: want of memory, and a writer that fails at each byte; boxed terminals, and buffers. `lone_shown`: a bar on a
-//!   terminal.
+//! - `writers`: a writer that fails at each byte; boxed terminals, and buffers. `lone_shown`: a bar on a terminal.
 //! - `histories`: boards that keep their history. `sums`: workers that add to one sum.
 //! - `played`: which lines of a file are rows, and which of them agree.
 //! - `styles`, `term`, `text`: keys of a template, what targets hand out, numbers and formatters. `words`: those of a command line.
@@ -68,8 +67,6 @@ mod counted;
 mod documented;
 #[cfg(test)]
 mod documented_shared;
-#[cfg(test)]
-mod faults;
 #[cfg(test)]
 mod fronts;
 #[cfg(test)]

@@ -239,34 +239,6 @@ fn patience(item: u32) -> u32 {
     (item % 7).saturating_mul(5).saturating_add(5)
 }
 
-/// Whether the bar moves while this item looks.
-fn sees_a_move<C: Clock>(clock: &C, place: &AtomicU64, item: u32) -> bool {
-    for _ in 0..patience(item) {
-        if place.load(Ordering::SeqCst) > 0 {
-            return true;
-        }
-        sleep(clock, Duration::from_millis(1));
-    }
-    false
-}
-
-/// Forty items that look whether the bar has moved. One of them sees it: the bar moves while others are worked on.
-#[test]
-fn a_bar_moves_while_threads_work(rt: HostRuntime) {
-    let rt = &rt;
-    let alloc = rt.alloc();
-    let items = numbers(rt, alloc, 40);
-    let place = AtomicU64::new(0);
-    let bar = Telling {
-        place: &place,
-        steps: Vec::new(alloc),
-    };
-    let list = items.as_slice().progress_with(bar);
-    let (seen, bar) = list.map_collect(rt, alloc, |item: &u32| sees_a_move(rt, &place, *item));
-    holds!(rt; seen.granted(rt).contains(&true));
-    same!(rt; bar.reading().position, 40);
-}
-
 /// A shared bar of 40 on no terminal.
 fn shared_bar<R: Wait + Copy + Clone + Drop + Abort>(rt: R, alloc: Global) -> Bar<R> {
     let rt = &rt;

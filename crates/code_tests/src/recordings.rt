@@ -82,11 +82,7 @@ fn answers_so<R: Abort, K: Tracks>(
     }
 }
 
-/// Two terminals show the same rows, those that have scrolled away too.
-fn show_the_same<R: Abort>(rt: &R, one: Option<&InMemoryTerm>, other: Option<&InMemoryTerm>) {
-    same!(rt; rows_of(rt, one), rows_of(rt, other));
-}
-
+/// The rows of a terminal, those that have scrolled away too.
 fn rows_of<R: Abort>(rt: &R, term: Option<&InMemoryTerm>) -> Vec<String> {
     let term = term.granted(rt);
     term.picture().granted(rt)
@@ -114,7 +110,7 @@ fn runs_again<R: Abort, K: Tracks>(rt: &R, alloc: Global, recorded: &Recorded<K,
     let board = Board::new(alloc, target, recorded.opening().board_id);
     let mut fresh = Box::new(alloc, board).expect(rt, "granted");
     answers_so(rt, &mut fresh, alloc, recorded.entries());
-    show_the_same(rt, fresh.term(), recorded.board().term());
+    same!(rt; rows_of(rt, fresh.term()), rows_of(rt, recorded.board().term()));
 }
 
 /// What a board has kept is one run: a fresh board that makes those calls gives the same answers, and shows the same.

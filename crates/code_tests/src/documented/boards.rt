@@ -43,6 +43,7 @@ fn texts_on_fewer_columns(rt: HostRuntime) {
     shows(rt, board, "a.t\nxt\nhel\nlo");
 }
 
+/// One of another board isn't taken out.
 #[test]
 fn order_of_bars(rt: HostRuntime) {
     let rt = &rt;
@@ -53,6 +54,11 @@ fn order_of_bars(rt: HostRuntime) {
     turn_away(rt, alloc, &mut board);
     stack(rt, alloc, &mut board);
     same!(rt; board.order(), [0, 2, 1].as_slice());
+    let elsewhere = BarId {
+        board: 0,
+        number: 1,
+    };
+    holds!(rt; matches!(board.remove(elsewhere), Err(Refusal::ForeignBar)));
 }
 
 /// Takes a bar in, which stays first when it is inserted there.
@@ -94,17 +100,6 @@ fn stack(rt: &impl Abort, alloc: Global, board: &mut Bars) {
         },
         now,
     );
-}
-
-#[test]
-fn bar_of_another_board(rt: HostRuntime) {
-    let rt = &rt;
-    let mut board = board_of(rt, rt.alloc());
-    let elsewhere = BarId {
-        board: 0,
-        number: 1,
-    };
-    holds!(rt; matches!(board.remove(elsewhere), Err(Refusal::ForeignBar)));
 }
 
 #[test]
