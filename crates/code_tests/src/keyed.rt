@@ -70,8 +70,8 @@ fn files<R: Wait + Copy + Clone + Drop + Abort>(rt: R, alloc: Global) -> Keyed<R
     bar.with_message("files").expect(rt, "granted")
 }
 
-/// The bar has the length that it was made with. The key follows the position, whoever owns the bar, and stays at 0 past the end. Another thread moves the bar, and then the key with it. A style
-/// that is told later, and one that was read of the bar, have the key too.
+/// The bar has the length that it was made with. The key follows the position, whoever owns the bar, and stays at 0 past the end. Another
+/// thread moves the bar, and then the key with it. A style that is told later, and one that was read of the bar, have the key too.
 #[test]
 fn what_is_left(rt: HostRuntime) {
     let rt = &rt;
