@@ -2,9 +2,9 @@
 //! the same picture.
 use crate::checks::Granted;
 use crate::fronts::{Shared, bar_on, recorded};
-use crate::recordings::{Kind, Recording, counted, is_one_run};
+use crate::recordings::{Kind, counted, is_one_run};
 use crate::ticking::{tick_off, ticks_on, waits};
-use indicatif::{Drawn, Entry, InMemoryTerm, NoTracker, RecordReader};
+use indicatif::Drawn;
 use std::alloc::Global;
 use std::process::Abort;
 use std::sync::Wait;
@@ -72,7 +72,8 @@ fn of_tickers<R: Wait + Copy + Clone + Drop>(board: &Shared<R>) -> (u64, u64, u6
     )
 }
 
-/// A board that is suspended beside a ticker draws again; the history has the ticker's ticks, and no more once it is told off.
+/// A board that is suspended beside a ticker draws again; the history has the ticker's ticks, and no more once it is told off. What
+/// programmers are shown of the board is its name.
 #[test]
 fn a_pause_beside_a_ticker(rt: HostRuntime) {
     let rt = &rt;
@@ -87,49 +88,6 @@ fn a_pause_beside_a_ticker(rt: HostRuntime) {
     waits(rt);
     same!(rt; of_tickers(&board), (ticked, 1, 1));
     is_one_run(*rt, &board, alloc);
-}
-
-// ---- moments
-
-/// Whether a board's calls were made at these moments, one after another.
-#[derive(Drop)]
-struct MadeAt {
-    moments: &'static [u64],
-}
-
-impl RecordReader<InMemoryTerm, NoTracker> for MadeAt {
-    type Found = bool;
-
-    fn read(self, record: Option<&Recording>) -> bool {
-        match record {
-            Some(recorded) => are_at(recorded.entries(), self.moments),
-            None => false,
-        }
-    }
-}
-
-fn are_at(entries: &[Entry<NoTracker>], moments: &[u64]) -> bool {
-    for (entry, moment) in entries.iter().zip(moments.iter()) {
-        if entry.now != *moment {
-            return false;
-        }
-    }
-    entries.len() == moments.len()
-}
-
-/// A board's own calls are made at the moments of its clock, and those of a bar at the moments of the bar's. Each goes on by 1 with each
-/// reading, of which three of the bar's were made before it is taken in.
-#[test]
-fn moments_of_two_clocks(rt: HostRuntime) {
-    let rt = &rt;
-    let alloc = rt.alloc();
-    let board = recorded(*rt, alloc);
-    let bar = bar_on(&board, *rt, alloc, "a");
-    holds!(rt; bar.tick().is_ok());
-    holds!(rt; board.println("l").is_ok());
-    holds!(rt; bar.println("m").is_ok());
-    holds!(rt; board.clear().is_ok());
-    bar.release();
-    let moments = &[0, 3, 1, 4, 2, 5];
-    holds!(rt; board.with_record(MadeAt { moments }));
+    let text = format!(in alloc; "{:?}", *board).granted(rt);
+    same!(rt; text.as_str(), "MultiProgress");
 }

@@ -14,28 +14,6 @@ use std::process::Abort;
 use std::sync::Wait;
 use std::thread::{Threads, join};
 
-fn warn_twice<L: Log>(rt: &L) {
-    warn!(rt; "low disk");
-    error!(rt; "a\nb");
-}
-
-/// A board shows its bar, and above it a warning and an error of two lines: one entry a record.
-#[test]
-fn records_stand_above_the_bars(rt: HostRuntime) {
-    let rt = &rt;
-    let alloc = rt.alloc();
-    let board = recorded(*rt, alloc);
-    let bar = bar_on(&board, *rt, alloc, "x");
-    same!(rt; bar.tick(), Ok(Drawn::Yes));
-    let before = counted(&board, Kind::Any);
-    let bridge = LogBridge::new((*board).clone().expect(rt, "granted"));
-    warn_twice(&Logged::new(*rt, Level::Trace, bridge));
-    same!(rt; counted(&board, Kind::Any).wrapping_sub(before), 2);
-    same!(rt; counted(&board, Kind::Log("WARN  low disk")), 1);
-    same!(rt; counted(&board, Kind::Log("ERROR a\nb")), 1);
-    is_one_run(*rt, &board, alloc);
-}
-
 // ---- two threads log, and two others tick
 
 fn log_twenty<L: Log>(rt: &L, text: &str) {
@@ -126,6 +104,7 @@ fn filters_and_forms(rt: HostRuntime) {
     same!(rt; filtered(*rt, &board), 0);
     same!(rt; counted(&board, Kind::Any), 2);
     same!(rt; counted(&board, Kind::Log("WARN  w\nx")), 1);
+    same!(rt; counted(&board, Kind::Log("ERROR e\nf")), 1);
     on_each_line(*rt, &board);
     same!(rt; counted(&board, Kind::Log("WARN  w\nWARN  x")), 1);
     same!(rt; counted(&board, Kind::Log("ERROR e\nERROR f")), 1);
@@ -180,7 +159,12 @@ fn contents(term: Option<&Term<Wire>>) -> Option<String> {
     term?.writer().cells.contents().ok()
 }
 
-/// The first record meets the failure and is counted; the next one stands on the row after.
+fn warn_twice<L: Log>(rt: &L) {
+    warn!(rt; "low disk");
+    error!(rt; "a\nb");
+}
+
+/// The first record meets the failure and is counted; the next ones stand on the rows after.
 #[test]
 fn a_record_that_failed_is_missed(rt: HostRuntime) {
     let rt = &rt;
@@ -189,10 +173,10 @@ fn a_record_that_failed_is_missed(rt: HostRuntime) {
     let log = Logged::new(*rt, Level::Trace, bridge);
     warn!(log; "one");
     same!(rt; log.sink().missed(), 1);
-    warn!(log; "two");
+    warn_twice(&log);
     same!(rt; log.sink().missed(), 1);
     let text = board.with_term(|term| contents(term)).granted(rt);
-    same!(rt; text.as_str(), "\nWARN  two");
+    same!(rt; text.as_str(), "\nWARN  low disk\nERROR a\nb");
 }
 
 // ---- lines on a board of one's own
@@ -222,6 +206,7 @@ fn shows<R: Abort>(rt: &R, board: &Own, wanted: &str) {
     same!(rt; text.as_str(), wanted);
 }
 
+/// On a hidden target a line is dropped: it doesn't show once there is a terminal again.
 #[test]
 fn lines_stand_above_the_bar(rt: HostRuntime) {
     let rt = &rt;
@@ -232,17 +217,9 @@ fn lines_stand_above_the_bar(rt: HostRuntime) {
     same!(rt; drawn, Drawn::Yes);
     same!(rt; emit(alloc, &mut board, Level::Error, "a\nb", now), Ok(Drawn::Yes));
     shows(rt, &board, "ERROR no such file\nERROR a\nb\nx");
-}
-
-/// On a hidden target a line is dropped: it doesn't show once there is a terminal.
-#[test]
-fn a_hidden_board_drops_lines(rt: HostRuntime) {
-    let rt = &rt;
-    let alloc = rt.alloc();
-    let hidden = Board::new(alloc, ProgressDrawTarget::hidden(), 1);
-    let mut board: Box<Own> = Box::new(alloc, hidden).expect(rt, "granted");
-    same!(rt; emit(alloc, &mut board, Level::Info, "i", 0), Ok(Drawn::Hidden));
-    board.set_draw_target(setup(rt, alloc, 20).target);
-    holds!(rt; board.redraw(0).is_ok());
-    shows(rt, &board, "");
+    drop(board.set_draw_target(ProgressDrawTarget::hidden()));
+    same!(rt; emit(alloc, &mut board, Level::Info, "i", now), Ok(Drawn::Hidden));
+    drop(board.set_draw_target(setup(rt, alloc, 20).target));
+    holds!(rt; board.redraw(now).is_ok());
+    shows(rt, &board, "x");
 }

@@ -1,5 +1,5 @@
-//! The examples of the documentation comments of crate `indicatif` that no other test has, each with what it gives; what is only wrapped is
-//! only compiled. `tools/pages.py` looks for an example's lines in each file of the tests.
+//! The examples of the documentation comments of crate `indicatif` that no other test has, each with what it gives.
+//! `tools/pages.py` looks for an example's lines in each file of the tests.
 //!
 //! - `bars`: shared bars. `several`: a board and its history. `wrappers`: what a bar wraps. `machine`: what is asked of the machine.
 //! - `places`: where wrapped readers stand.

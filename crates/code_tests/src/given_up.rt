@@ -12,14 +12,14 @@ use std::{thread, time};
 
 type Bar<R> = ProgressBar<InMemoryTerm, StepClock, Lent<R>>;
 
-/// A bar with a runtime that is counted, and the count.
+/// A spinner with a runtime that is counted, and the count.
 fn counted_bar<R: Wait + Copy + Drop + Abort>(
     rt: R,
     alloc: Global,
 ) -> (Bar<R>, Arc<Count, Global>) {
     let rt = &rt;
     let (lent, count) = first(*rt, alloc);
-    let bar = ProgressBar::no_length(lent, alloc, setup(rt, alloc, 10));
+    let bar = ProgressBar::new_spinner(lent, alloc, setup(rt, alloc, 10));
     (bar.expect(rt, "granted"), count)
 }
 
@@ -28,13 +28,17 @@ fn counted_bar<R: Wait + Copy + Drop + Abort>(
 /// An hour.
 const HOUR: u64 = 3_600_000_000_000;
 
-/// Tells a ticker of an hour on, which ticks. Its thread waits then.
-fn waits_for_an_hour<R: Wait + Threads + time::Clock + Copy + Drop + Abort + Send + 'static>(
+/// 50 milliseconds.
+const OFTEN: u64 = 50_000_000;
+
+/// Tells a ticker of this interval on, which ticks. Of one of an hour the thread waits then.
+fn ticks_each<R: Wait + Threads + time::Clock + Copy + Drop + Abort + Send + 'static>(
     rt: &R,
     bar: &Bar<R>,
+    interval: u64,
 ) {
     let before = bar.ticks();
-    same!(rt; bar.enable_steady_tick(HOUR), Ok(()));
+    same!(rt; bar.enable_steady_tick(interval), Ok(()));
     holds!(rt; ticks_on(rt, bar, before));
 }
 
@@ -55,14 +59,39 @@ fn comes_to<R: time::Clock>(rt: &R, count: &Count, left: u64) -> bool {
 fn threads_of_tickers_end(rt: HostRuntime) {
     let rt = &rt;
     let (bar, count) = counted_bar(*rt, rt.alloc());
-    waits_for_an_hour(rt, &bar);
+    ticks_each(rt, &bar, HOUR);
     same!(rt; count.living(), 2);
     same!(rt; tick_off(&bar), Ok(()));
     holds!(rt; comes_to(rt, &count, 1));
-    waits_for_an_hour(rt, &bar);
-    waits_for_an_hour(rt, &bar);
+    ticks_each(rt, &bar, HOUR);
+    ticks_each(rt, &bar, HOUR);
     holds!(rt; comes_to(rt, &count, 2));
     drop(bar);
+    holds!(rt; comes_to(rt, &count, 0));
+}
+
+/// A test of the crate `indicatif` 0.18.6. The crate waits for the thread's end; here it is told to end, and does.
+#[test]
+fn ticker_thread_terminates_on_drop(rt: HostRuntime) {
+    let rt = &rt;
+    let (bar, count) = counted_bar(*rt, rt.alloc());
+    ticks_each(rt, &bar, OFTEN);
+    same!(rt; count.living(), 2);
+    drop(bar);
+    holds!(rt; comes_to(rt, &count, 0));
+}
+
+/// Another one: it goes on while an owner is left.
+#[test]
+fn ticker_thread_terminates_on_drop_2(rt: HostRuntime) {
+    let rt = &rt;
+    let (bar, count) = counted_bar(*rt, rt.alloc());
+    let other = bar.clone().expect(rt, "granted");
+    ticks_each(rt, &bar, OFTEN);
+    drop(bar);
+    let before = other.ticks().saturating_add(1);
+    holds!(rt; ticks_on(rt, &other, before));
+    drop(other);
     holds!(rt; comes_to(rt, &count, 0));
 }
 

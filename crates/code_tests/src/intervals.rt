@@ -9,36 +9,26 @@ use std::time::{self, Duration};
 /// A tenth of a second.
 const INTERVAL: u64 = 100_000_000;
 
-/// How a ticker's first 21 ticks came.
-#[derive(Clone, Copy, Debug, Drop, PartialEq, Eq)]
-enum Pace {
-    /// At more than twice the rate.
-    Fast,
-    /// Within ten seconds, of which a ticker of this interval needs two.
-    Fair,
-    /// Not within ten seconds.
-    Slow,
-}
-
-/// How a bar's ticker that was told on after this moment ticks, by the last of 10,000 readings a millisecond apart.
+/// How the first 21 ticks come of a ticker that was told on after this moment: within ten seconds, of which one of this interval needs
+/// two, by the last of 10,000 readings a millisecond apart; and at no more than twice the rate.
 fn pace_of<R: Wait + time::Clock + Copy + Clone + Drop>(
     rt: &R,
     bar: &Bar<R>,
     opened: Moment,
-) -> Pace {
+) -> Result<(), &'static str> {
     let mut clock = MachineClock::new(*rt);
     for _ in 0..10_000u32 {
         let ticks = bar.ticks();
         let passed = clock.now().saturating_sub(opened);
         if ticks.saturating_sub(2).saturating_mul(INTERVAL / 2) > passed {
-            return Pace::Fast;
+            return Err("fast");
         }
         if ticks > 20 {
-            return Pace::Fair;
+            return Ok(());
         }
         thread::sleep(rt, Duration::from_millis(1));
     }
-    Pace::Slow
+    Err("slow")
 }
 
 #[test]
@@ -49,5 +39,5 @@ fn a_ticker_keeps_its_interval(rt: HostRuntime) {
     same!(rt; bar.enable_steady_tick(INTERVAL), Ok(()));
     let pace = pace_of(rt, &bar, opened);
     same!(rt; bar.disable_steady_tick(), Ok(()));
-    same!(rt; pace, Pace::Fair);
+    same!(rt; pace, Ok(()));
 }

@@ -70,12 +70,13 @@ fn files<R: Wait + Copy + Clone + Drop + Abort>(rt: R, alloc: Global) -> Keyed<R
     bar.with_message("files").expect(rt, "granted")
 }
 
-/// It follows the position, whoever owns the bar, and stays at 0 past the end. Another thread moves the bar, and then the key with it. A style
-/// that is told later, and one that was read of the bar, have the key too.
+/// The bar has the length that it was made with. The key follows the position, whoever owns the bar, and stays at 0 past the end. Another
+/// thread moves the bar, and then the key with it. A style that is told later, and one that was read of the bar, have the key too.
 #[test]
 fn what_is_left(rt: HostRuntime) {
     let rt = &rt;
     let bar = files(*rt, rt.alloc());
+    same!(rt; bar.length(), Some(10));
     let other = bar.clone().expect(rt, "granted");
     for (position, wanted) in [(12, "files 0"), (3, "files 7"), (0, "files 10")] {
         holds!(rt; other.set_position(position).is_ok());

@@ -5,8 +5,7 @@
 //!
 //! - `named`: each command of a bar as a call, compared with the same command as a value.
 //! - `values`: what bars return, what comes by default, and closures that bars take.
-//! - `faults`, `writers`: want of memory, and a writer that fails at each byte; boxed terminals, and buffers. `lone_shown`: a bar on a
-//!   terminal.
+//! - `writers`: a writer that fails at each byte; boxed terminals, and buffers. `lone_shown`: a bar on a terminal.
 //! - `histories`: boards that keep their history. `sums`: workers that add to one sum.
 //! - `played`: which lines of a file are rows, and which of them agree.
 //! - `styles`, `term`, `text`: keys of a template, what targets hand out, numbers and formatters. `words`: those of a command line.
@@ -16,15 +15,14 @@
 //!
 //! - `fronts`: bars and boards for tests, and what they show. `recordings`: what a board has recorded.
 //! - `shown`: a terminal that others see. `owners`: what the last owner of a bar leaves there. `watched`: boards there, while a closure
-//!   runs, and where the cursor only moves. `bars`: bars in threads, pauses and bounds.
-//! - `boards`: boards that threads share. `records`: a board with its history, behind a lock of the test's own.
-//! - `shared`: boards that make their bars, what is said of a wrapper's bar, and threads at one bar. `readers`: two readers of one bar.
-//!   `ways`: each way to make a bar.
-//! - `closures`: what is done under a lock. `given_up`: what threads of tickers give up, and calls that find no memory, over a runtime
-//!   that is counted (`lent`).
+//!   runs, and where the cursor only moves. `bars`: what crosses threads, and a terminal in a box.
+//! - `boards`: boards that threads share.
+//! - `shared`: what is said of a wrapper's bar, and threads at one bar. `readers`: two readers of one bar.
+//! - `closures`: what is done under a lock. `given_up`: what threads of tickers give up, also in two tests of the crate `indicatif`, and
+//!   calls that find no memory, over a runtime that is counted (`lent`).
 //! - `machines`: what is asked of the machine. `made`: iterators that get a bar when they are wrapped.
 //! - `bridges`: lines of a log above a board's bars.
-//! - `carried_tickers`, `carried_trackers`: tests of the crate `indicatif` that need code, of tickers and of trackers.
+//! - `carried_trackers`: tests of the crate `indicatif` that need code, of trackers.
 //! - `counted`: threads that count for a bar. `documented_shared`: the examples of the documentation comments. `readme`: the README's
 //!   program.
 //! - `ticking`: a bar's ticker, looked at from outside. `intervals`: how often it ticks. `keyed`: shared bars with a key of the tests' own.
@@ -58,8 +56,6 @@ mod boards;
 #[cfg(test)]
 mod bridges;
 #[cfg(test)]
-mod carried_tickers;
-#[cfg(test)]
 mod carried_trackers;
 #[cfg(test)]
 mod checks;
@@ -71,8 +67,6 @@ mod counted;
 mod documented;
 #[cfg(test)]
 mod documented_shared;
-#[cfg(test)]
-mod faults;
 #[cfg(test)]
 mod fronts;
 #[cfg(test)]
@@ -114,8 +108,6 @@ mod readme;
 #[cfg(test)]
 mod recordings;
 #[cfg(test)]
-mod records;
-#[cfg(test)]
 mod shared;
 #[cfg(test)]
 mod shown;
@@ -135,8 +127,6 @@ mod ticking;
 mod values;
 #[cfg(test)]
 mod watched;
-#[cfg(test)]
-mod ways;
 #[cfg(test)]
 mod words;
 #[cfg(test)]

@@ -221,15 +221,15 @@ fn stood_at(steps: &[u64], places: &[u64]) -> bool {
 fn a_bar_that_stops_within_blocks_stops_behind_each(rt: HostRuntime) {
     let rt = &rt;
     let alloc = rt.alloc();
-    let items = numbers(rt, alloc, 10_000);
+    let numbers = numbers(rt, alloc, 10_000);
     let place = AtomicU64::new(0);
     let bar = Telling {
         place: &place,
         steps: Vec::new(alloc),
     };
-    let list = items.as_slice().progress_with(bar);
+    let list = numbers.as_slice().progress_with(bar);
     let (made, bar) = list.map_collect(rt, alloc, |x: &u32| *x);
-    same!(rt; made.granted(rt), items);
+    same!(rt; made.granted(rt), numbers);
     holds!(rt; stood_at(bar.steps.as_slice(), &[4096, 8192, 10_000]));
     holds!(rt; bar.steps.len() > 3);
 }
@@ -237,34 +237,6 @@ fn a_bar_that_stops_within_blocks_stops_behind_each(rt: HostRuntime) {
 /// For how many milliseconds this item of a list looks at a bar. Threads that work on items of unequal times don't end together.
 fn patience(item: u32) -> u32 {
     (item % 7).saturating_mul(5).saturating_add(5)
-}
-
-/// Whether the bar moves while this item looks.
-fn sees_a_move<C: Clock>(clock: &C, place: &AtomicU64, item: u32) -> bool {
-    for _ in 0..patience(item) {
-        if place.load(Ordering::SeqCst) > 0 {
-            return true;
-        }
-        sleep(clock, Duration::from_millis(1));
-    }
-    false
-}
-
-/// Forty items that look whether the bar has moved. One of them sees it: the bar moves while others are worked on.
-#[test]
-fn a_bar_moves_while_threads_work(rt: HostRuntime) {
-    let rt = &rt;
-    let alloc = rt.alloc();
-    let items = numbers(rt, alloc, 40);
-    let place = AtomicU64::new(0);
-    let bar = Telling {
-        place: &place,
-        steps: Vec::new(alloc),
-    };
-    let list = items.as_slice().progress_with(bar);
-    let (seen, bar) = list.map_collect(rt, alloc, |item: &u32| sees_a_move(rt, &place, *item));
-    holds!(rt; seen.granted(rt).contains(&true));
-    same!(rt; bar.reading().position, 40);
 }
 
 /// A shared bar of 40 on no terminal.
@@ -289,7 +261,7 @@ fn sees_within<R: Wait + Clone + Drop, C: Clock>(clock: &C, bar: &Bar<R>, item: 
 }
 
 /// A shared bar moves while threads work, by less than a block too. (Forty items are blocks of four, or of more where there are more
-/// processors.)
+/// processors.) Another list goes on with it from there, and finishes nothing.
 #[test]
 fn a_shared_bar_moves_within_a_block(rt: HostRuntime) {
     let rt = &rt;
@@ -297,7 +269,13 @@ fn a_shared_bar_moves_within_a_block(rt: HostRuntime) {
     let items = numbers(rt, alloc, 40);
     let bar = shared_bar(*rt, alloc);
     let list = items.as_slice().progress_with(another_of(rt, &bar));
-    let (seen, _owner) = list.map_collect(rt, alloc, |item: &u32| sees_within(rt, &bar, *item));
+    let (seen, owner) = list.map_collect(rt, alloc, |item: &u32| sees_within(rt, &bar, *item));
     holds!(rt; seen.granted(rt).contains(&true));
     same!(rt; bar.position(), 40);
+    let list = items.as_slice().progress_with(owner);
+    let (answer, owner) = list.for_each(rt, |_x: &u32| ());
+    same!(rt; answer, Ok(()));
+    owner.bar.release();
+    same!(rt; bar.position(), 80);
+    holds!(rt; !bar.is_finished());
 }

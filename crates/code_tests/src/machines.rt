@@ -5,12 +5,12 @@ use indicatif::machine::{
     on_stderr, on_stdout, on_stream, style_on_stderr, told_setup, wants_colors,
 };
 use indicatif::{
-    BarState, Clock, Drawn, Facts, LoneBar, Moment, MultiProgress, NoTracker, ProgressDrawTarget,
-    ProgressStyle, Refusal, Setup, Term, TermLike,
+    BarState, Clock, Drawn, Facts, LoneBar, Moment, MultiProgress, NoTracker, ProgressStyle,
+    Refusal, Setup, TermLike,
 };
 use std::alloc::Global;
 use std::cell::Cell;
-use std::io::{self, BufWriter, ErrorKind, Stdout};
+use std::io::{self, ErrorKind, Stdout};
 use std::process::Abort;
 use std::time::{self, Duration};
 
@@ -40,23 +40,23 @@ fn setup_of(
     told_setup(rt, Vec::new(alloc), facts(attended, term))
 }
 
-/// Rows and columns of a target's terminal, if it has one.
-fn size_of(target: ProgressDrawTarget<Term<BufWriter<Vec<u8>>>>) -> Option<(u16, u16)> {
-    let term = target.into_term()?;
-    Some((term.height(), term.width()))
-}
-
 /// Whether a clock doesn't go back.
 fn goes_on(clock: &mut impl Clock) -> bool {
     let first = clock.now();
     first <= clock.now()
 }
 
+/// A bar that is made with it, the documentation's example, is drawn there.
 #[test]
 fn a_terminal_of_which_is_told(rt: HostRuntime) {
     let rt = &rt;
     let Setup { target, mut clock } = setup_of(rt, true, Some("xterm")).granted(rt);
-    same!(rt; size_of(target), Some((7, 40)));
+    let now = clock.now();
+    let state = BarState::<NoTracker>::new(rt.alloc(), None, now).granted(rt);
+    let mut bar = LoneBar::new(state, target);
+    same!(rt; bar.tick(now), Ok(Drawn::Yes));
+    let term = bar.term().granted(rt);
+    same!(rt; (term.height(), term.width()), (7, 40));
     holds!(rt; goes_on(&mut clock));
 }
 
@@ -116,38 +116,6 @@ fn a_style_for_standard_error(rt: HostRuntime) {
     };
     let style = style_on_stderr(rt, "{msg:.red}").granted(rt);
     shows(rt, rt.alloc(), style, wanted);
-}
-
-// ---- a bar behind a writer
-
-/// A bar on a terminal behind a writer, by a clock of the machine.
-#[derive(Drop)]
-struct Timed {
-    bar: Box<LoneBar<NoTracker, Term<BufWriter<Vec<u8>>>>>,
-    now: Moment,
-}
-
-/// A bar of a setup, made at the moment of its clock.
-fn bar_of<R: Abort>(rt: &R, alloc: Global, setup: TerminalSetup<Vec<u8>>) -> Timed {
-    let Setup { target, mut clock } = setup;
-    let now = clock.now();
-    let state = BarState::new(alloc, None, now).granted(rt);
-    let bar = Box::new(alloc, LoneBar::new(state, target)).expect(rt, "granted");
-    Timed { bar, now }
-}
-
-/// A tick, whose call promises nothing here.
-fn tick(timed: &mut Timed) -> Result<Drawn, Refusal> {
-    timed.bar.tick(timed.now)
-}
-
-/// The bar of the documentation's example.
-#[test]
-fn behind_a_writer(rt: HostRuntime) {
-    let rt = &rt;
-    let setup = setup_of(rt, true, Some("xterm")).granted(rt);
-    let mut timed = bar_of(rt, rt.alloc(), setup);
-    same!(rt; tick(&mut timed), Ok(Drawn::Yes));
 }
 
 // ---- clocks

@@ -29,10 +29,17 @@ fn a_length_by_the_upper_bound(rt: HostRuntime) {
     let rt = &rt;
     let alloc = rt.alloc();
     let items = vec![in alloc; 1u32, 2, 3, 4].granted(rt);
-    let even = items.into_iter().filter(|x| *x % 2 == 0);
-    let made = even.try_progress(alloc, setup(rt, alloc, 20));
-    let wrapped = made.granted(rt).granted(rt);
+    let list = items.into_iter().filter(|x| *x % 2 == 0);
+    let setup = setup(rt, alloc, 20);
+    let Some(mut wrapped) = list
+        .into_iter()
+        .try_progress(alloc, setup)
+        .expect(rt, "granted")
+    else {
+        panic!(rt; "no bar is made")
+    };
     same!(rt; length(&wrapped), Some(4));
+    same!(rt; wrapped.next(), Some(2));
 }
 
 /// An endless iterator gets no bar of which no length is told, and one of the length that is told.

@@ -1,14 +1,15 @@
-//! Each command of a bar by its name, beside the same as a value: they answer the same and leave the same. What they answer and leave
-//! stands in rows.
+//! Each command of a bar by its name, beside the same as a value: they answer the same and leave the same, on a target without a limit and
+//! on one that has no draw left, which tells a draw that is forced from one that isn't. (A bar on its terminal hands each command on to its
+//! record.) What they answer and leave stands in rows.
 use crate::checks::{Granted, are_same_for, is_so_for};
 use crate::values::contents;
 use indicatif_bar::lone::{LoneBar, LoneCall};
-use indicatif_bar::state::{Ask, BarState, Change, Rate};
+use indicatif_bar::state::{BarState, Change, Rate};
 use indicatif_bar::style::NoTracker;
 use indicatif_term::draw_target::ProgressDrawTarget;
 use indicatif_term::in_memory::InMemoryTerm;
 use indicatif_text::columns::{Drawn, Moment, Refusal};
-use scripts::commands::{BARE, NUMBERED, Told, WORDED, command};
+use scripts::commands::{BARE, NUMBERED, WORDED, command};
 use scripts::got::Bad;
 use scripts::lone::bar_of;
 use scripts::row::{At, headed};
@@ -44,43 +45,6 @@ fn half(rt: &impl Abort, at: At) -> Box<Bar> {
     bar
 }
 
-/// Makes a command by its name.
-fn obey(bar: &mut Bar, text: &str) -> Result<Ask, Bad> {
-    let (name, rest) = headed(text);
-    match called_bare!(bar, name, NOW) {
-        Some(asked) => Ok(asked?),
-        None => obey_other(bar, name, rest),
-    }
-}
-
-fn obey_other(bar: &mut Bar, name: &str, rest: &str) -> Result<Ask, Bad> {
-    match name {
-        "ticker_tick" => Ok(bar.ticker_tick(NOW)),
-        "set_ticker" => Ok(bar.set_ticker(flag(rest)?, NOW)),
-        "update" => Ok(bar.set_change(change(rest)?, NOW)),
-        name => match rest.parse::<u64>() {
-            Ok(number) => Ok(obey_number(bar, name, number)?),
-            Err(_) => Ok(obey_text(bar, name, rest)?),
-        },
-    }
-}
-
-fn obey_number(bar: &mut Bar, name: &str, number: u64) -> Result<Ask, Refusal> {
-    match called_with_number!(bar, name, number, NOW) {
-        Some(asked) => asked,
-        None if name == "with_position" => Ok(bar.with_position(number, NOW)),
-        None => bar.with_tab_width(number as usize, NOW),
-    }
-}
-
-fn obey_text(bar: &mut Bar, name: &str, text: &str) -> Result<Ask, Refusal> {
-    match called_with_text!(bar, name, text, NOW) {
-        Some(asked) => asked,
-        None if name == "with_message" => bar.with_message(text, NOW),
-        None => bar.with_prefix(text, NOW),
-    }
-}
-
 /// A position and a length at once.
 fn change(text: &str) -> Result<Change, Bad> {
     let (pos, len) = headed(text);
@@ -88,12 +52,6 @@ fn change(text: &str) -> Result<Change, Bad> {
         pos: optional(pos)?,
         len: optional(len)?,
     })
-}
-
-/// Makes a command as a value.
-fn apply(bar: &mut Bar, text: &str, alloc: Global) -> Result<Ask, Bad> {
-    let command = command(alloc, text)?;
-    Ok(bar.apply(command, NOW)?)
 }
 
 /// Behind this command two bars have reached the same, and say the same.
@@ -126,76 +84,29 @@ fn agreed<A: PartialEq + Copy + Drop>(one: Result<A, Bad>, other: Result<A, Bad>
     }
 }
 
-/// A command by its name asks and leaves the same as its value, also once both have ticked: none ticks while its ticker is on.
-fn leaves_the_same(rt: &impl Abort, at: At, text: &str) {
-    let mut called = half(rt, at);
-    let mut told = half(rt, at);
-    let asked = agreed(obey(&mut called, text), apply(&mut told, text, at.alloc));
-    is_so_for(rt, text, asked);
-    are_alike(rt, text, &called, &told);
-    are_same_for(rt, text, called.tick(NOW), told.tick(NOW));
-    are_alike(rt, text, &called, &told);
-}
-
-/// All commands pass a check.
-fn all_pass(rt: &impl Abort, at: At, check: Check) {
-    these_pass(rt, at, check, &BARE);
-    these_pass(rt, at, check, OTHERS);
-    each_passes(rt, at, check, (&NUMBERED, NUMBERS));
-    each_passes(rt, at, check, (&WORDED, TEXTS));
-}
-
-fn these_pass(rt: &impl Abort, at: At, check: Check, commands: &[&str]) {
-    for text in commands {
-        passes(rt, at, check, text);
-    }
-}
-
-/// Each of these names passes with each of these arguments.
-fn each_passes(rt: &impl Abort, at: At, check: Check, (names, arguments): (&[&str], &[&str])) {
-    for name in names {
-        passes_with(rt, at, check, (name, arguments));
-    }
-}
-
-fn passes_with(rt: &impl Abort, at: At, check: Check, (name, arguments): (&str, &[&str])) {
-    for argument in arguments {
-        let text = format!(in at.alloc; "{name} {argument}").granted(rt);
-        passes(rt, at, check, text.as_str());
-    }
-}
-
-/// What is checked of each command.
-#[derive(Clone, Copy, Drop)]
-enum Check {
-    Records,
-    Screens,
-}
-
-fn passes(rt: &impl Abort, at: At, check: Check, text: &str) {
-    match check {
-        Check::Records => leaves_the_same(rt, at, text),
-        Check::Screens => draws_the_same(rt, at, text),
-    }
-}
-
-#[test]
-fn commands_of_a_record_by_name(rt: HostRuntime) {
-    let rt = &rt;
-    let at = At {
-        alloc: rt.alloc(),
-        now: 0,
-    };
-    all_pass(rt, at, Check::Records);
-}
-
-// ---- the same on a terminal
-
-fn shown_half(rt: &impl Abort, at: At) -> Box<Lone> {
+/// That bar on a target without a limit, or on one of which the draws are spent.
+fn shown_half(rt: &impl Abort, at: At, is_spent: bool) -> Box<Lone> {
     let term = InMemoryTerm::new(at.alloc, 3, 20).granted(rt);
-    let target = ProgressDrawTarget::term_like(term);
+    let target = match is_spent {
+        true => ProgressDrawTarget::term_like_with_hz(term, 1, NOW).granted(rt),
+        false => ProgressDrawTarget::term_like(term),
+    };
     let bar = half(rt, at);
-    Box::new(at.alloc, LoneBar::new(Box::into_inner(bar), target)).granted(rt)
+    let mut bar = Box::new(at.alloc, LoneBar::new(Box::into_inner(bar), target)).granted(rt);
+    if is_spent {
+        spend(rt, &mut bar);
+    }
+    bar
+}
+
+/// Ticks until no draw is left.
+fn spend(rt: &impl Abort, bar: &mut Lone) {
+    for _ in 0..100u32 {
+        if bar.tick(NOW) == Ok(Drawn::Limited) {
+            return;
+        }
+    }
+    holds!(rt; false);
 }
 
 /// Makes a call by its name.
@@ -245,14 +156,53 @@ fn record(bar: &Lone) -> &Bar {
     bar.bar()
 }
 
-/// A call by its name draws and leaves the same as its value.
-fn draws_the_same(rt: &impl Abort, at: At, text: &str) {
-    let mut called = shown_half(rt, at);
-    let mut told = shown_half(rt, at);
+/// A call by its name draws and leaves the same as its value, also once both have ticked: none ticks while its ticker is on.
+fn draws_the_same(rt: &impl Abort, at: At, is_spent: bool, text: &str) {
+    let mut called = shown_half(rt, at, is_spent);
+    let mut told = shown_half(rt, at, is_spent);
     let drawn = agreed(draw(&mut called, text), call(&mut told, text, at.alloc));
     is_so_for(rt, text, drawn);
-    are_alike(rt, text, record(&called), record(&told));
-    are_same_for(rt, text, contents(rt, &called), contents(rt, &told));
+    leave_the_same(rt, text, &called, &told);
+    is_so_for(
+        rt,
+        text,
+        agreed(draw(&mut called, "tick"), draw(&mut told, "tick")),
+    );
+    leave_the_same(rt, text, &called, &told);
+}
+
+/// Behind this command two bars have reached the same, and show the same.
+fn leave_the_same(rt: &impl Abort, text: &str, one: &Lone, other: &Lone) {
+    are_alike(rt, text, record(one), record(other));
+    are_same_for(rt, text, contents(rt, one), contents(rt, other));
+}
+
+fn these_pass(rt: &impl Abort, at: At, is_spent: bool, commands: &[&str]) {
+    for text in commands {
+        draws_the_same(rt, at, is_spent, text);
+    }
+}
+
+/// Each of these names passes with each of these arguments.
+fn each_passes(rt: &impl Abort, at: At, is_spent: bool, (names, arguments): (&[&str], &[&str])) {
+    for name in names {
+        passes_with(rt, at, is_spent, (name, arguments));
+    }
+}
+
+fn passes_with(rt: &impl Abort, at: At, is_spent: bool, (name, arguments): (&str, &[&str])) {
+    for argument in arguments {
+        let text = format!(in at.alloc; "{name} {argument}").granted(rt);
+        draws_the_same(rt, at, is_spent, text.as_str());
+    }
+}
+
+/// All commands pass on such a target.
+fn all_pass(rt: &impl Abort, at: At, is_spent: bool) {
+    these_pass(rt, at, is_spent, &BARE);
+    these_pass(rt, at, is_spent, OTHERS);
+    each_passes(rt, at, is_spent, (&NUMBERED, NUMBERS));
+    each_passes(rt, at, is_spent, (&WORDED, TEXTS));
 }
 
 #[test]
@@ -262,5 +212,6 @@ fn commands_of_a_lone_bar_by_name(rt: HostRuntime) {
         alloc: rt.alloc(),
         now: 0,
     };
-    all_pass(rt, at, Check::Screens);
+    all_pass(rt, at, false);
+    all_pass(rt, at, true);
 }

@@ -1,11 +1,10 @@
 //! Keys of the tests' own that write what no line holds, on a board that threads share and that keeps its history.
 use crate::carried_trackers::{Says, Telling};
 use crate::checks::Granted;
-use crate::fronts::{contents, setup, target};
-use crate::recordings::answers_so;
+use crate::fronts::{board_shows, setup};
+use crate::recordings::is_one_run;
 use indicatif::{
-    Board, Drawn, FnTracker, InMemoryTerm, MultiProgress, ProgressBar, ProgressStyle, RecordReader,
-    Recorded, StepClock,
+    Drawn, FnTracker, InMemoryTerm, MultiProgress, ProgressBar, ProgressStyle, StepClock,
 };
 use std::alloc::Global;
 use std::process::Abort;
@@ -14,8 +13,6 @@ use std::sync::Wait;
 type Bar<R> = ProgressBar<InMemoryTerm, StepClock, R, Telling>;
 
 type Shared<R> = MultiProgress<InMemoryTerm, StepClock, R, Telling>;
-
-type Recording = Recorded<Telling, InMemoryTerm>;
 
 /// A bar whose key writes this text, with two spaces for a tab.
 fn saying<R: Wait + Copy + Clone + Drop + Abort>(
@@ -33,55 +30,20 @@ fn saying<R: Wait + Copy + Clone + Drop + Abort>(
         .expect(rt, "granted")
 }
 
-/// Makes the calls of a history on a fresh board, where they answer the same; what it shows then.
-#[derive(Drop)]
-struct PlaysAgain<R: Abort + Drop> {
-    rt: R,
-    alloc: Global,
-}
-
-impl<R: Abort + Drop> RecordReader<InMemoryTerm, Telling> for PlaysAgain<R> {
-    type Found = String;
-
-    fn read(self, record: Option<&Recording>) -> String {
-        let recorded = record.expect(&self.rt, "a history");
-        played_again(&self.rt, self.alloc, recorded)
-    }
-}
-
-fn played_again<R: Abort>(rt: &R, alloc: Global, recorded: &Recording) -> String {
-    let target = target(alloc).granted(rt);
-    let board = Board::new(alloc, target, recorded.opening().board_id);
-    let mut fresh = Box::new(alloc, board).expect(rt, "granted");
-    answers_so(rt, &mut fresh, alloc, recorded.entries());
-    contents(fresh.term()).granted(rt)
-}
-
-/// What a board shows once it has drawn a bar whose key writes this text, and what a fresh board shows that makes the calls of its history.
-fn shown<R: Wait + Copy + Clone + Drop + Abort>(
+/// A board that has drawn a bar whose key writes this text shows this; so does a fresh board that makes the calls of its history.
+fn shows<R: Wait + Copy + Clone + Drop + Abort>(
     rt: R,
     alloc: Global,
     text: &'static str,
-) -> (String, String) {
+    wanted: &str,
+) {
     let rt = &rt;
     let board = MultiProgress::keyed_recorded(*rt, alloc, setup(rt, alloc, 10), 1);
     let board: Box<Shared<R>> = Box::new(alloc, board.expect(rt, "granted")).expect(rt, "granted");
     let bar = board.add(saying(*rt, alloc, text)).expect(rt, "granted");
     same!(rt; bar.tick(), Ok(Drawn::Yes));
-    let shown = board.with_term(|term| contents(term)).granted(rt);
-    (shown, board.with_record(PlaysAgain { rt: *rt, alloc }))
-}
-
-/// Both show this where such a text was told.
-fn show<R: Wait + Copy + Clone + Drop + Abort>(
-    rt: &R,
-    alloc: Global,
-    text: &'static str,
-    wanted: &str,
-) {
-    let (shown, again) = shown(*rt, alloc, text);
-    same!(rt; shown.as_str(), wanted);
-    same!(rt; again.as_str(), wanted);
+    board_shows(rt, &board, wanted);
+    is_one_run(*rt, &board, alloc);
 }
 
 /// A tab is two spaces, and a newline parts two lines. What isn't a colour sequence is drawn; what it does to a terminal isn't claimed.
@@ -90,6 +52,6 @@ fn show<R: Wait + Copy + Clone + Drop + Abort>(
 fn what_no_line_holds(rt: HostRuntime) {
     let rt = &rt;
     let alloc = rt.alloc();
-    show(rt, alloc, "a\tb\nc", "a  b\nc");
-    show(rt, alloc, "a\u{1B}[2Jb", "ab");
+    shows(*rt, alloc, "a\tb\nc", "a  b\nc");
+    shows(*rt, alloc, "a\u{1B}[2Jb", "ab");
 }

@@ -1,9 +1,8 @@
 //! What the last owner of a bar leaves, what stays on another target, and threads with owners of their own, on a terminal that others see.
 use crate::checks::Granted;
 use crate::shown::{Bytes, Shown, is_seen, no_bytes, setup_on};
-use indicatif::{
-    Drawn, MultiProgress, ProgressBar, ProgressFinish, ProgressStyle, StepClock, Term,
-};
+use crate::watched::board_on;
+use indicatif::{Drawn, ProgressBar, ProgressFinish, ProgressStyle, StepClock, Term};
 use std::alloc::Global;
 use std::process::Abort;
 use std::sync::Wait;
@@ -38,57 +37,39 @@ fn ending<R: Wait + Copy + Clone + Drop + Abort>(
     bar.with_finish(finish).expect(rt, "granted")
 }
 
-/// Of two owners that are given up the last one finishes the bar by its stored finish. (What the first one leaves is a row.)
-#[test]
-fn the_last_release_finishes(rt: HostRuntime) {
+/// Draws a bar of two owners, of which the first is given up, and the last one then too, or dropped: this stands there then.
+fn leaves<R: Wait + Copy + Clone + Drop + Abort>(
+    rt: R,
+    alloc: Global,
+    (finish, is_released): (ProgressFinish, bool),
+    wanted: &str,
+) {
     let rt = &rt;
-    let alloc = rt.alloc();
     let bytes = no_bytes(rt, alloc);
-    let bar = ending(*rt, alloc, &bytes, ProgressFinish::AndLeave);
+    let bar = ending(*rt, alloc, &bytes, finish);
     let other = bar.clone().expect(rt, "granted");
     same!(rt; bar.set_position(3), Ok(Drawn::Yes));
     bar.release();
-    other.release();
-    is_seen(rt, alloc, &bytes, "10/10");
-}
-
-/// Draws a bar, whose one owner is dropped at the end of the block.
-fn drawn_and_dropped<R: Wait + Copy + Clone + Drop + Abort>(
-    rt: R,
-    alloc: Global,
-    bytes: &Bytes,
-    finish: ProgressFinish,
-) {
-    let rt = &rt;
-    let bar = ending(*rt, alloc, bytes, finish);
-    same!(rt; bar.set_position(3), Ok(Drawn::Yes));
-}
-
-/// So does an owner that is dropped. Where it is to be cleared, its row goes.
-#[test]
-fn the_last_drop_finishes(rt: HostRuntime) {
-    let rt = &rt;
-    let alloc = rt.alloc();
-    let bytes = no_bytes(rt, alloc);
-    drawn_and_dropped(*rt, alloc, &bytes, ProgressFinish::AndLeave);
-    is_seen(rt, alloc, &bytes, "10/10");
-    let bytes = no_bytes(rt, alloc);
-    drawn_and_dropped(*rt, alloc, &bytes, ProgressFinish::AndClear);
-    is_seen(rt, alloc, &bytes, "");
+    match is_released {
+        true => other.release(),
+        false => drop(other),
+    }
+    is_seen(rt, alloc, &bytes, wanted);
     holds!(rt; !bytes.lock(rt).is_empty());
 }
 
-// ---- another target
-
-/// A board on that terminal.
-fn board_on<R: Wait + Copy + Clone + Drop + Abort>(
-    rt: R,
-    alloc: Global,
-    bytes: &Bytes,
-) -> MultiProgress<Term<Shown<R>>, StepClock, R> {
+/// The last owner finishes the bar by its stored finish, whether it is given up or dropped. Where it is to be cleared, its row goes. (What
+/// the first one leaves is a row.)
+#[test]
+fn the_last_owner_finishes(rt: HostRuntime) {
     let rt = &rt;
-    MultiProgress::new(*rt, alloc, setup_on(*rt, bytes, 10), 1).expect(rt, "granted")
+    let alloc = rt.alloc();
+    leaves(*rt, alloc, (ProgressFinish::AndLeave, true), "10/10");
+    leaves(*rt, alloc, (ProgressFinish::AndLeave, false), "10/10");
+    leaves(*rt, alloc, (ProgressFinish::AndClear, false), "");
 }
+
+// ---- another target
 
 /// What a bar drew on its own target stays there: once it has another one, and once a board has taken it in.
 #[test]
@@ -103,7 +84,7 @@ fn what_was_drawn_stays(rt: HostRuntime) {
     same!(rt; bar.set_draw_target(target), Ok(Drawn::Limited));
     same!(rt; bar.set_position(2), Ok(Drawn::Yes));
     let third = no_bytes(rt, alloc);
-    let board = board_on(*rt, alloc, &third);
+    let board = board_on(*rt, alloc, &third, 10);
     let bar = board.add(bar).expect(rt, "granted");
     same!(rt; bar.set_position(3), Ok(Drawn::Yes));
     is_seen(rt, alloc, &first, "1");

@@ -3,13 +3,13 @@
 use crate::checks::Granted;
 use crate::fronts::{Shared, target};
 use indicatif::style::Tracks;
-use indicatif::{BarCommand, Board, Call, Entry, InMemoryTerm, NoTracker, RecordReader, Recorded};
+use indicatif::{
+    BarCommand, Board, Call, Entry, InMemoryTerm, MultiProgress, NoTracker, RecordReader, Recorded,
+    StepClock,
+};
 use std::alloc::Global;
 use std::process::Abort;
 use std::sync::Wait;
-
-/// A board that keeps its history.
-pub type Recording = Recorded<NoTracker, InMemoryTerm>;
 
 /// A kind of calls.
 #[derive(Clone, Copy, Drop)]
@@ -44,7 +44,7 @@ fn is_ticker(command: &BarCommand<NoTracker>, kind: Kind<'_>) -> bool {
 impl<'a> RecordReader<InMemoryTerm, NoTracker> for Kind<'a> {
     type Found = u64;
 
-    fn read(self, record: Option<&Recording>) -> u64 {
+    fn read(self, record: Option<&Recorded<NoTracker, InMemoryTerm>>) -> u64 {
         match record {
             Some(recorded) => count(recorded.entries(), self),
             None => 0,
@@ -68,7 +68,7 @@ pub fn counted<R: Wait + Copy + Clone + Drop>(board: &Shared<R>, kind: Kind<'_>)
 }
 
 /// A board makes these calls with the same answers.
-pub fn answers_so<R: Abort, K: Tracks>(
+fn answers_so<R: Abort, K: Tracks>(
     rt: &R,
     board: &mut Board<K, InMemoryTerm>,
     alloc: Global,
@@ -82,11 +82,7 @@ pub fn answers_so<R: Abort, K: Tracks>(
     }
 }
 
-/// Two terminals show the same rows, those that have scrolled away too.
-fn show_the_same<R: Abort>(rt: &R, one: Option<&InMemoryTerm>, other: Option<&InMemoryTerm>) {
-    same!(rt; rows_of(rt, one), rows_of(rt, other));
-}
-
+/// The rows of a terminal, those that have scrolled away too.
 fn rows_of<R: Abort>(rt: &R, term: Option<&InMemoryTerm>) -> Vec<String> {
     let term = term.granted(rt);
     term.picture().granted(rt)
@@ -99,25 +95,29 @@ struct RunsAgain<R: Abort + Drop> {
     alloc: Global,
 }
 
-impl<R: Abort + Drop> RecordReader<InMemoryTerm, NoTracker> for RunsAgain<R> {
+impl<R: Abort + Drop, K: Tracks> RecordReader<InMemoryTerm, K> for RunsAgain<R> {
     type Found = ();
 
-    fn read(self, record: Option<&Recording>) {
+    fn read(self, record: Option<&Recorded<K, InMemoryTerm>>) {
         let recorded = record.expect(&self.rt, "a history");
         runs_again(&self.rt, self.alloc, recorded);
     }
 }
 
 /// The same of this history.
-pub fn runs_again<R: Abort>(rt: &R, alloc: Global, recorded: &Recording) {
+fn runs_again<R: Abort, K: Tracks>(rt: &R, alloc: Global, recorded: &Recorded<K, InMemoryTerm>) {
     let target = target(alloc).granted(rt);
     let board = Board::new(alloc, target, recorded.opening().board_id);
     let mut fresh = Box::new(alloc, board).expect(rt, "granted");
     answers_so(rt, &mut fresh, alloc, recorded.entries());
-    show_the_same(rt, fresh.term(), recorded.board().term());
+    same!(rt; rows_of(rt, fresh.term()), rows_of(rt, recorded.board().term()));
 }
 
 /// What a board has kept is one run: a fresh board that makes those calls gives the same answers, and shows the same.
-pub fn is_one_run<R: Wait + Copy + Clone + Drop + Abort>(rt: R, board: &Shared<R>, alloc: Global) {
+pub fn is_one_run<R: Wait + Copy + Clone + Drop + Abort, K: Tracks>(
+    rt: R,
+    board: &MultiProgress<InMemoryTerm, StepClock, R, K>,
+    alloc: Global,
+) {
     board.with_record(RunsAgain { rt, alloc });
 }

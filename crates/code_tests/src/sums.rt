@@ -42,6 +42,7 @@ fn two_threads_add_a_thousand_times(rt: HostRuntime) {
     same!(rt; done.close(worker), 2000);
 }
 
+/// Each worker reads what both have added, anew each time.
 #[test]
 fn a_total_is_read_from_the_shared_word(rt: HostRuntime) {
     let rt = &rt;
@@ -49,23 +50,13 @@ fn a_total_is_read_from_the_shared_word(rt: HostRuntime) {
     let (mut first, mut second) = worker.split(&done).expect(rt, "granted");
     first.add(&done, 5);
     same!(rt; second.total(&done), 5);
-    second.add(&done, 2);
-    same!(rt; first.total(&done), 7);
-    let worker = second.join(first, &done);
-    same!(rt; done.close(worker), 7);
-}
-
-#[test]
-fn a_total_is_read_anew_each_time(rt: HostRuntime) {
-    let rt = &rt;
-    let (done, worker) = Done::new(rt.alloc()).expect(rt, "granted");
-    let (mut first, mut second) = worker.split(&done).expect(rt, "granted");
-    first.add(&done, 5);
-    same!(rt; second.total(&done), 5);
     first.add(&done, 4);
     same!(rt; second.total(&done), 9);
-    second.add(&done, 1);
-    same!(rt; second.total(&done), 10);
+    second.add(&done, 2);
+    same!(rt; second.total(&done), 11);
+    same!(rt; first.total(&done), 11);
+    let worker = second.join(first, &done);
+    same!(rt; done.close(worker), 11);
 }
 
 #[test]
@@ -137,11 +128,11 @@ fn pieces_are_joined_again(rt: HostRuntime) {
     let rt = &rt;
     let alloc = rt.alloc();
     let (done, mut worker) = Done::new(alloc).expect(rt, "granted");
-    worker.add(&done, 3);
+    worker.add(&done, 5);
     let workers = worker.split_among(alloc, &done, 5).expect(rt, "granted");
     let Some(mut all) = BarWorker::join_all(workers, &done) else {
         panic!(rt; "five workers are some")
     };
     all.add(&done, 4);
-    same!(rt; done.close(all), 7);
+    same!(rt; done.close(all), 9);
 }

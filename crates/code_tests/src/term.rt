@@ -25,7 +25,7 @@ fn opened(alloc: Global, target: Target) -> (bool, bool) {
     (engine.is_some(), limiter.is_some())
 }
 
-/// (One without a limiter is in `documented::engines`.)
+/// None, one with a limiter, and one without, which is the documentation's example.
 #[test]
 fn engines_of_targets(rt: HostRuntime) {
     let rt = &rt;
@@ -34,6 +34,9 @@ fn engines_of_targets(rt: HostRuntime) {
     let term = InMemoryTerm::new(alloc, 2, 3).granted(rt);
     let limited = ProgressDrawTarget::term_like_with_hz(term, 1, 0).granted(rt);
     same!(rt; opened(alloc, limited), (true, true));
+    let term = InMemoryTerm::new(alloc, 2, 3).granted(rt);
+    let (engine, limiter) = Engine::opened_on(alloc, ProgressDrawTarget::term_like(term));
+    same!(rt; (engine.is_some(), limiter.is_some()), (true, false));
 }
 
 /// Rows and columns of a target's terminal, where it has one and no limiter.

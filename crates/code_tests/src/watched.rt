@@ -7,10 +7,10 @@ use std::alloc::Global;
 use std::process::Abort;
 use std::sync::{Arc, Wait};
 
-type Board<R> = MultiProgress<Term<Shown<R>>, StepClock, R>;
+pub type Board<R> = MultiProgress<Term<Shown<R>>, StepClock, R>;
 
 /// A board on that terminal, of so many columns.
-fn board_on<R: Wait + Copy + Clone + Drop + Abort>(
+pub fn board_on<R: Wait + Copy + Clone + Drop + Abort>(
     rt: R,
     alloc: Global,
     bytes: &Bytes,
@@ -43,7 +43,13 @@ fn draws<R: Wait + Copy + Clone + Drop + Abort>(rt: R, bar: &Bar<R>) {
 
 // ---- while a closure runs
 
-/// The board's rows are gone while a closure runs, and it draws.
+/// The number 7; nothing stands on the terminal meanwhile.
+fn seven<R: Wait + Abort>(rt: &R, alloc: Global, bytes: &Bytes) -> u8 {
+    is_seen(rt, alloc, bytes, "");
+    7
+}
+
+/// The board's rows are gone while a closure runs, whose value is handed on, and it draws.
 fn board_pauses<R: Wait + Copy + Clone + Drop + Abort>(
     board: &Board<R>,
     rt: R,
@@ -52,8 +58,8 @@ fn board_pauses<R: Wait + Copy + Clone + Drop + Abort>(
 ) {
     let rt = &rt;
     let bytes = Arc::try_clone(bytes).granted(rt);
-    let (_, drawn) = board.suspend(move || is_seen(rt, alloc, &bytes, ""));
-    same!(rt; drawn, Ok(Drawn::Yes));
+    let paused = board.suspend(move || seven(rt, alloc, &bytes));
+    same!(rt; paused, (7, Ok(Drawn::Yes)));
 }
 
 /// The same by a call of a bar.
@@ -65,8 +71,8 @@ fn bar_pauses<R: Wait + Copy + Clone + Drop + Abort>(
 ) {
     let rt = &rt;
     let bytes = Arc::try_clone(bytes).granted(rt);
-    let (_, drawn) = bar.suspend(move || is_seen(rt, alloc, &bytes, ""));
-    same!(rt; drawn, Ok(Drawn::Yes));
+    let paused = bar.suspend(move || seven(rt, alloc, &bytes));
+    same!(rt; paused, (7, Ok(Drawn::Yes)));
 }
 
 /// A board's bars stand there before and behind a pause of the board or of one of them, and not while the closure runs.

@@ -1,8 +1,7 @@
-//! What a terminal hands on to its writer, and what it makes of the writer's answers.
+//! What a terminal hands on to its writer, and what it makes of the writer's answers; and terminals in a box.
 use crate::checks::Granted;
-use crate::faults::faults;
 use crate::lone_shown::{SCRIPT, STILL, Shown, Step};
-use indicatif_term::in_memory::Cells;
+use indicatif_term::in_memory::{Cells, InMemoryTerm};
 use indicatif_term::term_like::{Term, TermLike};
 use indicatif_text::columns::{Drawn, Refusal};
 use std::alloc::Global;
@@ -83,6 +82,30 @@ impl Write for SharedCount {
 
 /// A terminal of a kind that only its maker knows.
 type Boxed = Box<dyn TermLike + Drop>;
+
+/// A bar draws the script, and refuses a wide character.
+fn draws_the_script<T: TermLike + Drop>(rt: &impl Abort, mut bar: Shown<T>) {
+    for (step, _) in SCRIPT {
+        same!(rt; bar.makes(*step), Ok(Drawn::Yes));
+    }
+    same!(rt; bar.makes(Step::Log("国")), Err(Refusal::TooWide));
+}
+
+/// A terminal of 5 rows and one column.
+fn small(rt: &impl Abort, alloc: Global) -> InMemoryTerm {
+    InMemoryTerm::new(alloc, 5, 1).granted(rt)
+}
+
+#[test]
+fn a_boxed_terminal_answers_as_the_plain_one(rt: HostRuntime) {
+    let rt = &rt;
+    let alloc = rt.alloc();
+    let plain = Shown::on(alloc, "ab", small(rt, alloc)).granted(rt);
+    draws_the_script(rt, plain);
+    let boxed: Boxed = Box::new(alloc, small(rt, alloc)).granted(rt);
+    let bar = Shown::on(alloc, "ab", boxed).granted(rt);
+    draws_the_script(rt, bar);
+}
 
 /// A terminal in a box that counts its flushes there.
 fn boxed(rt: &impl Abort, alloc: Global, count: &Rc<Cell<u64>>) -> Boxed {
@@ -280,6 +303,11 @@ fn a_bar_behind_a_writer_of_one_byte_a_call(rt: HostRuntime) {
 }
 
 // ---- one in a box that fails
+
+/// How often the bar's terminal has failed.
+fn faults<T: TermLike + Drop>(bar: &Shown<T>) -> Option<u64> {
+    Some(bar.term()?.faults())
+}
 
 /// A tick is drawn, a line fails and is counted, and the same line is drawn then.
 fn fails_at_a_line<T: TermLike + Drop>(rt: &impl Abort, mut bar: Shown<T>) {

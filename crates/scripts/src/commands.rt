@@ -3,9 +3,8 @@
 use crate::got::{Bad, Got};
 use crate::row::headed;
 use crate::spelling::{flag, number, optional, unescaped};
-use indicatif_bar::state::{Ask, BarCommand, Change, ProgressFinish};
+use indicatif_bar::state::{BarCommand, Change, ProgressFinish};
 use indicatif_bar::style::{NoTracker, ProgressStyle};
-use indicatif_text::columns::{Drawn, Refusal};
 use std::alloc::Global;
 
 type Command = BarCommand<NoTracker>;
@@ -193,53 +192,22 @@ fn updating(text: &str) -> Result<Command, Bad> {
 
 // ---- calls by their names
 
-/// What a call of a bar answers: what a record asks for, or what became of a drawing.
-pub trait Told {
-    type Answer;
-
-    fn told(self) -> Result<Self::Answer, Refusal>;
-}
-
-impl Told for Ask {
-    type Answer = Ask;
-
-    fn told(self) -> Result<Ask, Refusal> {
-        Ok(self)
-    }
-}
-
-impl Told for Result<Ask, Refusal> {
-    type Answer = Ask;
-
-    fn told(self) -> Result<Ask, Refusal> {
-        self
-    }
-}
-
-impl Told for Result<Drawn, Refusal> {
-    type Answer = Drawn;
-
-    fn told(self) -> Result<Drawn, Refusal> {
-        self
-    }
-}
-
-/// Makes the call of this name, with which nothing belongs: of a record, a lone bar or a shared one, the first two of which are told a
-/// moment. `None` where there is none of that name here.
+/// Makes the call of this name, with which nothing belongs: of a lone bar, which is told a moment, or a shared one. `None` where there is
+/// none of that name here.
 #[macro_export]
 macro_rules! called_bare {
     ($bar:expr, $name:expr $(, $now:expr)?) => {
         match $name {
-            "tick" => Some($bar.tick($($now)?).told()),
-            "unset_length" => Some($bar.unset_length($($now)?).told()),
-            "reset_eta" => Some($bar.reset_eta($($now)?).told()),
-            "reset_elapsed" => Some($bar.reset_elapsed($($now)?).told()),
-            "reset" => Some($bar.reset($($now)?).told()),
-            "force_draw" => Some($bar.force_draw($($now)?).told()),
-            "finish" => Some($bar.finish($($now)?).told()),
-            "finish_and_clear" => Some($bar.finish_and_clear($($now)?).told()),
-            "abandon" => Some($bar.abandon($($now)?).told()),
-            "finish_using_style" => Some($bar.finish_using_style($($now)?).told()),
+            "tick" => Some($bar.tick($($now)?)),
+            "unset_length" => Some($bar.unset_length($($now)?)),
+            "reset_eta" => Some($bar.reset_eta($($now)?)),
+            "reset_elapsed" => Some($bar.reset_elapsed($($now)?)),
+            "reset" => Some($bar.reset($($now)?)),
+            "force_draw" => Some($bar.force_draw($($now)?)),
+            "finish" => Some($bar.finish($($now)?)),
+            "finish_and_clear" => Some($bar.finish_and_clear($($now)?)),
+            "abandon" => Some($bar.abandon($($now)?)),
+            "finish_using_style" => Some($bar.finish_using_style($($now)?)),
             _ => None,
         }
     };
@@ -250,14 +218,14 @@ macro_rules! called_bare {
 macro_rules! called_with_number {
     ($bar:expr, $name:expr, $number:expr $(, $now:expr)?) => {
         match $name {
-            "inc" => Some($bar.inc($number $(, $now)?).told()),
-            "dec" => Some($bar.dec($number $(, $now)?).told()),
-            "set_position" => Some($bar.set_position($number $(, $now)?).told()),
-            "set_length" => Some($bar.set_length($number $(, $now)?).told()),
-            "inc_length" => Some($bar.inc_length($number $(, $now)?).told()),
-            "dec_length" => Some($bar.dec_length($number $(, $now)?).told()),
-            "set_elapsed" => Some($bar.set_elapsed($number $(, $now)?).told()),
-            "set_tab_width" => Some($bar.set_tab_width($number as usize $(, $now)?).told()),
+            "inc" => Some($bar.inc($number $(, $now)?)),
+            "dec" => Some($bar.dec($number $(, $now)?)),
+            "set_position" => Some($bar.set_position($number $(, $now)?)),
+            "set_length" => Some($bar.set_length($number $(, $now)?)),
+            "inc_length" => Some($bar.inc_length($number $(, $now)?)),
+            "dec_length" => Some($bar.dec_length($number $(, $now)?)),
+            "set_elapsed" => Some($bar.set_elapsed($number $(, $now)?)),
+            "set_tab_width" => Some($bar.set_tab_width($number as usize $(, $now)?)),
             _ => None,
         }
     };
@@ -268,10 +236,10 @@ macro_rules! called_with_number {
 macro_rules! called_with_text {
     ($bar:expr, $name:expr, $text:expr $(, $now:expr)?) => {
         match $name {
-            "set_message" => Some($bar.set_message($text $(, $now)?).told()),
-            "set_prefix" => Some($bar.set_prefix($text $(, $now)?).told()),
-            "finish_with_message" => Some($bar.finish_with_message($text $(, $now)?).told()),
-            "abandon_with_message" => Some($bar.abandon_with_message($text $(, $now)?).told()),
+            "set_message" => Some($bar.set_message($text $(, $now)?)),
+            "set_prefix" => Some($bar.set_prefix($text $(, $now)?)),
+            "finish_with_message" => Some($bar.finish_with_message($text $(, $now)?)),
+            "abandon_with_message" => Some($bar.abandon_with_message($text $(, $now)?)),
             _ => None,
         }
     };

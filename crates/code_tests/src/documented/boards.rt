@@ -1,8 +1,7 @@
-//! Examples of a board and of sums.
+//! Examples of a board.
 use crate::checks::Granted;
 use indicatif_bar::state::BarState;
 use indicatif_bar::style::{NoTracker, ProgressStyle};
-use indicatif_board::done::Done;
 use indicatif_board::multi::{Answer, BarId, Board, Call, Candidate, InsertLocation};
 use indicatif_term::draw_target::ProgressDrawTarget;
 use indicatif_term::in_memory::InMemoryTerm;
@@ -44,6 +43,7 @@ fn texts_on_fewer_columns(rt: HostRuntime) {
     shows(rt, board, "a.t\nxt\nhel\nlo");
 }
 
+/// One of another board isn't taken out.
 #[test]
 fn order_of_bars(rt: HostRuntime) {
     let rt = &rt;
@@ -54,6 +54,11 @@ fn order_of_bars(rt: HostRuntime) {
     turn_away(rt, alloc, &mut board);
     stack(rt, alloc, &mut board);
     same!(rt; board.order(), [0, 2, 1].as_slice());
+    let elsewhere = BarId {
+        board: 0,
+        number: 1,
+    };
+    holds!(rt; matches!(board.remove(elsewhere), Err(Refusal::ForeignBar)));
 }
 
 /// Takes a bar in, which stays first when it is inserted there.
@@ -98,17 +103,6 @@ fn stack(rt: &impl Abort, alloc: Global, board: &mut Bars) {
 }
 
 #[test]
-fn bar_of_another_board(rt: HostRuntime) {
-    let rt = &rt;
-    let mut board = board_of(rt, rt.alloc());
-    let elsewhere = BarId {
-        board: 0,
-        number: 1,
-    };
-    holds!(rt; matches!(board.remove(elsewhere), Err(Refusal::ForeignBar)));
-}
-
-#[test]
 fn answers_of_calls(rt: HostRuntime) {
     let rt = &rt;
     let alloc = rt.alloc();
@@ -142,13 +136,4 @@ fn copy_of_a_candidate(rt: HostRuntime) {
     let candidate = Candidate::<NoTracker>::Member(id);
     let again = candidate.try_clone().granted(rt);
     holds!(rt; matches!(again, Candidate::Member(_)));
-}
-
-#[test]
-fn sum_of_a_worker(rt: HostRuntime) {
-    let rt = &rt;
-    let alloc = rt.alloc();
-    let (done, mut worker) = Done::new(alloc).expect(rt, "granted");
-    worker.add(&done, 5);
-    same!(rt; done.close(worker), 5);
 }

@@ -1,7 +1,7 @@
 //! Examples of the engine, its lines and its limiter.
 use crate::checks::Granted;
 use indicatif_term::draw_target::{
-    Engine, Keep, LineType, MultiProgressAlignment, ProgressDrawTarget, RateLimiter, Segment,
+    Engine, Keep, LineType, MultiProgressAlignment, RateLimiter, Segment,
 };
 use indicatif_term::in_memory::InMemoryTerm;
 use std::alloc::Global;
@@ -53,16 +53,6 @@ fn terminal_of_a_new_size(rt: HostRuntime) {
         .draw(&frame, 0, MultiProgressAlignment::Bottom)
         .granted(rt);
     shows(rt, engine, "fetch\ned");
-}
-
-#[test]
-fn engine_without_a_limiter(rt: HostRuntime) {
-    let rt = &rt;
-    let alloc = rt.alloc();
-    let term = InMemoryTerm::new(alloc, 4, 5).granted(rt);
-    let (engine, limiter) = Engine::opened_on(alloc, ProgressDrawTarget::term_like(term));
-    holds!(rt; engine.is_some());
-    holds!(rt; limiter.is_none());
 }
 
 #[test]

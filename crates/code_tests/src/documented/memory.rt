@@ -39,15 +39,7 @@ fn cells_with_written_spaces(rt: HostRuntime) {
     same!(rt; cells.cursor(), (1, 1));
 }
 
-#[test]
-fn cells_fed_with_half_a_character(rt: HostRuntime) {
-    let rt = &rt;
-    let mut cells = Cells::new(rt.alloc(), 1, 4).granted(rt);
-    cells.feed(b"\xE5\x9B").granted(rt);
-    cells.feed(b"\xBD").granted(rt);
-    same!(rt; cells.cursor(), (0, 2));
-}
-
+/// Behind them comes a character of two columns, in two halves.
 #[test]
 fn cells_of_fewer_columns_and_of_more_again(rt: HostRuntime) {
     let rt = &rt;
@@ -57,9 +49,12 @@ fn cells_of_fewer_columns_and_of_more_again(rt: HostRuntime) {
     same!(rt; cells.cursor(), (2, 3));
     cells.resize(4, 20).granted(rt);
     same!(rt; cells.cursor(), (2, 3));
+    cells.feed(b"\xE5\x9B").granted(rt);
+    cells.feed(b"\xBD").granted(rt);
+    same!(rt; cells.cursor(), (2, 5));
 }
 
-/// It goes up by two rows where it stands in the second one.
+/// It goes up by two rows where it stands in the second one. Behind a reset come spaces that are written.
 #[test]
 fn texts_and_moves_of_a_terminal(rt: HostRuntime) {
     let rt = &rt;
@@ -70,12 +65,6 @@ fn texts_and_moves_of_a_terminal(rt: HostRuntime) {
     term.move_cursor_up(2).granted(rt);
     term.write_line("a\tb").granted(rt);
     same!(rt; term.cursor(), (1, 0));
-}
-
-#[test]
-fn written_spaces_behind_a_reset(rt: HostRuntime) {
-    let rt = &rt;
-    let mut term = InMemoryTerm::new(rt.alloc(), 3, 5).granted(rt);
     term.write_str("abc").granted(rt);
     term.reset();
     same!(rt; term.cursor(), (0, 0));

@@ -66,15 +66,6 @@ fn command_as_a_value_and_its_copy(rt: HostRuntime) {
 }
 
 #[test]
-fn asks_of_draws(rt: HostRuntime) {
-    let rt = &rt;
-    let now = 0;
-    let mut bar = bar_at(rt, rt.alloc(), 3);
-    same!(rt; bar.tick(now), Ask::Unforced);
-    same!(rt; bar.force_draw(now), Ask::Forced);
-}
-
-#[test]
 fn rate_since_a_reset(rt: HostRuntime) {
     let rt = &rt;
     let mut bar = bar_at(rt, rt.alloc(), 0);
@@ -95,11 +86,14 @@ fn copy_of_a_bar(rt: HostRuntime) {
     same!(rt; (before.state().pos(), bar.state().pos()), (3, 4));
 }
 
+/// It asked for draws before.
 #[test]
 fn finish_that_leaves_the_bar(rt: HostRuntime) {
     let rt = &rt;
     let now = 0;
     let mut bar = bar_at(rt, rt.alloc(), 3);
+    same!(rt; bar.tick(now), Ask::Unforced);
+    same!(rt; bar.force_draw(now), Ask::Forced);
     bar.with_finish(ProgressFinish::AndLeave, now);
     bar.finish_using_style(now).granted(rt);
     same!(rt; (bar.state().pos(), bar.state().is_finished()), (4, true));

@@ -5,6 +5,7 @@ use indicatif_term::in_memory::InMemoryTerm;
 use indicatif_term::term_like::{Term, TermLike, write_whole};
 use std::io::BufWriter;
 
+/// And one on a terminal.
 #[test]
 fn target_on_a_stream(rt: HostRuntime) {
     let rt = &rt;
@@ -19,12 +20,7 @@ fn target_on_a_stream(rt: HostRuntime) {
     };
     let target = ProgressDrawTarget::stderr(writer, facts, now);
     holds!(rt; !target.is_hidden());
-}
-
-#[test]
-fn target_on_a_terminal(rt: HostRuntime) {
-    let rt = &rt;
-    let term = InMemoryTerm::new(rt.alloc(), 3, 10).granted(rt);
+    let term = InMemoryTerm::new(alloc, 3, 10).granted(rt);
     let often = ProgressDrawTarget::term_like(term);
     holds!(rt; !often.is_hidden());
 }

@@ -1,6 +1,6 @@
 //! A board that is shared, and its history.
 use crate::checks::Granted;
-use crate::documented_shared::bars::setup_of;
+use crate::fronts::setup;
 use indicatif::style::Tracks;
 use indicatif::{MultiProgress, ProgressBar, RecordReader, Recorded, StepClock, TermLike};
 
@@ -20,7 +20,7 @@ impl<T: TermLike + Drop, K: Tracks> RecordReader<T, K> for Length {
 fn line_above_a_bar(rt: HostRuntime) {
     let rt = &rt;
     let alloc = rt.alloc();
-    let setup = setup_of(rt, alloc);
+    let setup = setup(rt, alloc, 20);
     let board = MultiProgress::new(*rt, alloc, setup, 1).expect(rt, "granted");
     let clock = StepClock { next: 0, step: 1 };
     let bar = board

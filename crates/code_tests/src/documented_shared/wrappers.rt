@@ -1,54 +1,17 @@
 //! What a bar wraps.
 use crate::checks::Granted;
-use crate::documented_shared::bars::setup_of;
-use crate::fronts::Bar;
-use futures::Stream;
+use crate::fronts::setup;
 use indicatif::{
     BarState, InMemoryTerm, LoneBar, Move, Moves, NoTracker, OwnedBar, ProgressBarIter,
     ProgressDrawTarget, ProgressIterator, Setup, StepClock,
 };
 use std::alloc::Global;
 use std::process::Abort;
-use std::sync::Wait;
 use std::vec::IntoIter;
-use tokio::io::{AsyncRead, AsyncWrite};
-
-/// Wraps a stream, which the bar goes along with.
-pub fn streamed<S: Stream + Drop, R: Wait + Clone + Drop + Abort>(rt: &R, bar: &Bar<R>, stream: S) {
-    let mut wrapped = bar.wrap_stream(stream).expect(rt, "granted");
-}
-
-/// Wraps a reader that is polled.
-pub fn read_along<S: AsyncRead + Drop, R: Wait + Clone + Drop + Abort>(
-    rt: &R,
-    bar: &Bar<R>,
-    socket: S,
-) {
-    let mut wrapped = bar.wrap_async_read(socket).expect(rt, "granted");
-}
-
-/// Wraps a writer that is polled.
-pub fn written_along<S: AsyncWrite + Drop, R: Wait + Clone + Drop + Abort>(
-    rt: &R,
-    bar: &Bar<R>,
-    socket: S,
-) {
-    let mut wrapped = bar.wrap_async_write(socket).expect(rt, "granted");
-}
-
-/// Wraps bytes that are written.
-pub fn written<R: Wait + Clone + Drop + Abort>(
-    rt: &R,
-    alloc: Global,
-    bar: &Bar<R>,
-) -> ProgressBarIter<Vec<u8>, Bar<R>> {
-    let mut wrapped = bar.wrap_write(Vec::new(alloc)).expect(rt, "granted");
-    wrapped
-}
 
 /// A bar of two steps, of its own, made from parts.
 fn own_of_two<R: Abort>(rt: &R, alloc: Global) -> OwnedBar<NoTracker, InMemoryTerm, StepClock> {
-    let Setup { target, clock: _ } = setup_of(rt, alloc);
+    let Setup { target, clock: _ } = setup(rt, alloc, 20);
     let state = BarState::new(alloc, Some(2), 0).granted(rt);
     let bar = OwnedBar::new(
         LoneBar::new(state, target),
@@ -122,20 +85,4 @@ fn all_items_of_a_list(rt: HostRuntime) {
         .progress(alloc, setup)
         .expect(rt, "granted");
     same!(rt; counted(&mut wrapped), 2);
-}
-
-#[test]
-fn the_first_item_of_a_list_of_known_length(rt: HostRuntime) {
-    let rt = &rt;
-    let alloc = rt.alloc();
-    let list = two_items(rt, alloc);
-    let setup = setup_of(rt, alloc);
-    let Some(mut wrapped) = list
-        .into_iter()
-        .try_progress(alloc, setup)
-        .expect(rt, "granted")
-    else {
-        panic!(rt; "no bar is made")
-    };
-    same!(rt; wrapped.next(), Some(7));
 }

@@ -127,18 +127,29 @@ impl<R: Wait + Copy + Clone + Drop> Maker<R> {
         }
     }
 
+    /// A bar that is made so: `new`, without a length where there is none, `spinner`, or on a `target`.
+    pub fn made(&self, way: &str, len: Option<u64>) -> Result<Bar<R>, Bad> {
+        let Setup { target, clock } = self.room.setup(self.alloc)?;
+        Bar::given(match (way, len) {
+            ("target", _) => ProgressBar::with_draw_target(self.rt, self.alloc, len, target, clock),
+            ("spinner", _) => {
+                ProgressBar::new_spinner(self.rt, self.alloc, Setup { target, clock })
+            }
+            ("new", Some(len)) => {
+                ProgressBar::new(self.rt, self.alloc, len, Setup { target, clock })
+            }
+            ("new", None) => ProgressBar::no_length(self.rt, self.alloc, Setup { target, clock }),
+            _ => return Err(Bad::Step),
+        })
+    }
+
     /// A bar of this length in the style of a template.
     pub fn bar(&self, len: Option<u64>, template: &str) -> Result<Bar<R>, Bad> {
         let style = ProgressStyle::with_template(self.alloc, template)?;
-        let setup = self.room.setup(self.alloc)?;
-        let bar = match len {
-            Some(len) => ProgressBar::new(self.rt, self.alloc, len, setup),
-            None => ProgressBar::no_length(self.rt, self.alloc, setup),
-        };
-        Bar::given(match bar {
-            Ok(bar) => bar.with_style(style),
-            Err(refusal) => Err(refusal),
-        })
+        match self.made("new", len) {
+            Ok(bar) => Bar::given(bar.0.with_style(style)),
+            Err(bad) => Err(bad),
+        }
     }
 
     /// A bar whose one line is its message, this text.

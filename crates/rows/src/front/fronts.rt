@@ -8,6 +8,7 @@
 //! - `board`, `recorded`: a board without and with a history, of the next id, from 1 on; `on ID`: steps speak of this board.
 //! - `alone TEXT`, `bar LEN TEMPLATE`, `hidden_bar`: a bar that stands alone, whose owner comes behind the others: owners are numbered
 //!   from 0.
+//! - `made WAY LEN`: a bar as it is made: `new`, `spinner`, on a `target`, or by the `board`, as a spinner where it has no length.
 //! - `add BAR`, `insert N BAR`, `back N BAR`, `before OWNER BAR`, `after OWNER BAR`: a new bar with this message, behind `=` another owner
 //!   of a bar, or with `<` the last owner itself; the owner that comes back stands behind the others.
 //! - `own OWNER`, `release`, `drop`: another owner; the last owner is given up, or dropped.
@@ -19,7 +20,7 @@
 //! - `wrap_iter OWNER TEXT`, `wrap_read ..`, `wrap_write ..`, `wrap_stream ..`, `wrap_async_read ..`, `wrap_async_write ..`: something
 //!   (`scripted`) that the bar wraps; `| STEP` asks it (`bytes`).
 //! - `weak OWNER`, `never`, `upgrades`, `upgrade`: a weak bar; whether it is a bar again; and an owner by it.
-//! - `history_rests`: whether the history stays for 50 milliseconds.
+//! - `history_rests`: whether the history stays for 50 milliseconds; `kept_at`: the moments of its calls.
 //! - `shows`, `hidden`, `order`, `adds`: what is seen of the board; the calls that its history has gained since it was last asked.
 //!   `adds OWNER: CALL`: a call, and what it adds. Behind them stands `!answer` where the last of them is kept with another answer than
 //!   was given, and `!run` where a fresh board that makes all that were kept gives another answer or shows something else.
@@ -217,6 +218,7 @@ impl<R: Wait + Copy + Clone + Drop> Fronts<R> {
             (_, Some(("alone", text))) => self.maker.saying(text),
             (_, Some(("bar", rest))) => self.styled(rest),
             (_, Some(("own", place))) => self.another(place),
+            (_, Some(("made", rest))) => self.made(rest),
             _ => return None,
         })
     }
@@ -226,6 +228,18 @@ impl<R: Wait + Copy + Clone + Drop> Fronts<R> {
         let len = words.optional();
         let template = words.text(self.maker.alloc)?;
         self.maker.bar(len, template.as_str())
+    }
+
+    /// A bar as one of the ways to make it leaves it.
+    fn made(&self, rest: &str) -> Result<Bar<R>, Bad> {
+        let mut words = Words::of(rest);
+        let (way, len) = (words.word(), words.optional());
+        let len = words.done(len)?;
+        match (way, len, self.board()) {
+            ("board", Some(len), Some(board)) => Bar::given(board.new_bar(len)),
+            ("board", None, Some(board)) => Bar::given(board.new_spinner()),
+            _ => self.maker.made(way, len),
+        }
     }
 
     /// Another owner of the bar of this one.
@@ -344,6 +358,9 @@ impl<R: Wait + Copy + Clone + Drop> Fronts<R> {
             "hidden" => got.flag(board.is_hidden()),
             "order" => {
                 shown(board, self.look(Question::Order), got);
+            }
+            "kept_at" => {
+                shown(board, self.look(Question::Moments), got);
             }
             _ => {
                 let told = self.board_told(step);

@@ -21,6 +21,8 @@ pub enum Answered {
 pub enum Question {
     /// Its bars, in their order.
     Order,
+    /// When its calls were made.
+    Moments,
     /// The calls from this one on, of which the last was answered so.
     Added { from: usize, answer: Answered },
 }
@@ -70,6 +72,7 @@ impl RecordReader<InMemoryTerm, NoTracker> for Look {
 fn answer(look: &Look, record: &Recorded<NoTracker, InMemoryTerm>, said: &mut Got) -> usize {
     match look.question {
         Question::Order => said.numbers(record.board().order()),
+        Question::Moments => push_moments(record.entries(), said),
         Question::Added { from, answer } => {
             let added = record.entries().get(from..).unwrap_or(&[]);
             let mut parting = "";
@@ -87,6 +90,16 @@ fn answer(look: &Look, record: &Recorded<NoTracker, InMemoryTerm>, said: &mut Go
         }
     }
     record.entries().len()
+}
+
+/// Appends the moments of calls, a space between two.
+fn push_moments(entries: &[Entry<NoTracker>], said: &mut Got) {
+    let mut parting = "";
+    for entry in entries {
+        said.text(parting);
+        said.number(entry.now);
+        parting = " ";
+    }
 }
 
 /// Whether a call was answered so; one that neither draws nor is refused counts as `Limited`.

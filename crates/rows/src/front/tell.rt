@@ -11,7 +11,7 @@ use crate::front::bars::{Front, spinner};
 use indicatif::{
     Change, Drawn, Move, Moves, NoTracker, ProgressFinish, ProgressState, ProgressStyle, Refusal,
 };
-use scripts::commands::{Told as _, WORDED, finish};
+use scripts::commands::{WORDED, finish};
 use scripts::got::Bad;
 use scripts::spelling::{number, unescaped};
 use scripts::{called_bare, called_with_number, called_with_text};
