@@ -18,20 +18,6 @@ pub fn is_so<R: Abort>(rt: &R, holds: bool) {
     }
 }
 
-/// Ends the test where the two differ in this case.
-pub fn are_same_for<R: Abort, A: PartialEq + Debug + Drop>(rt: &R, case: &str, got: A, wanted: A) {
-    if got != wanted {
-        panic!(*rt; "{case}: got {got:?}, wanted {wanted:?}")
-    }
-}
-
-/// Ends the test where this doesn't hold of this case.
-pub fn is_so_for<R: Abort>(rt: &R, case: &str, holds: bool) {
-    if !holds {
-        panic!(*rt; "a check doesn't hold: {case}")
-    }
-}
-
 /// What a test is sure to get. A test calls `expect` where a call below it asks something of the value, and for a value whose type has
 /// parameters, as a shared bar: there a trait's call takes longer to prove.
 pub trait Granted<T> {

@@ -3,7 +3,6 @@
 //!
 //! Of the four lower libraries, and of what plays rows and scripts over them:
 //!
-//! - `named`: each command of a bar as a call, compared with the same command as a value.
 //! - `values`: what bars return, what comes by default, and closures that bars take.
 //! - `writers`: a writer that fails at each byte; boxed terminals, and buffers. `lone_shown`: a bar on a terminal.
 //! - `histories`: boards that keep their history. `sums`: workers that add to one sum.
@@ -89,8 +88,6 @@ mod lone_shown;
 mod machines;
 #[cfg(test)]
 mod made;
-#[cfg(test)]
-mod named;
 #[cfg(test)]
 mod odd_keys;
 #[cfg(test)]

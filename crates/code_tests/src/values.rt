@@ -117,7 +117,7 @@ fn shown_at(rt: &impl Abort, alloc: Global, place: u64) -> Box<Lone> {
 }
 
 /// What stands on a bar's terminal.
-pub fn contents(rt: &impl Abort, bar: &Lone) -> String {
+fn contents(rt: &impl Abort, bar: &Lone) -> String {
     let term = bar.term().granted(rt);
     term.contents().granted(rt)
 }

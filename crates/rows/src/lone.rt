@@ -2,9 +2,11 @@
 use crate::records::new_bar;
 use crate::terminals::Terminal;
 use indicatif_bar::lone::{LoneBar, LoneCall};
+use indicatif_bar::state::{BarCommand, ProgressFinish};
 use indicatif_bar::style::NoTracker;
 use indicatif_term::term_like::TermLike;
 use indicatif_text::columns::{Drawn, Moment, Refusal};
+use scripts::called;
 use scripts::got::{Bad, Got};
 use scripts::lone::{Bar, lone_call, read_bar, style_of};
 use scripts::row::{At, Words, headed, timed};
@@ -132,8 +134,33 @@ fn answer(bar: &mut Lone, step: &str, at: At) -> Result<Answer, Bad> {
         ("absorb", sum) => bar.absorb(number(sum)?, now),
         ("with_elapsed", nanos) => bar.with_elapsed(number(nanos)?, now),
         ("with_style", template) => bar.with_style(Box::into_inner(style_of(at, template)?), now),
-        _ => bar.call(lone_call(at.alloc, step)?, now),
+        _ => match lone_call(at.alloc, step)? {
+            LoneCall::Log(text) => bar.println(text.as_str(), now),
+            LoneCall::Clear => bar.clear(now),
+            LoneCall::Bar(command) => obeyed(bar, command, now),
+        },
     })
+}
+
+/// What the bar answers to a command: to the call of its name, or to the command as a value, where such a call takes something for its own.
+fn obeyed(bar: &mut Lone, command: BarCommand<NoTracker>, now: Moment) -> Answer {
+    match by_name(bar, &command, now) {
+        Some(answer) => answer,
+        None => bar.call(LoneCall::Bar(command), now),
+    }
+}
+
+fn by_name(bar: &mut Lone, command: &BarCommand<NoTracker>, now: Moment) -> Option<Answer> {
+    match command {
+        BarCommand::TickerTick => Some(bar.ticker_tick(now)),
+        BarCommand::SetTicker(is_on) => Some(bar.set_ticker(*is_on, now)),
+        BarCommand::Update(change) => Some(bar.set_change(*change, now)),
+        BarCommand::WithPosition(position) => Some(bar.with_position(*position, now)),
+        BarCommand::WithTabWidth(width) => Some(bar.with_tab_width(*width, now)),
+        BarCommand::WithMessage(text) => Some(bar.with_message(text.as_str(), now)),
+        BarCommand::WithPrefix(text) => Some(bar.with_prefix(text.as_str(), now)),
+        _ => called!(bar, command, now),
+    }
 }
 
 /// `run CALL | CALL ..`: calls as one list, each at its moment, and what each answers.

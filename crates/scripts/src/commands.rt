@@ -9,37 +9,8 @@ use std::alloc::Global;
 
 type Command = BarCommand<NoTracker>;
 
-/// The commands with which nothing belongs.
-pub const BARE: [&str; 11] = [
-    "tick",
-    "ticker_tick",
-    "unset_length",
-    "reset_eta",
-    "reset_elapsed",
-    "reset",
-    "finish",
-    "finish_and_clear",
-    "abandon",
-    "finish_using_style",
-    "force_draw",
-];
-
-/// Those with a number.
-pub const NUMBERED: [&str; 10] = [
-    "inc",
-    "dec",
-    "set_position",
-    "with_position",
-    "set_length",
-    "inc_length",
-    "dec_length",
-    "set_elapsed",
-    "set_tab_width",
-    "with_tab_width",
-];
-
-/// Those with a text.
-pub const WORDED: [&str; 6] = [
+/// The commands with a text.
+const WORDED: [&str; 6] = [
     "set_message",
     "set_prefix",
     "with_message",
@@ -48,7 +19,7 @@ pub const WORDED: [&str; 6] = [
     "abandon_with_message",
 ];
 
-/// Those that are about a bar's numbers and times; `update` has two numbers.
+/// The commands that are about a bar's numbers and times; `update` has two numbers.
 pub const COUNTING: [&str; 11] = [
     "dec",
     "set_position",
@@ -192,54 +163,40 @@ fn updating(text: &str) -> Result<Command, Bad> {
 
 // ---- calls by their names
 
-/// Makes the call of this name, with which nothing belongs: of a lone bar, which is told a moment, or a shared one. `None` where there is
-/// none of that name here.
+/// Makes a command by the call of its name: of a lone bar, which is told a moment, or of a shared one. `None` where they have no such call
+/// in common, or one that takes what belongs with the command for its own.
 #[macro_export]
-macro_rules! called_bare {
-    ($bar:expr, $name:expr $(, $now:expr)?) => {
-        match $name {
-            "tick" => Some($bar.tick($($now)?)),
-            "unset_length" => Some($bar.unset_length($($now)?)),
-            "reset_eta" => Some($bar.reset_eta($($now)?)),
-            "reset_elapsed" => Some($bar.reset_elapsed($($now)?)),
-            "reset" => Some($bar.reset($($now)?)),
-            "force_draw" => Some($bar.force_draw($($now)?)),
-            "finish" => Some($bar.finish($($now)?)),
-            "finish_and_clear" => Some($bar.finish_and_clear($($now)?)),
-            "abandon" => Some($bar.abandon($($now)?)),
-            "finish_using_style" => Some($bar.finish_using_style($($now)?)),
-            _ => None,
-        }
-    };
-}
-
-/// The same with a number.
-#[macro_export]
-macro_rules! called_with_number {
-    ($bar:expr, $name:expr, $number:expr $(, $now:expr)?) => {
-        match $name {
-            "inc" => Some($bar.inc($number $(, $now)?)),
-            "dec" => Some($bar.dec($number $(, $now)?)),
-            "set_position" => Some($bar.set_position($number $(, $now)?)),
-            "set_length" => Some($bar.set_length($number $(, $now)?)),
-            "inc_length" => Some($bar.inc_length($number $(, $now)?)),
-            "dec_length" => Some($bar.dec_length($number $(, $now)?)),
-            "set_elapsed" => Some($bar.set_elapsed($number $(, $now)?)),
-            "set_tab_width" => Some($bar.set_tab_width($number as usize $(, $now)?)),
-            _ => None,
-        }
-    };
-}
-
-/// The same with a text.
-#[macro_export]
-macro_rules! called_with_text {
-    ($bar:expr, $name:expr, $text:expr $(, $now:expr)?) => {
-        match $name {
-            "set_message" => Some($bar.set_message($text $(, $now)?)),
-            "set_prefix" => Some($bar.set_prefix($text $(, $now)?)),
-            "finish_with_message" => Some($bar.finish_with_message($text $(, $now)?)),
-            "abandon_with_message" => Some($bar.abandon_with_message($text $(, $now)?)),
+macro_rules! called {
+    ($bar:expr, $command:expr $(, $now:expr)?) => {
+        match $command {
+            BarCommand::Tick => Some($bar.tick($($now)?)),
+            BarCommand::UnsetLength => Some($bar.unset_length($($now)?)),
+            BarCommand::ResetEta => Some($bar.reset_eta($($now)?)),
+            BarCommand::ResetElapsed => Some($bar.reset_elapsed($($now)?)),
+            BarCommand::Reset => Some($bar.reset($($now)?)),
+            BarCommand::ForceDraw => Some($bar.force_draw($($now)?)),
+            BarCommand::FinishUsingStyle => Some($bar.finish_using_style($($now)?)),
+            BarCommand::Inc(n) => Some($bar.inc(*n $(, $now)?)),
+            BarCommand::Dec(n) => Some($bar.dec(*n $(, $now)?)),
+            BarCommand::SetPosition(n) => Some($bar.set_position(*n $(, $now)?)),
+            BarCommand::SetLength(n) => Some($bar.set_length(*n $(, $now)?)),
+            BarCommand::IncLength(n) => Some($bar.inc_length(*n $(, $now)?)),
+            BarCommand::DecLength(n) => Some($bar.dec_length(*n $(, $now)?)),
+            BarCommand::SetElapsed(n) => Some($bar.set_elapsed(*n $(, $now)?)),
+            BarCommand::SetTabWidth(n) => Some($bar.set_tab_width(*n $(, $now)?)),
+            BarCommand::SetMessage(text) => Some($bar.set_message(text.as_str() $(, $now)?)),
+            BarCommand::SetPrefix(text) => Some($bar.set_prefix(text.as_str() $(, $now)?)),
+            BarCommand::Finish(finish) => Some(match finish {
+                ProgressFinish::AndLeave => $bar.finish($($now)?),
+                ProgressFinish::AndClear => $bar.finish_and_clear($($now)?),
+                ProgressFinish::Abandon => $bar.abandon($($now)?),
+                ProgressFinish::WithMessage(text) => {
+                    $bar.finish_with_message(text.as_str() $(, $now)?)
+                }
+                ProgressFinish::AbandonWithMessage(text) => {
+                    $bar.abandon_with_message(text.as_str() $(, $now)?)
+                }
+            }),
             _ => None,
         }
     };

@@ -14,8 +14,9 @@ pub fn main(rt: &HostRuntime) -> Result<()> {
     let mut short = String::new(rt.alloc());
     left.write_short(&mut short)?;
     println!(rt; "FormattedDuration {worked}\nHumanDuration {left}, in short {short}")?;
-    let (bytes, binary, decimal) = (HumanBytes(1_536), BinaryBytes(1_536), DecimalBytes(1_536));
-    println!(rt; "HumanBytes {bytes}\nBinaryBytes {binary}\nDecimalBytes {decimal}")?;
+    println!(rt; "HumanBytes {}", HumanBytes(1_536))?;
+    println!(rt; "BinaryBytes {}", BinaryBytes(1_536))?;
+    println!(rt; "DecimalBytes {}", DecimalBytes(1_536))?;
     println!(rt; "HumanCount {}", HumanCount(1_234_567))?;
     let Some(third) = HumanFloatCount::new(10_000, 3) else {
         bail!("a divisor of 0");

@@ -1,37 +1,29 @@
 //! A bar's calls as rows spell them: a name and what belongs to it.
 //!
-//! - Without an argument: those of `scripts::commands::BARE` that a shared bar has; `suspend`; `at_end`: by what wraps something, at its end.
-//! - With a number: those of `NUMBERED` there; `further`: an update of the position; `with_elapsed`; `advance` and `place`: by what wraps
-//!   something; `absorb`: a sum of one worker that has added so much.
-//! - With a text: those of `WORDED` there; `log`; `set_style` and `with_style`: a spinner whose last text is this one; `template`: the
-//!   bar's own style with another template; `with_finish`: a call that finishes a bar.
+//! - The commands of `scripts::commands`, but for `update`, and those of a ticker; and `with_elapsed`.
+//! - Without an argument: `suspend`; `at_end`: by what wraps something, at its end.
+//! - With a number: `further`: an update of the position; `advance` and `place`: by what wraps something; `absorb`: a sum of one worker that
+//!   has added so much.
+//! - With a text: `log`; `set_style` and `with_style`: a spinner whose last text is this one; `template`: the bar's own style with another
+//!   template.
 //!
 //! What answers with the bar counts as `limited`, since it draws nothing.
 use crate::front::bars::{Front, spinner};
 use indicatif::{
-    Change, Drawn, Move, Moves, NoTracker, ProgressFinish, ProgressState, ProgressStyle, Refusal,
+    BarCommand, Change, Drawn, Move, Moves, NoTracker, ProgressFinish, ProgressState, Refusal,
 };
-use scripts::commands::{WORDED, finish};
+use scripts::called;
+use scripts::commands::command;
 use scripts::got::Bad;
+use scripts::row::headed;
 use scripts::spelling::{number, unescaped};
-use scripts::{called_bare, called_with_number, called_with_text};
 use std::alloc::Global;
 use std::sync::Wait;
 
+type Command = BarCommand<NoTracker>;
+
 /// What a call of a bar answers.
 pub type Told = Result<Drawn, Refusal>;
-
-/// A call that answers with the bar.
-#[derive(Drop)]
-enum Built<'a> {
-    Position(u64),
-    Elapsed(u64),
-    TabWidth(usize),
-    Message(&'a str),
-    Prefix(&'a str),
-    Style(ProgressStyle<NoTracker>),
-    Finish(ProgressFinish),
-}
 
 /// Makes the call that a text spells.
 pub fn tell<R: Wait + Copy + Clone + Drop>(
@@ -39,34 +31,30 @@ pub fn tell<R: Wait + Copy + Clone + Drop>(
     alloc: Global,
     text: &str,
 ) -> Result<Told, Bad> {
-    match text.split_once(' ') {
-        None => bare(bar, text),
-        Some(("with_finish", rest)) => match finish(alloc, rest) {
-            Ok(finish) => Ok(build(bar, Built::Finish(finish))),
+    let (name, rest) = headed(text);
+    match name {
+        "suspend" => Ok(bar.suspend(|| ()).1),
+        "at_end" => Ok(moved(bar, Move::FinishAsStored)),
+        "log" | "set_style" | "with_style" | "template" => match unescaped(alloc, rest) {
+            Ok(text) => worded(bar, alloc, name, text.as_str()),
             Err(bad) => Err(bad),
         },
-        Some((name, rest)) if is_worded(name) => match unescaped(alloc, rest) {
-            Ok(text) => Ok(worded(bar, alloc, name, text.as_str())),
-            Err(bad) => Err(bad),
-        },
-        Some((name, rest)) => match number(rest) {
+        "further" | "absorb" | "advance" | "place" | "with_elapsed" => match number(rest) {
             Ok(n) => numbered(bar, name, n),
+            Err(bad) => Err(bad),
+        },
+        _ => match command(alloc, text) {
+            Ok(command) => obeyed(bar, command),
             Err(bad) => Err(bad),
         },
     }
 }
 
-/// Whether the call of this name takes a text.
-fn is_worded(name: &str) -> bool {
-    WORDED.contains(&name) || matches!(name, "log" | "set_style" | "with_style" | "template")
-}
-
-fn bare<R: Wait + Copy + Clone + Drop>(bar: &Front<R>, name: &str) -> Result<Told, Bad> {
-    match called_bare!(bar, name) {
+/// Makes a command by the call of its name.
+fn obeyed<R: Wait + Copy + Clone + Drop>(bar: &Front<R>, command: Command) -> Result<Told, Bad> {
+    match called!(bar, &command) {
         Some(told) => Ok(told),
-        None if name == "suspend" => Ok(bar.suspend(|| ()).1),
-        None if name == "at_end" => Ok(moved(bar, Move::FinishAsStored)),
-        None => Err(Bad::Step),
+        None => build(bar, command),
     }
 }
 
@@ -75,18 +63,12 @@ fn numbered<R: Wait + Copy + Clone + Drop>(
     name: &str,
     n: u64,
 ) -> Result<Told, Bad> {
-    match called_with_number!(bar, name, n) {
-        Some(told) => Ok(told),
-        None => match name {
-            "further" => Ok(bar.update(|state| further(state, n))),
-            "absorb" => Ok(absorb(bar, n)),
-            "advance" => Ok(moved(bar, Move::Advance(n))),
-            "place" => Ok(moved(bar, Move::PlaceAt(n))),
-            "with_position" => Ok(build(bar, Built::Position(n))),
-            "with_elapsed" => Ok(build(bar, Built::Elapsed(n))),
-            "with_tab_width" => Ok(build(bar, Built::TabWidth(n as usize))),
-            _ => Err(Bad::Step),
-        },
+    match name {
+        "further" => Ok(bar.update(|state| further(state, n))),
+        "absorb" => Ok(absorb(bar, n)),
+        "advance" => Ok(moved(bar, Move::Advance(n))),
+        "place" => Ok(moved(bar, Move::PlaceAt(n))),
+        _ => build(bar, BarCommand::SetElapsed(n)),
     }
 }
 
@@ -113,24 +95,25 @@ fn moved<R: Wait + Copy + Clone + Drop>(bar: &Front<R>, step: Move) -> Told {
     }
 }
 
-/// A call that answers with the bar, of another owner.
-fn build<R: Wait + Copy + Clone + Drop>(bar: &Front<R>, built: Built<'_>) -> Told {
+/// Makes a command by the call that answers with the bar, of another owner.
+fn build<R: Wait + Copy + Clone + Drop>(bar: &Front<R>, command: Command) -> Result<Told, Bad> {
     let other: Result<_, _> = bar.clone();
     let Ok(bar) = other else {
-        return Err(Refusal::Memory);
+        return Ok(Err(Refusal::Memory));
     };
-    let given = match built {
-        Built::Position(n) => bar.with_position(n),
-        Built::Elapsed(n) => bar.with_elapsed(n),
-        Built::TabWidth(n) => bar.with_tab_width(n),
-        Built::Message(text) => bar.with_message(text),
-        Built::Prefix(text) => bar.with_prefix(text),
-        Built::Style(style) => bar.with_style(style),
-        Built::Finish(finish) => bar.with_finish(finish),
+    let given = match command {
+        BarCommand::WithPosition(n) => bar.with_position(n),
+        BarCommand::SetElapsed(n) => bar.with_elapsed(n),
+        BarCommand::WithTabWidth(n) => bar.with_tab_width(n),
+        BarCommand::WithMessage(text) => bar.with_message(text.as_str()),
+        BarCommand::WithPrefix(text) => bar.with_prefix(text.as_str()),
+        BarCommand::SetStyle(style) => bar.with_style(style),
+        BarCommand::WithFinish(finish) => bar.with_finish(finish),
+        _ => return Err(Bad::Step),
     };
     match given {
-        Ok(_) => Ok(Drawn::Limited),
-        Err(refusal) => Err(refusal),
+        Ok(_) => Ok(Ok(Drawn::Limited)),
+        Err(refusal) => Ok(Err(refusal)),
     }
 }
 
@@ -139,21 +122,16 @@ fn worded<R: Wait + Copy + Clone + Drop>(
     alloc: Global,
     name: &str,
     text: &str,
-) -> Told {
-    match called_with_text!(bar, name, text) {
-        Some(told) => told,
-        None => match name {
-            "log" => bar.println(text),
-            "template" => set_template(bar, text),
-            "with_message" => build(bar, Built::Message(text)),
-            "with_prefix" => build(bar, Built::Prefix(text)),
-            _ => match spinner(alloc, text) {
-                Ok(style) => match name {
-                    "set_style" => bar.set_style(style),
-                    _ => build(bar, Built::Style(style)),
-                },
-                Err(refusal) => Err(refusal),
+) -> Result<Told, Bad> {
+    match name {
+        "log" => Ok(bar.println(text)),
+        "template" => Ok(set_template(bar, text)),
+        _ => match spinner(alloc, text) {
+            Ok(style) => match name {
+                "set_style" => Ok(bar.set_style(style)),
+                _ => build(bar, BarCommand::SetStyle(style)),
             },
+            Err(refusal) => Ok(Err(refusal)),
         },
     }
 }
