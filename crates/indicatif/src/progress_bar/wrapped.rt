@@ -58,7 +58,7 @@ impl<T: TermLike + Drop, C: Clock + Drop, R: Wait + Clone + Drop, K: Tracks> Pro
     /// A writer that places the bar behind what was written.
     ///
     /// ```
-    /// bar.wrap_write(inner) // behind a write of "abc" to what is wrapped the position is 3
+    /// let mut wrapped = bar.wrap_write(Vec::new(alloc))?; // a write of "abc": the position is 3
     /// ```
     ///
     /// Refused: want of memory, or of owners; the writer is given up.
@@ -74,7 +74,7 @@ impl<T: TermLike + Drop, C: Clock + Drop, R: Wait + Clone + Drop, K: Tracks> Pro
     /// A stream that advances the bar by its items and finishes it at each end.
     ///
     /// ```
-    /// bar.wrap_stream(inner) // poll_next(cx) of what is wrapped advances the bar by an item
+    /// let mut wrapped = bar.wrap_stream(stream)?; // wrapped.poll_next(cx) advances the bar by an item
     /// ```
     ///
     /// Refused: want of memory, or of owners; the stream is given up.
@@ -90,7 +90,7 @@ impl<T: TermLike + Drop, C: Clock + Drop, R: Wait + Clone + Drop, K: Tracks> Pro
     /// A reader that is polled, and places the bar behind what was read.
     ///
     /// ```
-    /// bar.wrap_async_read(inner) // poll_read(cx, &mut room) of what is wrapped places the bar
+    /// let mut wrapped = bar.wrap_async_read(socket)?; // wrapped.poll_read(cx, &mut room) places the bar
     /// ```
     ///
     /// Refused: want of memory, or of owners; the reader is given up.
@@ -106,7 +106,7 @@ impl<T: TermLike + Drop, C: Clock + Drop, R: Wait + Clone + Drop, K: Tracks> Pro
     /// A writer that is polled, and places the bar behind what was written.
     ///
     /// ```
-    /// bar.wrap_async_write(inner) // poll_write(cx, bytes) of what is wrapped places the bar
+    /// let mut wrapped = bar.wrap_async_write(socket)?; // wrapped.poll_write(cx, bytes) places the bar
     /// ```
     ///
     /// Refused: want of memory, or of owners; the writer is given up.
