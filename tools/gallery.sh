@@ -59,6 +59,7 @@ built_readme() {
 }
 pages=("$@")
 built_readme
+built examples fine
 built bars demo
 built meter --help
 

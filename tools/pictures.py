@@ -33,14 +33,14 @@ TOP = pathlib.Path(__file__).resolve().parent.parent
 PAGE = TOP / "docs" / "GALLERY.md"
 BLOCK = re.compile(r"^```gallery (~ )?(\d+)x(\d+) ([^\n]*)\n\$ ([^\n]*)\n(.*?)^```$", re.M | re.S)
 PASSED_OVER = 4
-PROGRAMS = ["bars", "meter"]
+PROGRAMS = ["bars", "examples", "meter"]
 # a program that sleeps between its draws
-SLEEPS = "bars log_bridge"
+SLEEPS = "examples log_bridge"
 # seconds that a command may take, and bytes that it may write
 PATIENCE = 60
 MOST = 1 << 20
 # a program with coloured bars on standard error; by what the environment says beside `TERM=xterm`, whether they are coloured
-COLOURED = "bars ported"
+COLOURED = "examples ported"
 ASKED = [({}, True), ({"NO_COLOR": "1"}, False), ({"CLICOLOR": "0"}, False), ({"NO_COLOR": "1", "CLICOLOR_FORCE": "1"}, True)]
 COLOUR_NAMES = {"NO_COLOR", "CLICOLOR", "CLICOLOR_FORCE"}
 CYAN, ANY_COLOUR = b"\x1b[36m", re.compile(rb"\x1b\[[\d;]*m")

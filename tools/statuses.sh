@@ -47,14 +47,10 @@ wants() {
 
 usage='usage: bars demo | bars run ROWS COLS [bottom]'
 wants 0 '' bars demo
-wants 0 '' bars fine
 wants 2 "$usage" bars
-wants 2 "$usage" bars Fine
-wants 2 "$usage" bars run
 wants 2 "$usage" bars run 2
 wants 2 "$usage" bars run 2 65536
 wants 2 "$usage" bars demo demo
-wants 2 "$usage" bars fine demo
 wants 2 "$usage" bars $'\xff'
 wants 2 "$usage" bars demo $'\xff'
 wants 0 '' bars run 2 10 < /dev/null
@@ -94,7 +90,6 @@ wants 141 '' bars run 2 30 < <(seq -f 'log %019.0f' 10000)
 out=/dev/full
 wants 3 'meter: standard output: No space left on device (os error 28)' meter <<< abc
 wants 2 'bars: output failed' bars demo
-wants 2 'bars: output failed' bars examples
 wants 2 'bars: output failed' bars run 2 10 <<< $'add x\ntick 1'
 echo "$passed as wanted, $failed otherwise"
 [ "$failed" -eq 0 ]

@@ -1,5 +1,5 @@
 #!/usr/bin/env bash
-# Counts by strace how often a program writes to a terminal (tmux). `bars still` draws ten bars once each, goes on with one of them
+# Counts by strace how often a program writes to a terminal (tmux). `examples still` draws ten bars once each, goes on with one of them
 # ten times, and draws five times more, when nothing has changed. At its end the ten bars are dropped one by one, which takes each off the
 # screen. So thirty writes are wanted: one for each draw that changes something, and none for the five.
 #
@@ -9,10 +9,10 @@
 # tmux. The exit status is 1 where the writes are more or fewer. It is no part of the gate.
 set -u
 root=$(cd "$(dirname "$0")/.." && pwd) || exit 2
-program=${PROGRAMS:-}/bars
+program=${PROGRAMS:-}/examples
 if [ ! -x "$program" ]; then
-  (cd "$root/crates/bars" && rt run -- demo > /dev/null) || exit 2
-  program=$root/crates/bars/out/bars
+  (cd "$root/crates/examples" && rt run -- fine > /dev/null) || exit 2
+  program=$root/crates/examples/out/examples
 fi
 folder=$(mktemp -d) || exit 2
 mux() { tmux -u -f /dev/null -S "$folder/tmux" "$@"; }

@@ -1,7 +1,4 @@
 //! A bar on a terminal of 4 rows and 10 columns, which threads tick.
-use crate::{printed, say};
-use bars_run::fault::Fault;
-use indicatif::machine::Shares;
 use indicatif::{
     InMemoryTerm, ProgressBar, ProgressDrawTarget, ProgressStyle, Refusal, Setup, StepClock,
 };
@@ -53,19 +50,11 @@ fn contents<R: Wait + Clone + Drop>(alloc: Global, bar: &Bar<R>) -> Result<Strin
 }
 
 /// What stands on the terminal after the bar ticked thrice, and how often it ticked.
-fn shown<R: Threads + Wait + Sync + Copy + Clone + Drop>(
+pub fn shown<R: Threads + Wait + Sync + Copy + Clone + Drop>(
     rt: R,
     alloc: Global,
 ) -> Result<(String, u64), Refusal> {
     let bar = started(rt, alloc)?;
     play(&rt, &bar)?;
     Ok((contents(alloc, &bar)?, bar.ticks()))
-}
-
-/// Prints what the demo shows, and answers the status.
-pub fn main<R: Shares>(rt: R, host: &HostRuntime) -> u8 {
-    match shown(rt, rt.alloc()) {
-        Ok((contents, ticks)) => printed(host, println!(host; "{contents}\nticks {ticks}")),
-        Err(refusal) => say(host, Fault::Refused(refusal)),
-    }
 }

@@ -104,7 +104,7 @@
 //! function of the value (here a `Left`), of the bar's record `p` and of the moment. `p` has `position`, `len`, `start`, `ticks`,
 //! `message`, `prefix` and more (`crates/indicatif_bar/specs/Progress.antt`). Name the operators and functions of such a statement in a
 //! `ghost use`, where `◌` stands for an operand. Numbers are unbounded, and `-` stops at 0, as `saturating_sub` does. `decimal n` is a
-//! number's digits, `codes "left"` a text, and `++` joins two texts: `crates/bars/src/examples/key.rt` writes `12 left` this way.
+//! number's digits, `codes "left"` a text, and `++` joins two texts: `crates/examples/src/key.rt` writes `12 left` this way.
 //!
 //! If your type changes when the bar ticks, implement `style::ProgressTracker`. All keys of a style have one type: for several, use an
 //! enum. `MultiProgress::keyed` makes a board for bars with such keys: make each bar by `new_bar(len)?.with_style(style)?`. A function for

@@ -1,7 +1,7 @@
 //! Shows the guide's key of one's own: how many files are left.
 ghost use Rattle.std.specs.Prelude.{◌-◌, decimal};
 
-use super::guide::{setup, show};
+use crate::guide::{setup, show};
 use anyhow::Result;
 use indicatif::{FnTracker, Moment, ProgressBar, ProgressState, ProgressStyle, Refusal, TellsText};
 use std::alloc::Global;

@@ -1,6 +1,6 @@
 //! Shows the programs of the guide at the head of crate `indicatif`: templates and keys of one's own, a board, a wrapper, and what goes
 //! wrong beside what goes right (`first` is the first one). Each prints what stands on a terminal in memory in the end.
-use super::guide_key;
+use crate::guide_key;
 use crate::shown::{self, print};
 use anyhow::Result;
 use indicatif::style::Tracks;

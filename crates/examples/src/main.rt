@@ -1,8 +1,7 @@
-//! Small programs, each a module with a `main` of its own. `bars examples` runs them in turn, each under its name; `bars NAME` runs one of
-//! them.
+//! Small programs, each a module with a `main` of its own. They run in turn, each under its name; `examples NAME` runs one of them.
 //!
 //! - `first`: a first program. `wrapped`: a loop with a bar of its own. `download`: bytes, rate and time left.
-//! - `fine`: a bar of fine characters. `logging`: lines above a bar (`bars log`). `refusal`: a call that is refused.
+//! - `fine`: a bar of fine characters. `logging`: lines above a bar (`examples log`). `refusal`: a call that is refused.
 //! - `formatters`: numbers as texts. `template`: the parts of a template. `terminal`: a bar on standard error. `sizes`: new sizes of a
 //!   terminal, passed on.
 //! - `key`: a key of one's own in a template, on standard error. `still`: ten bars there, of which one goes on.
@@ -10,8 +9,9 @@
 //!   two bars, on standard error. `ported`: three programs of the Rust crate's documentation, carried over.
 //! - `reader`: standard input through a reader with a bar.
 //! - `guide`: the programs of the guide at the head of crate `indicatif`. `guide_key`: the one with a key of one's own.
-//!
-//! The last one is `bars demo`.
+//! - `shown`: the terminal in memory that some of these have, and how they print it.
+#![tactic(auto)]
+
 mod download;
 mod fine;
 mod first;
@@ -25,6 +25,7 @@ mod ported;
 mod reader;
 mod refusal;
 mod several;
+mod shown;
 mod sizes;
 mod spinner;
 mod still;
@@ -32,11 +33,12 @@ mod template;
 mod terminal;
 mod wrapped;
 
-use crate::{demo, printed};
+use anyhow::Result;
 use indicatif::machine::Shares;
+use std::env;
 
 /// The programs, as they run in turn.
-const NAMES: &[&str] = &[
+const NAMES: [&str; 18] = [
     "first",
     "wrapped",
     "download",
@@ -55,28 +57,26 @@ const NAMES: &[&str] = &[
     "ported",
     "reader",
     "guide",
-    "demo",
 ];
 
-/// Runs all programs, up to the first that fails, and answers its status.
-pub fn run_all<R: Shares + Print>(rt: R, host: &HostRuntime) -> u8 {
-    for name in NAMES {
-        let status = match printed(host, println!(host; "== {name}")) {
-            0 => run(rt, host, name).unwrap_or(0),
-            status => status,
-        };
-        if status != 0 {
-            return status;
-        }
+fn main(rt: HostRuntime) -> Result<()> {
+    match env::args(&rt)?.nth(1) {
+        Some(name) => run(rt, &rt, name.as_str()),
+        None => run_all(rt, &rt),
     }
-    0
 }
 
-/// Runs the program of this name, and answers its status; nothing where there is none.
-///
-/// A program that fails has status 1, and its error is printed to standard error. The demo has the status that it answers.
-pub fn run<R: Shares + Print>(rt: R, host: &HostRuntime, name: &str) -> Option<u8> {
-    let ended = match name {
+fn run_all<R: Shares + Print>(rt: R, host: &HostRuntime) -> Result<()> {
+    for name in NAMES {
+        println!(rt; "== {name}")?;
+        run(rt, host, name)?;
+    }
+    Ok(())
+}
+
+/// Runs the program of this name; nothing where there is none.
+fn run<R: Shares + Print>(rt: R, host: &HostRuntime, name: &str) -> Result<()> {
+    match name {
         "first" => first::main(rt),
         "wrapped" => wrapped::main(host),
         "download" => download::main(host),
@@ -95,14 +95,6 @@ pub fn run<R: Shares + Print>(rt: R, host: &HostRuntime, name: &str) -> Option<u
         "ported" => ported::main(rt, host),
         "reader" => reader::main(rt, host),
         "guide" => guide::main(rt),
-        "demo" => return Some(demo::main(rt, host)),
-        _ => return None,
-    };
-    match ended {
-        Ok(()) => Some(0),
-        Err(e) => {
-            let _ = eprintln!(host; "Error: {e:?}");
-            Some(1)
-        }
+        _ => Ok(()),
     }
 }
