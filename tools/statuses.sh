@@ -63,6 +63,7 @@ wants 1 '' rows empty
 wants 1 '' rows heading
 wants 1 '' rows other
 wants 2 'rows: missing: No such file or directory (os error 2)' rows missing
+wants 2 'rows: front/missing: No such file or directory (os error 2)' rows front/missing
 
 # the pipe viewer: its standard error is no terminal here, so that its bar is hidden
 wants 0 '' meter < /dev/null

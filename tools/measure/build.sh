@@ -9,6 +9,7 @@ here=$(cd "$(dirname "$0")" && pwd)
 root=$(cd "$here/../.." && pwd)
 copy=${1:-/tmp/measure}
 crate=$copy/crates/measure
+[ ! -e "$copy/.git" ] || { echo "build.sh: not into a repository" >&2; exit 2; }
 rm -rf "$crate"
 mkdir -p "$crate"
 cp -r "$here/src" "$here/proofs" "$here/data" "$crate"

@@ -111,6 +111,7 @@ fn filters_and_forms(rt: HostRuntime) {
     in_own_form(*rt, &board);
     same!(rt; counted(&board, Kind::Log("e\nf")), 1);
     same!(rt; counted(&board, Kind::Any), 8);
+    is_one_run(*rt, &board, rt.alloc());
 }
 
 // ---- a terminal that fails

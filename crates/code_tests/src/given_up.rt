@@ -76,6 +76,7 @@ fn ticker_thread_terminates_on_drop(rt: HostRuntime) {
     let rt = &rt;
     let (bar, count) = counted_bar(*rt, rt.alloc());
     ticks_each(rt, &bar, OFTEN);
+    holds!(rt; ticks_on(rt, &bar, bar.ticks().saturating_add(1)));
     same!(rt; count.living(), 2);
     drop(bar);
     holds!(rt; comes_to(rt, &count, 0));

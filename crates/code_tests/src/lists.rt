@@ -216,7 +216,8 @@ fn stood_at(steps: &[u64], places: &[u64]) -> bool {
     passed == places.len() && places.last() == Some(&position)
 }
 
-/// Smaller steps add up, and each block's end is one of them.
+/// Smaller steps add up, and each block's end is one of them. (How many there are hangs on the threads: none but these, where the one that has
+/// the bar meets no item.)
 #[test]
 fn a_bar_that_stops_within_blocks_stops_behind_each(rt: HostRuntime) {
     let rt = &rt;
@@ -231,7 +232,6 @@ fn a_bar_that_stops_within_blocks_stops_behind_each(rt: HostRuntime) {
     let (made, bar) = list.map_collect(rt, alloc, |x: &u32| *x);
     same!(rt; made.granted(rt), numbers);
     holds!(rt; stood_at(bar.steps.as_slice(), &[4096, 8192, 10_000]));
-    holds!(rt; bar.steps.len() > 3);
 }
 
 /// For how many milliseconds this item of a list looks at a bar. Threads that work on items of unequal times don't end together.
@@ -261,7 +261,7 @@ fn sees_within<R: Wait + Clone + Drop, C: Clock>(clock: &C, bar: &Bar<R>, item: 
 }
 
 /// A shared bar moves while threads work, by less than a block too. (Forty items are blocks of four, or of more where there are more
-/// processors.) Another list goes on with it from there, and finishes nothing.
+/// processors. A bar of any type that stops within blocks is moved by the same calls.) Another list goes on with it from there, and finishes nothing.
 #[test]
 fn a_shared_bar_moves_within_a_block(rt: HostRuntime) {
     let rt = &rt;

@@ -37,7 +37,7 @@ fn ending<R: Wait + Copy + Clone + Drop + Abort>(
     bar.with_finish(finish).expect(rt, "granted")
 }
 
-/// Draws a bar of two owners, of which the first is given up, and the last one then too, or dropped: this stands there then.
+/// Draws a bar, and gives up its owner, and then another one, which is the last; or drops the one owner that it has: this stands there then.
 fn leaves<R: Wait + Copy + Clone + Drop + Abort>(
     rt: R,
     alloc: Global,
@@ -47,12 +47,14 @@ fn leaves<R: Wait + Copy + Clone + Drop + Abort>(
     let rt = &rt;
     let bytes = no_bytes(rt, alloc);
     let bar = ending(*rt, alloc, &bytes, finish);
-    let other = bar.clone().expect(rt, "granted");
     same!(rt; bar.set_position(3), Ok(Drawn::Yes));
-    bar.release();
     match is_released {
-        true => other.release(),
-        false => drop(other),
+        true => {
+            let other = bar.clone().expect(rt, "granted");
+            bar.release();
+            other.release();
+        }
+        false => drop(bar),
     }
     is_seen(rt, alloc, &bytes, wanted);
     holds!(rt; !bytes.lock(rt).is_empty());

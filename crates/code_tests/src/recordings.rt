@@ -5,17 +5,23 @@ use crate::fronts::{Shared, target};
 use indicatif::style::Tracks;
 use indicatif::{
     BarCommand, Board, Call, Entry, InMemoryTerm, MultiProgress, NoTracker, RecordReader, Recorded,
-    StepClock,
+    Size, StepClock,
 };
 use std::alloc::Global;
 use std::process::Abort;
 use std::sync::Wait;
 
+/// The size of the terminals.
+const SIZE: Option<Size> = Some(Size {
+    columns: 10,
+    rows: 4,
+});
+
 /// A kind of calls.
 #[derive(Clone, Copy, Drop)]
 pub enum Kind<'a> {
     Any,
-    /// This text, logged above all bars.
+    /// This text, logged above all bars of a terminal of 4 rows and 10 columns.
     Log(&'a str),
     /// A bar whose owner is gone.
     Gone,
@@ -24,10 +30,10 @@ pub enum Kind<'a> {
     Ticker(bool),
 }
 
-fn is_of(call: &Call<NoTracker>, kind: Kind<'_>) -> bool {
-    match (call, kind) {
+fn is_of(entry: &Entry<NoTracker>, kind: Kind<'_>) -> bool {
+    match (&entry.call, kind) {
         (_, Kind::Any) | (Call::Drop(_), Kind::Gone) => true,
-        (Call::Log(found), Kind::Log(text)) => found.as_str() == text,
+        (Call::Log(found), Kind::Log(text)) => found.as_str() == text && entry.size == SIZE,
         (Call::Bar(_, command), kind) => is_ticker(command, kind),
         _ => false,
     }
@@ -55,7 +61,7 @@ impl<'a> RecordReader<InMemoryTerm, NoTracker> for Kind<'a> {
 fn count(entries: &[Entry<NoTracker>], kind: Kind<'_>) -> u64 {
     let mut found: u64 = 0;
     for entry in entries {
-        if is_of(&entry.call, kind) {
+        if is_of(entry, kind) {
             found = found.saturating_add(1);
         }
     }

@@ -150,6 +150,7 @@ fn obeyed(bar: &mut Lone, command: BarCommand<NoTracker>, now: Moment) -> Answer
     }
 }
 
+/// Makes a command by the call of its name; nothing where that would take something for its own.
 fn by_name(bar: &mut Lone, command: &BarCommand<NoTracker>, now: Moment) -> Option<Answer> {
     match command {
         BarCommand::TickerTick => Some(bar.ticker_tick(now)),

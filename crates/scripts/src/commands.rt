@@ -164,7 +164,7 @@ fn updating(text: &str) -> Result<Command, Bad> {
 // ---- calls by their names
 
 /// Makes a command by the call of its name: of a lone bar, which is told a moment, or of a shared one. `None` where they have no such call
-/// in common, or one that takes what belongs with the command for its own.
+/// in common, or one that takes what belongs with the command for its own. It names `BarCommand` and `ProgressFinish`.
 #[macro_export]
 macro_rules! called {
     ($bar:expr, $command:expr $(, $now:expr)?) => {

@@ -37,6 +37,8 @@ fn cells_with_written_spaces(rt: HostRuntime) {
     let mut cells = Cells::new(rt.alloc(), 3, 3).granted(rt);
     cells.feed(b"a \r\n ").granted(rt);
     same!(rt; cells.cursor(), (1, 1));
+    let text = format!(in rt.alloc(); "{cells:?}").granted(rt);
+    same!(rt; text.as_str(), "Cells { cursor: (1, 1), .. }");
 }
 
 /// Behind them comes a character of two columns, in two halves.

@@ -41,6 +41,8 @@ fn change_of_both_numbers(rt: HostRuntime) {
     };
     bar.apply(BarCommand::Update(change), 0).granted(rt);
     same!(rt; (bar.state().pos(), bar.state().len()), (3, Some(4)));
+    let text = format!(in rt.alloc(); "{:?}", bar.state()).granted(rt);
+    same!(rt; text.as_str(), "ProgressState { position: 3, len: Some(4), .. }");
 }
 
 /// A copy of a command. The command itself is given up.

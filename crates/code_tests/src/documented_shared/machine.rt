@@ -5,7 +5,7 @@ use indicatif::machine::{
     sized_stderr, sized_target, style_on_stderr, told_setup, wants_colors,
 };
 use indicatif::{
-    BarState, Drawn, Facts, LoneBar, MultiProgress, NoTracker, OwnRows, ProgressBar,
+    BarState, Drawn, Facts, InMemoryTerm, LoneBar, MultiProgress, NoTracker, OwnRows, ProgressBar,
     ProgressDrawTarget, ProgressIterator, ProgressStyle, Refusal, Resize, Term, TermLike,
 };
 use std::io::{Stderr, Stdout};
@@ -51,6 +51,9 @@ fn rows_of_their_own(rt: HostRuntime) {
     let term = OwnRows::new(Term::new(writer, 24, 79));
     let target = ProgressDrawTarget::term(term, facts, 20, now).granted(rt);
     holds!(rt; target.is_hidden());
+    let own = OwnRows::new(InMemoryTerm::new(alloc, 2, 3).granted(rt));
+    let text = format!(in alloc; "{own:?}").granted(rt);
+    holds!(rt; text.as_str().starts_with("OwnRows { term: InMemoryTerm { "));
 }
 
 /// How many bytes the last spinner text of a style has: it is a space.

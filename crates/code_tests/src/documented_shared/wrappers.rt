@@ -1,13 +1,30 @@
 //! What a bar wraps.
 use crate::checks::Granted;
-use crate::fronts::setup;
+use crate::fronts::{Bar, setup};
+use futures::Stream;
 use indicatif::{
     BarState, InMemoryTerm, LoneBar, Move, Moves, NoTracker, OwnedBar, ProgressBarIter,
     ProgressDrawTarget, ProgressIterator, Setup, StepClock,
 };
 use std::alloc::Global;
 use std::process::Abort;
+use std::sync::Wait;
 use std::vec::IntoIter;
+use tokio::io::{AsyncRead, AsyncWrite};
+
+/// Wraps a stream, and what is read and written by polls. (Rows look at what each of them does.)
+pub fn polled<S: Stream + Drop, I: AsyncRead + Drop, O: AsyncWrite + Drop, R: Wait + Clone + Drop>(
+    rt: &impl Abort,
+    bar: &Bar<R>,
+    stream: S,
+    (input, output): (I, O),
+) {
+    let mut wrapped = bar.wrap_stream(stream).expect(rt, "granted");
+    let socket = input;
+    let mut wrapped = bar.wrap_async_read(socket).expect(rt, "granted");
+    let socket = output;
+    let mut wrapped = bar.wrap_async_write(socket).expect(rt, "granted");
+}
 
 /// A bar of two steps, of its own, made from parts.
 fn own_of_two<R: Abort>(rt: &R, alloc: Global) -> OwnedBar<NoTracker, InMemoryTerm, StepClock> {

@@ -132,7 +132,7 @@ impl<R: Wait + Copy + Clone + Drop> Maker<R> {
         let Setup { target, clock } = self.room.setup(self.alloc)?;
         Bar::given(match (way, len) {
             ("target", _) => ProgressBar::with_draw_target(self.rt, self.alloc, len, target, clock),
-            ("spinner", _) => {
+            ("spinner", None) => {
                 ProgressBar::new_spinner(self.rt, self.alloc, Setup { target, clock })
             }
             ("new", Some(len)) => {

@@ -8,7 +8,8 @@
 //! - `board`, `recorded`: a board without and with a history, of the next id, from 1 on; `on ID`: steps speak of this board.
 //! - `alone TEXT`, `bar LEN TEMPLATE`, `hidden_bar`: a bar that stands alone, whose owner comes behind the others: owners are numbered
 //!   from 0.
-//! - `made WAY LEN`: a bar as it is made: `new`, `spinner`, on a `target`, or by the `board`, as a spinner where it has no length.
+//! - `made WAY LEN`: a bar as it is made: `new`, without a length by `no_length`; `spinner`, which has none; on a `target`; or by the `board`,
+//!   as a spinner where it has no length.
 //! - `add BAR`, `insert N BAR`, `back N BAR`, `before OWNER BAR`, `after OWNER BAR`: a new bar with this message, behind `=` another owner
 //!   of a bar, or with `<` the last owner itself; the owner that comes back stands behind the others.
 //! - `own OWNER`, `release`, `drop`: another owner; the last owner is given up, or dropped.

@@ -15,7 +15,6 @@ use indicatif::{
 use scripts::called;
 use scripts::commands::command;
 use scripts::got::Bad;
-use scripts::row::headed;
 use scripts::spelling::{number, unescaped};
 use std::alloc::Global;
 use std::sync::Wait;
@@ -31,18 +30,21 @@ pub fn tell<R: Wait + Copy + Clone + Drop>(
     alloc: Global,
     text: &str,
 ) -> Result<Told, Bad> {
-    let (name, rest) = headed(text);
-    match name {
-        "suspend" => Ok(bar.suspend(|| ()).1),
-        "at_end" => Ok(moved(bar, Move::FinishAsStored)),
-        "log" | "set_style" | "with_style" | "template" => match unescaped(alloc, rest) {
-            Ok(text) => worded(bar, alloc, name, text.as_str()),
-            Err(bad) => Err(bad),
-        },
-        "further" | "absorb" | "advance" | "place" | "with_elapsed" => match number(rest) {
-            Ok(n) => numbered(bar, name, n),
-            Err(bad) => Err(bad),
-        },
+    match text.split_once(' ') {
+        None if text == "suspend" => Ok(bar.suspend(|| ()).1),
+        None if text == "at_end" => Ok(moved(bar, Move::FinishAsStored)),
+        Some((name @ ("log" | "set_style" | "with_style" | "template"), rest)) => {
+            match unescaped(alloc, rest) {
+                Ok(text) => worded(bar, alloc, name, text.as_str()),
+                Err(bad) => Err(bad),
+            }
+        }
+        Some((name @ ("further" | "absorb" | "advance" | "place" | "with_elapsed"), rest)) => {
+            match number(rest) {
+                Ok(n) => numbered(bar, name, n),
+                Err(bad) => Err(bad),
+            }
+        }
         _ => match command(alloc, text) {
             Ok(command) => obeyed(bar, command),
             Err(bad) => Err(bad),
