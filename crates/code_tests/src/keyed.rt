@@ -70,6 +70,9 @@ fn files<R: Wait + Copy + Clone + Drop + Abort>(rt: R, alloc: Global) -> Keyed<R
     bar.with_message("files").expect(rt, "granted")
 }
 
+/// Where the bar is set, and what it shows then.
+const SHOWN: &[(u64, &str)] = &[(12, "files 0"), (3, "files 7"), (0, "files 10")];
+
 /// The bar has the length that it was made with. The key follows the position, whoever owns the bar, and stays at 0 past the end. Another
 /// thread moves the bar, and then the key with it. A style that is told later, and one that was read of the bar, have the key too.
 #[test]
@@ -78,8 +81,8 @@ fn what_is_left(rt: HostRuntime) {
     let bar = files(*rt, rt.alloc());
     same!(rt; bar.length(), Some(10));
     let other = bar.clone().expect(rt, "granted");
-    for (position, wanted) in [(12, "files 0"), (3, "files 7"), (0, "files 10")] {
-        holds!(rt; other.set_position(position).is_ok());
+    for (position, wanted) in SHOWN {
+        holds!(rt; other.set_position(*position).is_ok());
         bar_shows(rt, &bar, wanted);
     }
     let moved = thread::spawn(rt, move || other.inc(4)).granted(rt);

@@ -60,11 +60,18 @@ fn a_terminal_of_which_is_told(rt: HostRuntime) {
     holds!(rt; goes_on(&mut clock));
 }
 
+/// No terminal; one without moves; and one without a name.
+const HIDDEN: &[(bool, Option<&str>)] = &[
+    (false, Some("xterm")),
+    (true, Some("dumb")),
+    (true, None),
+];
+
 #[test]
 fn a_terminal_that_is_hidden(rt: HostRuntime) {
     let rt = &rt;
-    for (attended, term) in [(false, Some("xterm")), (true, Some("dumb")), (true, None)] {
-        let setup = setup_of(rt, attended, term).granted(rt);
+    for (attended, term) in HIDDEN {
+        let setup = setup_of(rt, *attended, *term).granted(rt);
         holds!(rt; setup.target.is_hidden());
     }
 }

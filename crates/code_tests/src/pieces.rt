@@ -136,10 +136,12 @@ fn all_are_answered<R: Copy + Threads + Sync + Abort>(
 }
 
 /// One piece of one item; two of a thousand; seventy of three; and four of a million items in all.
+const SIZES: &[(u32, u32)] = &[(1, 1), (2, 1000), (70, 3), (4, 250_000)];
+
 #[test]
 fn pieces_of_many_sizes(rt: HostRuntime) {
-    for sizes in [(1, 1), (2, 1000), (70, 3), (4, 250_000)] {
-        all_are_answered(rt, rt.alloc(), sizes);
+    for sizes in SIZES {
+        all_are_answered(rt, rt.alloc(), *sizes);
     }
 }
 

@@ -71,10 +71,12 @@ fn what_a_bar_is_made_with(rt: HostRuntime) {
     holds!(rt; hidden().into_parts().is_none());
 }
 
+const TEXTS: &[&str] = &["abcdef", "\u{56FD}", "e\u{308}", "\r\n\r\nx"];
+
 /// Writes texts; the failures that the terminal counts are those that it told, each of them want of memory.
 fn writes_all(term: &mut InMemoryTerm) -> bool {
     let mut failed: u64 = 0;
-    for text in ["abcdef", "\u{56FD}", "e\u{308}", "\r\n\r\nx"] {
+    for text in TEXTS {
         if let Err(e) = term.write_str(text) {
             failed = failed.saturating_add(1);
             if e.kind() != ErrorKind::OutOfMemory {

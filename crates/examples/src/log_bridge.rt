@@ -8,6 +8,9 @@ use log::{Level, Logged, info, warn};
 use std::thread::sleep;
 use std::time::Duration;
 
+/// What is copied.
+const NAMES: &[&str] = &["a.txt", "b.txt", "c.txt"];
+
 type Logger<R> = Logged<R, LogBridge<StderrTerm, MachineClock<HostRuntime>, R>>;
 
 fn copy<R: Shares>(
@@ -18,7 +21,7 @@ fn copy<R: Shares>(
 ) -> Result<()> {
     work.set_message("copying")?;
     work.enable_steady_tick(50_000_000)?;
-    for name in ["a.txt", "b.txt", "c.txt"] {
+    for name in NAMES {
         sleep(rt, Duration::from_millis(200));
         info!(log; "copied {name}");
         files.inc(1)?;

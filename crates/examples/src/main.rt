@@ -38,7 +38,7 @@ use indicatif::machine::Shares;
 use std::env;
 
 /// The programs, as they run in turn.
-const NAMES: [&str; 18] = [
+const NAMES: &[&str] = &[
     "first",
     "wrapped",
     "download",
