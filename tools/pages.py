@@ -495,11 +495,10 @@ def faults_of_names():
                 yield f"{path}: no file {word}"
 
 
-# Names of the Rust crate, of its tests that are left out, of a crate that `rows` took in, and of others.
+# Names of the Rust crate, of its tests that are left out, and of others.
 FOREIGN = set(
     """WithStyle WithElapsed read_vectored write_vectored AsRef contents_formatted on_bright on_123 blink_fast AsyncSeek AsyncBufRead
-    par_iter FROM_RUST Grapheme_Extend clock_gettime is_stderr_for_multi test_duration_stuff human_float_count_negative
-    front_rows""".split()
+    par_iter FROM_RUST Grapheme_Extend clock_gettime is_stderr_for_multi test_duration_stuff human_float_count_negative""".split()
 )
 
 
