@@ -30,7 +30,7 @@ import boards_model
 
 TOP = os.path.dirname(os.path.dirname(os.path.abspath(__file__)))
 CRATE = os.path.join(TOP, "crates", "rows")
-FILES = ["real_terminals.txt", "lone.txt", "finishes.txt", "boards.txt", "worked.txt", "render_lone.txt"]
+FILES = ["real_terminals.txt", "lone.txt", "finishes.txt", "boards.txt", "render_lone.txt"]
 LEFT_OUT = re.compile(r"^(feed|takes|halts|fails_call|fail_after|target|suspend|hidden|lone hidden|board hidden|size)\b")
 ESCAPES = {"n": "\n", "t": "\t", "r": "\r", "0": "\0", "e": "\x1b", "s": " ", "\\": "\\"}
 

@@ -1,9 +1,9 @@
-//! Plays files of rows: `rows FILE ..`. Each row that differs is printed, with its file and its line, what was wanted and what came;
-//! then for each file how many rows agreed.
+//! Plays files of rows: `rows FILE ..`. Each row that differs is printed, with its file and its line, what was wanted and what came.
+//! How many rows of each file agreed is told on standard error, so standard output is empty if all did.
 //!
 //! Files in a folder `front` are played over crate `indicatif`, all others over the four libraries below it.
 //!
-//! The exit status is 1 if a row differed or there was none, and 2 where a file can't be read or standard output fails.
+//! The exit status is 1 if a row differed or a file had none, and 2 where a file can't be read or a stream fails.
 //!
 //! - `front`: what is played over `indicatif`. All that follows is played over the libraries below it.
 //! - `world`: what is played on, and which module plays a step.
@@ -98,7 +98,7 @@ fn play_all<
     Ok(tally)
 }
 
-/// Plays the rows of a file on a new stage, prints each that differs, and last how many agreed.
+/// Plays the rows of a file on a new stage, prints each that differs, and last tells how many agreed. A file without rows has failed.
 fn play_file<
     R: AllocGlobal
         + Files
@@ -120,6 +120,9 @@ fn play_file<
         world::play_on_new_stage(rt, path, lines)?
     };
     let Tally { passed, failed } = tally;
-    println!(rt; "{path}: {passed} passed, {failed} failed")?;
-    Ok(tally)
+    eprintln!(rt; "{path}: {passed} passed, {failed} failed")?;
+    Ok(Tally {
+        passed,
+        failed: if passed == 0 { failed.max(1) } else { failed },
+    })
 }

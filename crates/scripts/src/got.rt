@@ -154,12 +154,17 @@ impl Got {
         }
     }
 
-    /// Appends a refusal's number, and behind that of a template the character and where it stood.
+    /// Appends a refusal's number, behind that of a template the character and where it stood, and behind that of a terminal how it failed.
     pub fn refusal(&mut self, refusal: Refusal) {
         self.text("E");
         self.number(refusal.number());
-        if let Refusal::Template { next, state } = refusal {
-            self.number(format_args!(" {next} {state:?}"));
+        match refusal {
+            Refusal::Template { next, state } => self.number(format_args!(" {next} {state:?}")),
+            Refusal::Terminal(kind) => {
+                self.text(" ");
+                self.kind(kind);
+            }
+            _ => {}
         }
     }
 
