@@ -6,47 +6,36 @@ use std::alloc::Global;
 use std::sync::Wait;
 use std::thread::{Threads, join};
 
-/// An owner of the demo's bar.
+/// The demo's bar.
 type Bar<R> = ProgressBar<InMemoryTerm, StepClock, R>;
 
-/// A bar that says `hello`; nothing is drawn yet.
+/// A bar in the style `{msg}`; nothing is drawn yet.
 fn started<R: Wait + Clone + Drop>(rt: R, alloc: Global) -> Result<Bar<R>, Refusal> {
     let setup = Setup {
         target: ProgressDrawTarget::term_like(InMemoryTerm::new(alloc, 4, 10)?),
         clock: StepClock { next: 0, step: 0 },
     };
     let style = ProgressStyle::with_template(alloc, "{msg}")?;
-    ProgressBar::no_length(rt, alloc, setup)?
-        .with_style(style)?
-        .with_message("hello")
+    ProgressBar::styled(rt, alloc, style, None, setup)
 }
 
-/// A tick in each of two threads, through an owner of its own.
-fn tick_in_two_threads<R: Threads + Wait + Sync + Clone + Drop>(
+/// Says `hello` and ticks, then says something else, and ticks in each of two threads; what stands on the terminal then, and how often the bar
+/// ticked.
+fn play<R: Threads + Wait + Sync + Clone + Drop>(
     rt: &R,
+    alloc: Global,
     bar: &Bar<R>,
-) -> Result<(), Refusal> {
-    let first = bar.clone()?;
-    let second = bar.clone()?;
-    let (one, other) = join(rt, || first.tick(), || second.tick());
-    one?;
-    other?;
-    Ok(())
-}
-
-/// Three ticks, and another message after the first.
-fn play<R: Threads + Wait + Sync + Clone + Drop>(rt: &R, bar: &Bar<R>) -> Result<(), Refusal> {
+) -> Result<(String, u64), Refusal> {
+    bar.set_message("hello")?;
     bar.tick()?;
     bar.set_message("progress bars")?;
-    tick_in_two_threads(rt, bar)
-}
-
-/// What stands on the bar's terminal.
-fn contents<R: Wait + Clone + Drop>(alloc: Global, bar: &Bar<R>) -> Result<String, Refusal> {
-    bar.with_term(|term| match term {
+    let (one, other) = join(rt, || bar.tick(), || bar.tick());
+    one.and(other)?;
+    let contents = bar.with_term(|term| match term {
         Some(term) => term.contents(),
         None => Ok(String::new(alloc)),
-    })
+    })?;
+    Ok((contents, bar.ticks()))
 }
 
 /// What stands on the terminal after the bar ticked thrice, and how often it ticked.
@@ -54,7 +43,5 @@ pub fn shown<R: Threads + Wait + Sync + Copy + Clone + Drop>(
     rt: R,
     alloc: Global,
 ) -> Result<(String, u64), Refusal> {
-    let bar = started(rt, alloc)?;
-    play(&rt, &bar)?;
-    Ok((contents(alloc, &bar)?, bar.ticks()))
+    play(&rt, alloc, &started(rt, alloc)?)
 }
