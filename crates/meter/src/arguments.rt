@@ -83,10 +83,8 @@ pub enum Begins {
 pub enum Unasked {
     /// The words are wrong, or ask for help.
     Words(Error),
-    /// A value is none of its option's.
+    /// A value is none of its option's, or the words are no text.
     Value(&'static str),
-    /// The words are no text.
-    NoText,
     /// Memory was refused.
     Memory,
 }
@@ -215,7 +213,7 @@ pub fn words_of<R: Env + AllocGlobal>(rt: &R) -> Result<Vec<String>, Unasked> {
     match env::args(rt) {
         Ok(words) => Ok(words.collect(rt.alloc())?),
         Err(e) if e.kind() == ErrorKind::OutOfMemory => Err(Unasked::Memory),
-        Err(_) => Err(Unasked::NoText),
+        Err(_) => Err(Unasked::Value("the arguments can't be read")),
     }
 }
 

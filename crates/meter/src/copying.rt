@@ -73,7 +73,11 @@ impl<R: Eprint + Wait + time::Clock + Copy + Drop> Gauge for Watch<'_, R> {
 
     fn went(&mut self, bytes: &[u8]) {
         if !self.has_begun {
-            self.begin();
+            self.has_begun = true;
+            // (from then on the thread that tells the bar its rate draws it each interval)
+            if matches!(self.timing.begins, Begins::WithFirstByte) {
+                let _ = self.bar.reset_elapsed();
+            }
         }
         let count = match self.unit {
             Unit::Bytes => bytes.len() as u64,
@@ -90,16 +94,6 @@ impl<R: Eprint + Wait + time::Clock + Copy + Drop> Gauge for Watch<'_, R> {
 
     fn rest(&mut self) {
         thread::sleep(self.rt, Duration::from_millis(10));
-    }
-}
-
-impl<R: Wait + time::Clock + Copy + Drop> Watch<'_, R> {
-    /// Lets the time begin where the first byte does; from then on the thread that tells the bar its rate draws it each interval.
-    fn begin(&mut self) {
-        self.has_begun = true;
-        if matches!(self.timing.begins, Begins::WithFirstByte) {
-            let _ = self.bar.reset_elapsed();
-        }
     }
 }
 

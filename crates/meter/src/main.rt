@@ -30,7 +30,7 @@ use meter_parts::{Row, plain_text};
 use shown::{Bar, bar_for};
 use sizes::size_of_all;
 use std::env::Env;
-use std::io::{Error, ErrorKind, Stderr};
+use std::io::ErrorKind;
 use std::process::ExitCode;
 use std::rt::Files;
 use std::sync::Wait;
@@ -52,19 +52,9 @@ fn main(rt: HostRuntime) -> ExitCode {
         output: rt.stdout(),
     };
     let size = size_for(&rt, &asked);
-    let bar = match begun(&rt, rt.stderr(), &asked, size) {
-        Ok(bar) => bar,
-        Err(refusal) => return refused(&rt, &refusal),
-    };
-    let copied = if bar.is_hidden() {
-        copy_all(&rt, streams, &asked, size, &bar)
-    } else {
-        let copy = || copy_all(&rt, streams, &asked, size, &bar);
-        let tell = || tell_until_finished(&rt, &bar, &asked, size);
-        // (where no thread can be made, `join` calls its second closure first, and `tell` waits for the end of `copy`)
-        let ((), copied) = join(&rt, tell, copy);
-        last_look(&rt, &asked, &bar);
-        copied
+    let copied = match bar_for(&rt, rt.stderr(), &asked, size) {
+        Ok(bar) => copy_beside(&rt, streams, &asked, size, &bar),
+        Err(refusal) => Err(refusal),
     };
     match copied {
         Ok(copied) => answered(&rt, &asked, &copied),
@@ -81,18 +71,19 @@ fn size_for<R: Files>(rt: &R, asked: &Asked<'_>) -> Option<u64> {
     }
 }
 
-/// The bar that is asked for, with room for all rows; it ticks where the time begins at once.
+/// Hands all inputs on beside a bar. Where it is shown, with room for all rows, a thread tells it how it goes; it ticks where the time begins
+/// at once.
 ///
-/// Refused: `Memory`, and what a template is refused with.
-fn begun<R: Shares + Env + Eprint>(
+/// Refused: `Memory`.
+fn copy_beside<R: Shares + Env + Files + Eprint>(
     rt: &R,
-    errors: Stderr,
+    streams: Streams,
     asked: &Asked<'_>,
     size: Option<u64>,
-) -> Result<Bar<R>, Refusal> {
-    let bar = bar_for(rt, errors, asked, size)?;
+    bar: &Bar<R>,
+) -> Result<Copied, Refusal> {
     if bar.is_hidden() {
-        return Ok(bar);
+        return copy_all(rt, streams, asked, size, bar);
     }
     if let Some(row) = asked.look.row {
         make_room(rt, row)?;
@@ -100,7 +91,12 @@ fn begun<R: Shares + Env + Eprint>(
     if matches!(asked.timing.begins, Begins::AtOnce) {
         bar.enable_steady_tick(asked.timing.interval)?;
     }
-    Ok(bar)
+    let copy = || copy_all(rt, streams, asked, size, bar);
+    let tell = || tell_until_finished(rt, bar, asked, size);
+    // (where no thread can be made, `join` calls its second closure first, and `tell` waits for the end of `copy`)
+    let ((), copied) = join(rt, tell, copy);
+    last_look(rt, asked, bar);
+    copied
 }
 
 /// Rows for all meters that draw beside one another, below the cursor. They come by one write, since the others may draw already.
@@ -132,9 +128,15 @@ fn last_look<R: AllocGlobal + Env + Files + Eprint + Wait + Clock + Copy + Drop>
 /// The status, and what is to be said of it.
 fn answered<R: AllocGlobal + Eprint>(rt: &R, asked: &Asked<'_>, copied: &Copied) -> ExitCode {
     for fault in &copied.faults {
-        let name = asked.files.get(fault.input).copied().unwrap_or("-");
-        if let Err(refusal) = say_fault(rt, name, fault.error) {
-            return refused(rt, &refusal);
+        let name = match asked.files.get(fault.input) {
+            Some(name) if *name != "-" => *name,
+            _ => "standard input",
+        };
+        match plain_text(rt.alloc(), name) {
+            Ok(name) => {
+                let _ = eprintln!(rt; "meter: {name}: {}", fault.error);
+            }
+            Err(_) => return refused(rt, &Refusal::Memory),
         }
     }
     match copied.output {
@@ -146,18 +148,6 @@ fn answered<R: AllocGlobal + Eprint>(rt: &R, asked: &Asked<'_>, copied: &Copied)
         None if copied.faults.is_empty() => ExitCode::SUCCESS,
         None => ExitCode::from(1),
     }
-}
-
-/// Says why the input of this name failed.
-///
-/// Refused: `Memory`.
-fn say_fault<R: AllocGlobal + Eprint>(rt: &R, name: &str, error: Error) -> Result<(), Refusal> {
-    let name = plain_text(
-        rt.alloc(),
-        if name == "-" { "standard input" } else { name },
-    )?;
-    let _ = eprintln!(rt; "meter: {name}: {error}");
-    Ok(())
 }
 
 /// The status where a bar was refused, and what is to be said of it: but for want of memory it was the template.
@@ -176,12 +166,8 @@ fn unanswered<R: Print + Eprint>(rt: &R, unasked: &Unasked) -> ExitCode {
             let _ = error.print(rt);
             ExitCode::from(if error.use_stderr() { 2 } else { 0 })
         }
-        Unasked::Value(wanted) => {
-            let _ = eprintln!(rt; "meter: {wanted}");
-            ExitCode::from(2)
-        }
-        Unasked::NoText => {
-            let _ = eprintln!(rt; "meter: the arguments can't be read");
+        Unasked::Value(fault) => {
+            let _ = eprintln!(rt; "meter: {fault}");
             ExitCode::from(2)
         }
         Unasked::Memory => refused(rt, &Refusal::Memory),
