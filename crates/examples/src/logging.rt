@@ -16,16 +16,11 @@ fn copy_all(rt: &HostRuntime, bar: &mut LoneBar<NoTracker, InMemoryTerm>) -> Res
         bar.println(line, 0)?;
         bar.set_message(message, 0)?;
     }
-    match bar.term() {
-        Some(term) => show(rt, term),
-        None => Ok(()),
-    }
-}
-
-fn show(rt: &HostRuntime, term: &InMemoryTerm) -> Result<()> {
-    println!(rt; "{}\n-- and all rows:", term.contents()?)?;
-    for row in term.picture()? {
-        println!(rt; "{row}")?;
+    if let Some(term) = bar.term() {
+        println!(rt; "{}\n-- and all rows:", term.contents()?)?;
+        for row in term.picture()? {
+            println!(rt; "{row}")?;
+        }
     }
     Ok(())
 }
