@@ -47,7 +47,7 @@ fn random_bytes(alloc: Global, numbers: &mut Numbers, count: usize) -> Result<Ve
     for _ in 0..count {
         if bytes.len() < count {
             if numbers.one_in(3) {
-                bytes.push(numbers.byte())?;
+                bytes.push(numbers.below(256) as u8)?;
             } else {
                 let at = numbers.below(PIECES.len());
                 bytes.extend_from_slice(PIECES.get(at).copied().unwrap_or(b""))?;
@@ -92,26 +92,19 @@ fn are_alike(one: &Cells, other: &Cells) -> Held {
 /// Rows and columns of a terminal.
 type Sizes = (u16, u16);
 
-/// No row is too wide, and the cursor stands in the window.
-fn is_within(picture: &[String], cursor: (u16, u16), (rows, cols): Sizes) -> bool {
-    for text in picture {
-        if columns(text.as_str()) > usize::from(cols) {
-            return false;
-        }
-    }
-    let (row, column) = cursor;
-    row < rows && column <= cols
-}
-
-/// Feeds bytes in two halves: what has scrolled away behind the first stays, and all stands in the window.
-fn feed_halves(cells: &mut Cells, (front, back): (&[u8], &[u8]), sizes: Sizes) -> Held {
+/// Feeds bytes in two halves: what has scrolled away behind the first stays, no row is too wide, and the cursor stands in the window.
+fn feed_halves(cells: &mut Cells, (front, back): (&[u8], &[u8]), (rows, cols): Sizes) -> Held {
     feed(cells, front)?;
     let before = cells.picture()?;
-    let scrolled = before.len().saturating_sub(usize::from(sizes.0));
+    let scrolled = before.len().saturating_sub(usize::from(rows));
     feed(cells, back)?;
     let after = cells.picture()?;
     Law::Scrolled.holds(after.starts_with(before.get(..scrolled).unwrap_or(&before)))?;
-    Law::Window.holds(is_within(&after, cells.cursor(), sizes))
+    for text in &after {
+        Law::Window.holds(columns(text.as_str()) <= usize::from(cols))?;
+    }
+    let (row, column) = cells.cursor();
+    Law::Window.holds(row < rows && column <= cols)
 }
 
 /// Bytes, a terminal that was fed with all of them at once, and its size.

@@ -78,27 +78,3 @@ impl Law {
         }
     }
 }
-
-/// How many runs there were, how many broke a law, and the first of these with its law.
-#[derive(Default, Drop)]
-pub struct Tally {
-    /// Runs.
-    pub runs: u64,
-    /// Those that broke a law.
-    pub broken: u64,
-    /// The number of the first of these, from 0 on, and its law.
-    pub first: Option<(u64, Law)>,
-}
-
-impl Tally {
-    /// Counts the next run.
-    pub fn count(&mut self, held: Held) {
-        if let Err(law) = held {
-            self.broken = self.broken.saturating_add(1);
-            if self.first.is_none() {
-                self.first = Some((self.runs, law));
-            }
-        }
-        self.runs = self.runs.saturating_add(1);
-    }
-}

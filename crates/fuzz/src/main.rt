@@ -12,7 +12,6 @@
 //! - `cells`: bytes. `templates`: templates and styles.
 //! - `setting`: a terminal, how it fails, and who looks at its bytes. `lone_lists`, `board_lists`: lists of calls.
 //! - `threads`: a shared board that keeps its history. `player`: what a thread does.
-//! - `tickers`: one bar's ticker, told on by one thread and off by another, 200 times each; both have to end.
 //! - `sweeps`: terminals that fail, at each place where they can. `whole_frames`: engines beside one that writes whole frames.
 #![tactic(auto)]
 
@@ -28,13 +27,11 @@ mod sweeps;
 mod templates;
 mod texts;
 mod threads;
-mod tickers;
 mod whole_frames;
 
-use crate::law::{Held, Tally};
+use crate::law::Held;
 use crate::numbers::Numbers;
 use crate::player::{Plays, Random};
-use crate::tickers::TIMES;
 use anyhow::{Result, anyhow};
 use std::env::{self, Env};
 use std::process::ExitCode;
@@ -137,16 +134,17 @@ impl Kind {
 
     /// Makes so many runs, and says what came of them by this name; whether none broke a law.
     fn all<R: Plays + Print>(&self, rt: R, seed: u64, (name, count): (&str, u64)) -> Result<bool> {
-        let mut tally = Tally::default();
+        let mut broken: u64 = 0;
+        let mut first = None;
         for number in 0..count {
-            tally.count(self.plays(rt, seed, number));
+            if let Err(law) = self.plays(rt, seed, number) {
+                broken = broken.saturating_add(1);
+                if first.is_none() {
+                    first = Some((number, law));
+                }
+            }
         }
-        let Tally {
-            runs,
-            broken,
-            first,
-        } = tally;
-        println!(rt; "{name}: {runs} runs, {broken} broke a law")?;
+        println!(rt; "{name}: {count} runs, {broken} broke a law")?;
         if let Some((number, law)) = first {
             println!(rt; "  the first is number {number}: {law:?}")?;
         }
@@ -171,8 +169,6 @@ fn make_random<R: Plays + Print>(rt: R, counts: &Counts) -> Result<bool> {
     for (kind, named) in &kinds {
         is_kept &= kind.all(rt, counts.seed, *named)?;
     }
-    tickers::played(rt)?;
-    println!(rt; "one ticker: told on {TIMES} times, told off {TIMES} times")?;
     Ok(is_kept)
 }
 

@@ -30,12 +30,6 @@ impl Numbers {
         self.words.next_word()
     }
 
-    /// The next byte.
-    pub fn byte(&mut self) -> u8 {
-        let [byte, _, _, _] = self.next().to_le_bytes();
-        byte
-    }
-
     /// A number below this one; 0 where there is none.
     pub fn below(&mut self, count: usize) -> usize
         ensures { 0 < count → result < count }

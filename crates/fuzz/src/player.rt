@@ -107,24 +107,19 @@ impl<R: Plays> Player<'_, R> {
         Ok(format!(in self.rt.alloc(); "{word} {} {step}", self.number)?)
     }
 
-    /// A bar that is on no board yet.
-    fn another(&self) -> Result<Bar<R>, Refusal> {
-        let clock = MachineClock::new(self.rt);
-        ProgressBar::hidden(self.rt, self.rt.alloc(), clock)
-    }
-
     /// A bar comes to the end of the board, ticks and steps, and goes with its ticker.
     fn comes_and_goes(&self) -> Result<(), Refusal> {
-        let bar = self.board.add(self.another()?)?;
+        let bar = self.board.new_spinner()?;
         bar.enable_steady_tick(500_000)?;
         bar.inc(1)?;
         bar.tick()?;
         Ok(())
     }
 
-    /// A bar is taken in as the second one, and out again.
+    /// A bar that was on no board is taken in as the second one, and out again.
     fn in_and_out(&self) -> Result<(), Refusal> {
-        let bar = self.board.insert(1, self.another()?)?;
+        let bar = ProgressBar::hidden(self.rt, self.rt.alloc(), MachineClock::new(self.rt))?;
+        let bar = self.board.insert(1, bar)?;
         bar.tick()?;
         self.board.remove(&bar)
     }

@@ -193,17 +193,6 @@ fn tell(alloc: Global, numbers: &mut Numbers, bar: &mut Bar) -> Held {
     Ok(())
 }
 
-/// No line has a newline or a tab in it.
-fn are_lines(lines: &[LineType]) -> bool {
-    for line in lines {
-        let text = line.as_str();
-        if text.contains('\n') || text.contains('\t') {
-            return false;
-        }
-    }
-    true
-}
-
 fn are_same(lines: &[LineType], others: &[LineType]) -> bool {
     for (one, other) in lines.iter().zip(others.iter()) {
         if one.as_str() != other.as_str() {
@@ -308,28 +297,21 @@ fn coloured_lines(
     Ok(copy.lines(now, width)?)
 }
 
-/// Colours change no visible character.
-fn has_same_characters(
-    alloc: Global,
-    plain: &[LineType],
-    coloured: &[LineType],
-    leave: Leave,
-) -> Held {
-    let plain = visible(alloc, plain)?;
-    let coloured = visible(alloc, coloured)?;
-    Law::Colours.holds(leave.holds(plain.as_str(), coloured.as_str()))
-}
-
-/// A bar's lines on any width: they are lines, a copy of the style has the same, and colours change no visible character.
+/// A bar's lines on any width: none has a newline or a tab in it, a copy of the style has the same, and colours change no visible character.
 fn is_laid_out(alloc: Global, numbers: &mut Numbers, bar: &Bar, leave: Leave) -> Held {
     let width = numbers.size(40);
     let now = numbers.next().into();
     let lines = bar.lines(now, width)?;
-    Law::Line.holds(are_lines(&lines))?;
+    for line in &lines {
+        let text = line.as_str();
+        Law::Line.holds(!text.contains('\n') && !text.contains('\t'))?;
+    }
     let plain = coloured_lines(alloc, bar, false, (now, width))?;
     Law::Copy.holds(are_same(&lines, &plain))?;
     let coloured = coloured_lines(alloc, bar, true, (now, width))?;
-    has_same_characters(alloc, &plain, &coloured, leave)
+    let plain = visible(alloc, &plain)?;
+    let coloured = visible(alloc, &coloured)?;
+    Law::Colours.holds(leave.holds(plain.as_str(), coloured.as_str()))
 }
 
 /// A template with a character of no columns at the end of each line.

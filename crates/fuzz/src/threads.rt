@@ -3,14 +3,17 @@ use crate::law::{Held, Law};
 use crate::player::{Bar, Multi, Player, Plays, Random};
 use indicatif::machine::MachineClock;
 use indicatif::{
-    Board, Entry, InMemoryTerm, MultiProgress, NoTracker, ProgressBar, ProgressDrawTarget,
-    RecordReader, Recorded, Refusal,
+    Board, Entry, InMemoryTerm, MultiProgress, NoTracker, ProgressDrawTarget, RecordReader,
+    Recorded, Refusal,
 };
 use std::alloc::Global;
 use std::thread::map_indices;
 
 /// How many bars stand on a board all the time.
 const BARS: u32 = 4;
+
+/// Their length.
+const LENGTH: u64 = 9;
 
 /// The board's id.
 const BOARD_ID: u64 = 1;
@@ -25,8 +28,7 @@ fn target(alloc: Global) -> Result<ProgressDrawTarget<InMemoryTerm>, Refusal> {
 fn bars_of<R: Plays>(rt: R, board: &Multi<R>) -> Result<Vec<Bar<R>>, Refusal> {
     let mut bars = Vec::new(rt.alloc());
     for _ in 0..BARS {
-        let bar = ProgressBar::hidden(rt, rt.alloc(), MachineClock::new(rt))?;
-        bars.push(board.add(bar)?)?;
+        bars.push(board.new_bar(LENGTH)?)?;
     }
     Ok(bars)
 }

@@ -79,12 +79,6 @@ impl<T: TermLike + Drop> Three<T> {
     }
 }
 
-/// Whether all terminals show the same, and their cursors stand in the same place.
-fn is_same(three: &Three<InMemoryTerm>) -> Result<bool, Refusal> {
-    let whole = three.whole.term();
-    Ok(is_as(three.engine.term(), whole)? && is_as(three.moving.term(), whole)?)
-}
-
 /// Whether two terminals show the same, and their cursors stand in the same place.
 fn is_as(here: &InMemoryTerm, there: &InMemoryTerm) -> Result<bool, Refusal> {
     Ok(here.cursor() == there.cursor() && here.picture()? == there.picture()?)
@@ -129,14 +123,19 @@ fn played(alloc: Global, numbers: &mut Numbers) -> Result<Option<u32>, Refusal> 
     first_difference(&mut three, &mut frame, numbers)
 }
 
-/// The number of the first call behind which they differ, from 1.
+/// The number of the first call behind which their answers, their rows or their cursors differ, from 1.
 fn first_difference(
     three: &mut Three<InMemoryTerm>,
     frame: &mut Frame,
     numbers: &mut Numbers,
 ) -> Result<Option<u32>, Refusal> {
     for at in 0..CALLS {
-        if !step(three, frame, numbers)? || !is_same(three)? {
+        let has_agreed = step(three, frame, numbers)?;
+        let whole = three.whole.term();
+        if !has_agreed
+            || !is_as(three.engine.term(), whole)?
+            || !is_as(three.moving.term(), whole)?
+        {
             return Ok(Some(at + 1));
         }
     }
@@ -218,7 +217,7 @@ pub fn request(mut words: Args) -> Asked {
     }
 }
 
-/// Does what is asked for.
+/// Does what is asked for; lists are compared up to the first one in which the engines differ.
 pub fn run<R: AllocGlobal + Print>(rt: &R, asked: Asked) -> Result<()> {
     let Asked {
         seed,
@@ -226,23 +225,16 @@ pub fn run<R: AllocGlobal + Print>(rt: &R, asked: Asked) -> Result<()> {
         prints,
     } = asked;
     let mut numbers = Numbers::new(seed, STREAM);
-    if !prints {
-        return compare(rt, &mut numbers, count);
-    }
-    for _ in 0..count {
-        print_written(rt, &mut numbers)?;
-    }
-    Ok(())
-}
-
-/// Plays so many lists, up to the first one in which the engines differ.
-fn compare<R: AllocGlobal + Print>(rt: &R, numbers: &mut Numbers, count: u64) -> Result<()> {
     for at in 0..count {
-        if let Some(call) = played(rt.alloc(), numbers)? {
+        if prints {
+            print_written(rt, &mut numbers)?;
+        } else if let Some(call) = played(rt.alloc(), &mut numbers)? {
             println!(rt; "list {at}: they differ behind call {call}")?;
             return Ok(());
         }
     }
-    println!(rt; "{count} lists: the same rows and cursor behind each call")?;
+    if !prints {
+        println!(rt; "{count} lists: the same rows and cursor behind each call")?;
+    }
     Ok(())
 }

@@ -49,8 +49,11 @@ impl<R: Wait + Copy + Clone + Drop> OnShared<R> {
     /// A bar that says this and stands on no board.
     fn saying(&self, text: &str) -> Result<Bar<R>, Refusal> {
         let style = ProgressStyle::with_template(self.alloc, "{msg}")?;
-        let bar = ProgressBar::hidden(self.rt, self.alloc, CLOCK)?;
-        bar.with_style(style)?.with_message(text)
+        let setup = Setup {
+            target: ProgressDrawTarget::hidden(),
+            clock: CLOCK,
+        };
+        ProgressBar::styled(self.rt, self.alloc, style, None, setup)?.with_message(text)
     }
 
     fn bar(&self, number: u64) -> Result<&Bar<R>, Refusal> {
@@ -77,7 +80,7 @@ impl<R: Wait + Copy + Clone + Drop> OnShared<R> {
             Some(text) => bar.with_message(text),
             None => bar.with_finish(ProgressFinish::AndLeave),
         };
-        drop(told?);
+        told?;
         Ok(())
     }
 

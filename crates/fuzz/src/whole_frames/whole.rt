@@ -65,7 +65,12 @@ impl<T: TermLike + Drop> WholeFrames<T> {
         };
         let shown = self.shown(frame)?;
         let rows = total(&shown.bars);
-        let blanks = blanks(alignment, taken.saturating_sub(above), rows);
+        let blanks = match alignment {
+            MultiProgressAlignment::Bottom if rows > 0 => {
+                taken.saturating_sub(above).saturating_sub(rows)
+            }
+            _ => 0,
+        };
         self.take_back(taken)?;
         self.put(text, blanks, &shown.lines)?;
         self.bars = shown.bars;
@@ -83,7 +88,9 @@ impl<T: TermLike + Drop> WholeFrames<T> {
         let taken = self.live();
         self.replace(taken, None, frame, alignment)?;
         self.reach = self.reach.max(self.kept.saturating_add(self.live()));
-        self.pass(frame, pass);
+        for bar in frame.iter().take(pass) {
+            self.keep_first(bar.bar);
+        }
         let gone = self.kept.min(self.reach.saturating_sub(self.height()));
         self.kept -= gone;
         self.reach = self.reach.saturating_sub(gone);
@@ -117,8 +124,7 @@ impl<T: TermLike + Drop> WholeFrames<T> {
 
     /// Keeps the rows of a bar that is gone, if they are the first.
     pub fn keep(&mut self, bar: u64) -> Keep {
-        if self.is_first(bar) {
-            self.keep_first();
+        if self.keep_first(bar) {
             return Keep::Passed;
         }
         for rows in &self.bars {
@@ -129,10 +135,10 @@ impl<T: TermLike + Drop> WholeFrames<T> {
         Keep::Absent
     }
 
-    /// The first bar's rows are kept, with the blanks above them.
-    fn keep_first(&mut self) {
-        if self.bars.is_empty() {
-            return;
+    /// Keeps the first bar's rows, with the blanks above them, if it is this one; whether it is.
+    fn keep_first(&mut self, bar: u64) -> bool {
+        if self.bars.is_empty() || self.bars[0].bar != bar {
+            return false;
         }
         let first = self.bars.remove(0);
         self.kept = self
@@ -140,22 +146,7 @@ impl<T: TermLike + Drop> WholeFrames<T> {
             .saturating_add(self.blanks)
             .saturating_add(first.rows);
         self.blanks = 0;
-    }
-
-    /// The first bars' rows are kept.
-    fn pass(&mut self, frame: &[Segment], pass: usize) {
-        for bar in frame.iter().take(pass) {
-            if self.is_first(bar.bar) {
-                self.keep_first();
-            }
-        }
-    }
-
-    fn is_first(&self, bar: u64) -> bool {
-        match self.bars.first() {
-            Some(first) => first.bar == bar,
-            None => false,
-        }
+        true
     }
 
     fn live(&self) -> usize {
@@ -244,22 +235,17 @@ impl<T: TermLike + Drop> WholeFrames<T> {
         lines: &[&str],
     ) -> Result<(), Refusal> {
         if let Some((text, _)) = text {
-            self.put_text(text)?;
+            if text.is_empty() {
+                self.put_line("")?;
+            }
+            for line in text.lines() {
+                self.put_line(line)?;
+            }
         }
         for _ in 0..blanks {
             self.put_line("")?;
         }
         for line in lines {
-            self.put_line(line)?;
-        }
-        Ok(())
-    }
-
-    fn put_text(&mut self, text: &str) -> Result<(), Refusal> {
-        if text.is_empty() {
-            return self.put_line("");
-        }
-        for line in text.lines() {
             self.put_line(line)?;
         }
         Ok(())
@@ -296,13 +282,6 @@ fn total(bars: &[BarRows]) -> usize {
         rows = rows.saturating_add(bar.rows);
     }
     rows
-}
-
-fn blanks(alignment: MultiProgressAlignment, taken: usize, rows: usize) -> usize {
-    match alignment {
-        MultiProgressAlignment::Bottom if rows > 0 => taken.saturating_sub(rows),
-        _ => 0,
-    }
 }
 
 fn told(answer: io::Result<()>) -> Result<(), Refusal> {
