@@ -156,7 +156,11 @@ fn zone_seconds<R: AllocGlobal + Env + Files + Clock>(rt: &R) -> u64 {
 
 /// The same in the zone's own sign, where it is known.
 fn zone_now<R: AllocGlobal + Env + Files + Clock>(rt: &R) -> Option<i32> {
-    let now = now_told(rt)?;
+    let Ok(time) = rt.since_1970() else {
+        return None;
+    };
+    let nanos = i128::try_from(time.as_nanos()).ok()?;
+    let now = Timestamp::from_nanosecond(nanos).ok()?;
     match SystemTimeZone::read(rt) {
         Ok(zone) => seconds_in(&zone, rt.alloc(), now),
         Err(_) => None,
@@ -170,13 +174,4 @@ fn seconds_in(zone: &SystemTimeZone, alloc: Global, now: Timestamp) -> Option<i3
         Ok(told) => Some(told.to_offset(now).seconds),
         Err(_) => None,
     }
-}
-
-/// The moment, where it is known.
-fn now_told<R: Clock>(rt: &R) -> Option<Timestamp> {
-    let Ok(time) = rt.since_1970() else {
-        return None;
-    };
-    let nanos = i128::try_from(time.as_nanos()).ok()?;
-    Timestamp::from_nanosecond(nanos).ok()
 }
