@@ -168,14 +168,8 @@ fn say_found<R: Print>(rt: &R, telling: Telling, found: Result<Where, Finding>) 
     Ok(())
 }
 
-/// Makes all sweeps; then plays each script where memory is refused, once where nothing is, and says what the judge of refused memory finds of
-/// wrong bodies.
-fn sweep_kinds<R: Runs + Print>(rt: &R, telling: Telling) -> Result<()> {
-    for kind in KINDS {
-        sweep_all(rt, telling, *kind)?;
-    }
-    print!(rt; "bars run, each byte and each call of its output fail at each size: ")?;
-    say(rt, telling, printing::each_failure(rt.alloc())?)?;
+/// Plays each script where memory is refused, once where nothing is.
+fn play_unrefused<R: Runs + Print>(rt: &R) -> Result<()> {
     let playing = Playing {
         size: LARGEST,
         room: 0,
@@ -185,11 +179,27 @@ fn sweep_kinds<R: Runs + Print>(rt: &R, telling: Telling) -> Result<()> {
         print!(rt; "{name}, memory: ")?;
         say_found(rt, Telling::Counts, memory::found(*rt, *played, &playing))?;
     }
+    Ok(())
+}
+
+/// Says what the judge of refused memory finds of wrong bodies.
+fn play_wrong_bodies<R: Runs + Print>(rt: &R) -> Result<()> {
     for planted in PLANTED {
         print!(rt; "planted, {}: ", planted.name)?;
         say_found(rt, Telling::Counts, planted::found(*rt, planted))?;
     }
     Ok(())
+}
+
+/// Makes all sweeps.
+fn sweep_kinds<R: Runs + Print>(rt: &R, telling: Telling) -> Result<()> {
+    for kind in KINDS {
+        sweep_all(rt, telling, *kind)?;
+    }
+    print!(rt; "bars run, each byte and each call of its output fail at each size: ")?;
+    say(rt, telling, printing::each_failure(rt.alloc())?)?;
+    play_unrefused(rt)?;
+    play_wrong_bodies(rt)
 }
 
 /// Does what is asked for.

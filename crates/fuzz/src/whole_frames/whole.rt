@@ -235,17 +235,22 @@ impl<T: TermLike + Drop> WholeFrames<T> {
         lines: &[&str],
     ) -> Result<(), Refusal> {
         if let Some((text, _)) = text {
-            if text.is_empty() {
-                self.put_line("")?;
-            }
-            for line in text.lines() {
-                self.put_line(line)?;
-            }
+            self.put_text(text)?;
         }
         for _ in 0..blanks {
             self.put_line("")?;
         }
         for line in lines {
+            self.put_line(line)?;
+        }
+        Ok(())
+    }
+
+    fn put_text(&mut self, text: &str) -> Result<(), Refusal> {
+        if text.is_empty() {
+            return self.put_line("");
+        }
+        for line in text.lines() {
             self.put_line(line)?;
         }
         Ok(())
