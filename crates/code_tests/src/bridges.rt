@@ -7,7 +7,7 @@ use indicatif::{
     BarCommand, BarId, BarState, Board, Candidate, Cells, Drawn, InMemoryTerm, MultiProgress,
     NoTracker, ProgressDrawTarget, ProgressStyle, Refusal, StepClock, Term,
 };
-use log::{Level, LevelFilter, Log, Logged, error, info, warn};
+use log::{Level, LevelFilter, Log, Logged, debug, error, info, trace, warn};
 use std::alloc::Global;
 use std::io::{self, ErrorKind, Write};
 use std::process::Abort;
@@ -59,6 +59,8 @@ fn two_threads_log_through_a_bridge(rt: HostRuntime) {
 // ---- filters, and forms of lines
 
 fn log_each_level<L: Log>(rt: &L) {
+    trace!(rt; "t");
+    debug!(rt; "d");
     warn!(rt; "w\nx");
     info!(rt; "i");
     error!(rt; "e\nf");
@@ -108,9 +110,11 @@ fn filters_and_forms(rt: HostRuntime) {
     on_each_line(*rt, &board);
     same!(rt; counted(&board, Kind::Log("WARN  w\nWARN  x")), 1);
     same!(rt; counted(&board, Kind::Log("ERROR e\nERROR f")), 1);
+    same!(rt; counted(&board, Kind::Log("DEBUG d")), 1);
+    same!(rt; counted(&board, Kind::Log("TRACE t")), 1);
     in_own_form(*rt, &board);
     same!(rt; counted(&board, Kind::Log("e\nf")), 1);
-    same!(rt; counted(&board, Kind::Any), 8);
+    same!(rt; counted(&board, Kind::Any), 12);
     is_one_run(*rt, &board, rt.alloc());
 }
 
@@ -176,7 +180,7 @@ fn a_record_that_failed_is_missed(rt: HostRuntime) {
     same!(rt; log.sink().missed(), 1);
     warn_twice(&log);
     same!(rt; log.sink().missed(), 1);
-    let text = board.with_term(|term| contents(term)).granted(rt);
+    let text = board.with_term(contents).granted(rt);
     same!(rt; text.as_str(), "\nWARN  low disk\nERROR a\nb");
 }
 

@@ -1,5 +1,6 @@
 //! What is asked of the machine: its clock, and the terminals behind the program's own streams or behind a writer.
 use crate::checks::Granted;
+use crate::values::is_shown;
 use indicatif::machine::{
     MachineClock, Shares, StderrBoard, StderrSetup, StreamSetup, TerminalSetup, facts_of,
     on_stderr, on_stdout, on_stream, style_on_stderr, told_setup, wants_colors,
@@ -109,8 +110,7 @@ fn shows<R: Abort>(rt: &R, alloc: Global, style: ProgressStyle<NoTracker>, wante
     let mut bar = Box::new(alloc, bar).expect(rt, "granted");
     holds!(rt; bar.set_message("x", 0).is_ok());
     let lines = bar.lines(0, 20).granted(rt);
-    same!(rt; lines.len(), 1);
-    holds!(rt; lines.first().is_some_and(|line| line.is_text(wanted)));
+    is_shown(rt, &lines, wanted);
 }
 
 /// A style for standard error has colours where they are wanted there, and none elsewhere.

@@ -1,8 +1,9 @@
 //! Keys of a template that are the caller's own.
 ghost use Rattle.std.specs.Prelude.{true, false, if◌then◌else◌, codes};
 
-use crate::carried_trackers::Says;
+use crate::carried_trackers::{Says, Telling};
 use crate::checks::Granted;
+use crate::values::is_shown;
 use indicatif_bar::state::{BarCommand, BarState, ProgressFinish, ProgressState};
 use indicatif_bar::style::{FnTracker, ProgressStyle, ProgressTracker};
 use indicatif_term::draw_target::LineType;
@@ -17,8 +18,14 @@ type Look<K> = Box<ProgressStyle<K>>;
 
 type Told<K> = Box<BarState<K>>;
 
-fn look<K: ProgressTracker>(rt: &impl Abort, alloc: Global, template: &str) -> Look<K> {
+/// A style of this template, with colours or without.
+pub fn look<K: ProgressTracker>(
+    rt: &impl Abort,
+    alloc: Global,
+    (template, colours): (&str, bool),
+) -> Look<K> {
     let style = ProgressStyle::with_template(alloc, template).granted(rt);
+    let style = style.with_colors(colours).granted(rt);
     Box::new(alloc, style).granted(rt)
 }
 
@@ -71,12 +78,12 @@ fn are_lines(rt: &impl Abort, alloc: Global, lines: Result<Vec<LineType>, Refusa
 // ---- a text that stays
 
 /// The same style with a tracker of this name that writes this text.
-fn saying(
+pub fn saying(
     rt: &impl Abort,
     alloc: Global,
-    look: Look<FnTracker<Says>>,
+    look: Look<Telling>,
     (name, text): (&str, &'static str),
-) -> Look<FnTracker<Says>> {
+) -> Look<Telling> {
     let tracker = FnTracker::new(alloc, Says { alloc, text }).granted(rt);
     keyed(rt, alloc, look, (name, tracker))
 }
@@ -86,10 +93,10 @@ fn tracked(
     rt: &impl Abort,
     alloc: Global,
     (template, text): (&str, &'static str),
-) -> Look<FnTracker<Says>> {
-    let look = saying(rt, alloc, look(rt, alloc, template), ("t", text));
-    let style = Box::into_inner(look).with_colors(false).granted(rt);
-    let style = style.progress_chars("=>-").granted(rt);
+) -> Look<Telling> {
+    let look = look(rt, alloc, (template, false));
+    let look = saying(rt, alloc, look, ("t", text));
+    let style = Box::into_inner(look).progress_chars("=>-").granted(rt);
     Box::new(alloc, style).granted(rt)
 }
 
@@ -132,18 +139,18 @@ fn texts_of_trackers(rt: HostRuntime) {
 // ---- names of keys
 
 /// Trackers of the names of keys, and two of one name.
-fn named(rt: &impl Abort, alloc: Global) -> Look<FnTracker<Says>> {
-    let look = look(rt, alloc, "{pos}{wide_msg}{t}");
+fn named(rt: &impl Abort, alloc: Global) -> Look<Telling> {
+    let look = look(rt, alloc, ("{pos}{wide_msg}{t}", false));
     let look = saying(rt, alloc, look, ("pos", "p"));
     let look = saying(rt, alloc, look, ("wide_msg", "w"));
     let look = saying(rt, alloc, look, ("t", "1"));
     saying(rt, alloc, look, ("t", "2"))
 }
 
-/// The line of a bar that looks so is this.
-fn shows_line(rt: &impl Abort, alloc: Global, look: Look<FnTracker<Says>>, wanted: &str) {
-    let bar = bar(rt, alloc, look, None);
-    shows(rt, alloc, &bar, (80, wanted));
+/// The one line of a bar of 10 that looks so is this, on 80 columns.
+pub fn shows_line(rt: &impl Abort, alloc: Global, look: Look<Telling>, wanted: &str) {
+    let bar = bar(rt, alloc, look, Some(10));
+    is_shown(rt, &bar.lines(0, 80).granted(rt), wanted);
 }
 
 /// A tracker comes before a key of its name, and before an earlier tracker of its name.
@@ -153,8 +160,8 @@ fn names_of_trackers(rt: HostRuntime) {
     let alloc = rt.alloc();
     let look = named(rt, alloc);
     let clone = cloned(rt, alloc, &look);
-    shows_line(rt, alloc, look, "pw2\n");
-    shows_line(rt, alloc, clone, "pw2\n");
+    shows_line(rt, alloc, look, "pw2");
+    shows_line(rt, alloc, clone, "pw2");
 }
 
 // ---- a text that changes
@@ -192,7 +199,7 @@ impl ProgressTracker for Light {
 
 /// A bar that shows whether it has ticked.
 fn lit(rt: &impl Abort, alloc: Global) -> Told<Light> {
-    let look = look(rt, alloc, "{light}");
+    let look = look(rt, alloc, ("{light}", false));
     let look = keyed(rt, alloc, look, ("light", Light { on: false }));
     bar(rt, alloc, look, None)
 }

@@ -2,7 +2,7 @@
 use crate::checks::Granted;
 use crate::owners::{Bar, bar_on};
 use crate::shown::{Bytes, Shown, is_seen, is_written, no_bytes, setup_on};
-use indicatif::{Drawn, MultiProgress, ProgressStyle, StepClock, Term};
+use indicatif::{Drawn, MultiProgress, StepClock, Term};
 use std::alloc::Global;
 use std::process::Abort;
 use std::sync::{Arc, Wait};
@@ -29,10 +29,8 @@ fn bar_of<R: Wait + Copy + Clone + Drop + Abort>(
     text: &str,
 ) -> Bar<R> {
     let rt = &rt;
-    let bar = board.new_spinner().expect(rt, "granted");
-    let style = ProgressStyle::with_template(alloc, "{msg}").granted(rt);
-    let bar = bar.with_style(style).expect(rt, "granted");
-    bar.with_message(text).expect(rt, "granted")
+    let bar = bar_on(*rt, alloc, &no_bytes(rt, alloc), text);
+    board.add(bar).expect(rt, "granted")
 }
 
 /// A tick that draws. Its call promises nothing here.
