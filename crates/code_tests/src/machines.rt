@@ -2,12 +2,12 @@
 use crate::checks::Granted;
 use crate::values::is_shown;
 use indicatif::machine::{
-    MachineClock, Shares, StderrBoard, StderrSetup, StreamSetup, TerminalSetup, facts_of,
-    on_stderr, on_stdout, on_stream, style_on_stderr, told_setup, wants_colors,
+    MachineClock, StreamSetup, TerminalSetup, facts_of, on_stderr, on_stdout, on_stream,
+    style_on_stderr, told_setup, wants_colors,
 };
 use indicatif::{
-    BarState, Clock, Drawn, Facts, LoneBar, Moment, MultiProgress, NoTracker, ProgressStyle,
-    Refusal, Setup, TermLike,
+    BarState, Clock, Drawn, Facts, LoneBar, Moment, NoTracker, ProgressStyle, Refusal, Setup,
+    TermLike,
 };
 use std::alloc::Global;
 use std::cell::Cell;
@@ -95,13 +95,6 @@ fn the_programs_own_streams(rt: HostRuntime) {
     same!(rt; setup.target.is_hidden(), out);
     let err = is_hidden_by(&facts_of(rt, &rt.stderr()).granted(rt));
     same!(rt; on_stderr(rt).granted(rt).target.is_hidden(), err);
-    let board = board_on(*rt, on_stderr(rt).expect(rt, "granted")).expect(rt, "granted");
-    same!(rt; board.is_hidden(), err);
-}
-
-/// A board on standard error.
-fn board_on<R: Shares>(rt: R, setup: StderrSetup) -> Result<StderrBoard<R>, Refusal> {
-    MultiProgress::new(rt, rt.alloc(), setup, 1)
 }
 
 /// A bar with the message `x` has this one line in a style.

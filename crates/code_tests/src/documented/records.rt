@@ -1,4 +1,4 @@
-//! Examples of a bar's record, its style and a tracker. `keyed` has that of a key of one's own.
+//! Examples of a bar's record, its style and a tracker. `values` has those of a room of lines, `keyed` that of a key of one's own.
 ghost use Rattle.std.specs.Prelude.{string_bytes};
 
 use crate::checks::Granted;
