@@ -47,7 +47,7 @@ fn two_threads_log_through_a_bridge(rt: HostRuntime) {
     let board = recorded(*rt, alloc);
     let one = bar_on(&board, *rt, alloc, "one");
     let other = bar_on(&board, *rt, alloc, "other");
-    let bridge = LogBridge::new((*board).clone().expect(rt, "granted"));
+    let bridge = LogBridge::new(board.clone().expect(rt, "granted"));
     let log = Logged::new(*rt, Level::Info, bridge);
     log_beside_ticks(rt, &log, (&one, &other));
     same!(rt; counted(&board, Kind::Log("INFO  mine")), 20);
@@ -151,13 +151,13 @@ fn breaking_after<R: Wait + Copy + Clone + Drop + Abort>(
     rt: R,
     alloc: Global,
     left: u32,
-) -> Box<Broken<R>> {
+) -> Broken<R> {
     let rt = &rt;
     let cells = Cells::new(alloc, 4, 20).granted(rt);
     let target = ProgressDrawTarget::term_like(Term::new(Wire { cells, left }, 4, 20));
     let clock = StepClock { next: 0, step: 1 };
     let board = MultiProgress::with_draw_target(*rt, alloc, target, clock, 1);
-    Box::new(alloc, board.expect(rt, "granted")).expect(rt, "granted")
+    board.expect(rt, "granted")
 }
 
 fn contents(term: Option<&Term<Wire>>) -> Option<String> {
@@ -174,7 +174,7 @@ fn warn_twice<L: Log>(rt: &L) {
 fn a_record_that_failed_is_missed(rt: HostRuntime) {
     let rt = &rt;
     let board = breaking_after(*rt, rt.alloc(), 0);
-    let bridge = LogBridge::new((*board).clone().expect(rt, "granted"));
+    let bridge = LogBridge::new(board.clone().expect(rt, "granted"));
     let log = Logged::new(*rt, Level::Trace, bridge);
     warn!(log; "one");
     same!(rt; log.sink().missed(), 1);

@@ -60,11 +60,10 @@ pub fn setup<R: Abort>(rt: &R, alloc: Global, cols: u16) -> Setup<InMemoryTerm, 
 }
 
 /// A board of the id 1 that keeps its history.
-pub fn recorded<R: Wait + Copy + Clone + Drop + Abort>(rt: R, alloc: Global) -> Box<Shared<R>> {
+pub fn recorded<R: Wait + Copy + Clone + Drop + Abort>(rt: R, alloc: Global) -> Shared<R> {
     let rt = &rt;
     let Setup { target, clock } = setup(rt, alloc, 10);
-    let board = MultiProgress::recorded(*rt, alloc, target, clock, 1).expect(rt, "granted");
-    Box::new(alloc, board).expect(rt, "granted")
+    MultiProgress::recorded(*rt, alloc, target, clock, 1).expect(rt, "granted")
 }
 
 /// A bar that stands alone, in the style of a template.

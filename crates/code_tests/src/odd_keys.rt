@@ -39,7 +39,7 @@ fn shows<R: Wait + Copy + Clone + Drop + Abort>(
 ) {
     let rt = &rt;
     let board = MultiProgress::keyed_recorded(*rt, alloc, setup(rt, alloc, 10), 1);
-    let board: Box<Shared<R>> = Box::new(alloc, board.expect(rt, "granted")).expect(rt, "granted");
+    let board: Shared<R> = board.expect(rt, "granted");
     let bar = board.add(saying(*rt, alloc, text)).expect(rt, "granted");
     same!(rt; bar.tick(), Ok(Drawn::Yes));
     board_shows(rt, &board, wanted);
