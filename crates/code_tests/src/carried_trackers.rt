@@ -118,7 +118,7 @@ impl ProgressTracker for TestTracker {
 }
 
 /// A bar of 1 that shows such a tracker.
-fn tracked<R: Abort>(rt: &R, alloc: Global) -> Box<BarState<TestTracker>> {
+fn tracked<R: Abort>(rt: &R, alloc: Global) -> BarState<TestTracker> {
     let tracker = TestTracker {
         alloc,
         ticked: false,
@@ -128,8 +128,7 @@ fn tracked<R: Abort>(rt: &R, alloc: Global) -> Box<BarState<TestTracker>> {
     let style = ProgressStyle::with_template(alloc, "{{ {foo} }}").granted(rt);
     let style = style.with_key("foo", tracker).expect(rt, "granted");
     let style = style.progress_chars("#>-").granted(rt);
-    let bar = BarState::styled(alloc, style, Some(1), 0).expect(rt, "granted");
-    Box::new(alloc, bar).expect(rt, "granted")
+    BarState::styled(alloc, style, Some(1), 0).expect(rt, "granted")
 }
 
 /// The bar's one line is this, on 16 columns.

@@ -12,47 +12,16 @@ use std::alloc::Global;
 use std::convert::AsStr;
 use std::process::Abort;
 
-// ---- styles and bars in boxes, so that each way out of a function drops them by one call
-
-type Look<K> = Box<ProgressStyle<K>>;
-
-type Told<K> = Box<BarState<K>>;
+// ---- styles and bars
 
 /// A style of this template, with colours or without.
 pub fn look<K: ProgressTracker>(
     rt: &impl Abort,
     alloc: Global,
     (template, colours): (&str, bool),
-) -> Look<K> {
-    let style = ProgressStyle::with_template(alloc, template).granted(rt);
-    let style = style.with_colors(colours).granted(rt);
-    Box::new(alloc, style).granted(rt)
-}
-
-/// The same style with this tracker.
-fn keyed<K: ProgressTracker>(
-    rt: &impl Abort,
-    alloc: Global,
-    look: Look<K>,
-    (name, tracker): (&str, K),
-) -> Look<K> {
-    let style = Box::into_inner(look).with_key(name, tracker).granted(rt);
-    Box::new(alloc, style).granted(rt)
-}
-
-fn cloned<K: ProgressTracker>(rt: &impl Abort, alloc: Global, look: &Look<K>) -> Look<K> {
-    let style = look.try_clone().granted(rt);
-    Box::new(alloc, style).granted(rt)
-}
-
-fn bar<K: ProgressTracker>(
-    rt: &impl Abort,
-    alloc: Global,
-    look: Look<K>,
-    len: Option<u64>,
-) -> Told<K> {
-    let bar = BarState::styled(alloc, Box::into_inner(look), len, 0).granted(rt);
-    Box::new(alloc, bar).granted(rt)
+) -> ProgressStyle<K> {
+    let style = ProgressStyle::with_template(alloc, template).expect(rt, "granted");
+    style.with_colors(colours).expect(rt, "granted")
 }
 
 /// The lines on so many columns, each with a newline behind it, are these.
@@ -81,11 +50,11 @@ fn are_lines(rt: &impl Abort, alloc: Global, lines: Result<Vec<LineType>, Refusa
 pub fn saying(
     rt: &impl Abort,
     alloc: Global,
-    look: Look<Telling>,
+    look: ProgressStyle<Telling>,
     (name, text): (&str, &'static str),
-) -> Look<Telling> {
+) -> ProgressStyle<Telling> {
     let tracker = FnTracker::new(alloc, Says { alloc, text }).granted(rt);
-    keyed(rt, alloc, look, (name, tracker))
+    look.with_key(name, tracker).expect(rt, "granted")
 }
 
 /// A style of this template with a tracker of the name `t`, without colours.
@@ -93,11 +62,10 @@ fn tracked(
     rt: &impl Abort,
     alloc: Global,
     (template, text): (&str, &'static str),
-) -> Look<Telling> {
+) -> ProgressStyle<Telling> {
     let look = look(rt, alloc, (template, false));
     let look = saying(rt, alloc, look, ("t", text));
-    let style = Box::into_inner(look).progress_chars("=>-").granted(rt);
-    Box::new(alloc, style).granted(rt)
+    look.progress_chars("=>-").expect(rt, "granted")
 }
 
 /// A template, the text of its tracker, spaces for a tab, and the lines on 10 columns.
@@ -123,7 +91,7 @@ const SAID: &[Said] = &[
 fn is_told(rt: &impl Abort, alloc: Global, row: &Said) {
     let (template, text, tab, wanted) = *row;
     let look = tracked(rt, alloc, (template, text));
-    let mut bar = bar(rt, alloc, look, Some(4));
+    let mut bar = BarState::styled(alloc, look, Some(4), 0).expect(rt, "granted");
     bar.set_tab_width(tab, 0).granted(rt);
     shows(rt, alloc, &bar, (10, wanted));
 }
@@ -139,7 +107,7 @@ fn texts_of_trackers(rt: HostRuntime) {
 // ---- names of keys
 
 /// Trackers of the names of keys, and two of one name.
-fn named(rt: &impl Abort, alloc: Global) -> Look<Telling> {
+fn named(rt: &impl Abort, alloc: Global) -> ProgressStyle<Telling> {
     let look = look(rt, alloc, ("{pos}{wide_msg}{t}", false));
     let look = saying(rt, alloc, look, ("pos", "p"));
     let look = saying(rt, alloc, look, ("wide_msg", "w"));
@@ -148,8 +116,8 @@ fn named(rt: &impl Abort, alloc: Global) -> Look<Telling> {
 }
 
 /// The one line of a bar of 10 that looks so is this, on 80 columns.
-pub fn shows_line(rt: &impl Abort, alloc: Global, look: Look<Telling>, wanted: &str) {
-    let bar = bar(rt, alloc, look, Some(10));
+pub fn shows_line(rt: &impl Abort, alloc: Global, look: ProgressStyle<Telling>, wanted: &str) {
+    let bar = BarState::styled(alloc, look, Some(10), 0).expect(rt, "granted");
     is_shown(rt, &bar.lines(0, 80).granted(rt), wanted);
 }
 
@@ -159,7 +127,7 @@ fn names_of_trackers(rt: HostRuntime) {
     let rt = &rt;
     let alloc = rt.alloc();
     let look = named(rt, alloc);
-    let clone = cloned(rt, alloc, &look);
+    let clone = look.try_clone().expect(rt, "granted");
     shows_line(rt, alloc, look, "pw2");
     shows_line(rt, alloc, clone, "pw2");
 }
@@ -198,10 +166,10 @@ impl ProgressTracker for Light {
 }
 
 /// A bar that shows whether it has ticked.
-fn lit(rt: &impl Abort, alloc: Global) -> Told<Light> {
+fn lit(rt: &impl Abort, alloc: Global) -> BarState<Light> {
     let look = look(rt, alloc, ("{light}", false));
-    let look = keyed(rt, alloc, look, ("light", Light { on: false }));
-    bar(rt, alloc, look, None)
+    let look = look.with_key("light", Light { on: false });
+    BarState::styled(alloc, look.expect(rt, "granted"), None, 0).expect(rt, "granted")
 }
 
 /// A call of a bar.
