@@ -5,25 +5,19 @@ use indicatif::{
     Drawn, InMemoryTerm, ProgressBar, ProgressDrawTarget, Setup, StepClock, TermLike,
     WeakProgressBar,
 };
-use std::alloc::Global;
-use std::process::Abort;
 
 type Boxed = Box<dyn TermLike + Drop>;
-
-fn boxed_setup<R: Abort>(rt: &R, alloc: Global) -> Setup<Boxed, StepClock> {
-    let term = InMemoryTerm::new(alloc, 4, 20).granted(rt);
-    let term: Boxed = Box::new(alloc, term).expect(rt, "granted");
-    Setup {
-        target: ProgressDrawTarget::term_like(term),
-        clock: StepClock { next: 0, step: 0 },
-    }
-}
 
 #[test]
 fn a_boxed_terminal(rt: HostRuntime) {
     let rt = &rt;
     let alloc = rt.alloc();
-    let setup = boxed_setup(rt, alloc);
+    let term = InMemoryTerm::new(alloc, 4, 20).granted(rt);
+    let term: Boxed = Box::new(alloc, term).expect(rt, "granted");
+    let setup = Setup {
+        target: ProgressDrawTarget::term_like(term),
+        clock: StepClock { next: 0, step: 0 },
+    };
     let bar = ProgressBar::no_length(*rt, alloc, setup).expect(rt, "granted");
     same!(rt; bar.inc(2), Ok(Drawn::Yes));
     same!(rt; bar.position(), 2);

@@ -88,6 +88,6 @@ fn a_pause_beside_a_ticker(rt: HostRuntime) {
     waits(rt);
     same!(rt; of_tickers(&board), (ticked, 1, 1));
     is_one_run(*rt, &board, alloc);
-    let text = format!(in alloc; "{:?}", *board).granted(rt);
+    let text = format!(in alloc; "{board:?}").granted(rt);
     same!(rt; text.as_str(), "MultiProgress");
 }

@@ -7,7 +7,7 @@ use indicatif::{
     BarCommand, BarId, BarState, Board, Candidate, Cells, Drawn, InMemoryTerm, MultiProgress,
     NoTracker, ProgressDrawTarget, ProgressStyle, Refusal, StepClock, Term,
 };
-use log::{Level, LevelFilter, Log, Logged, error, info, warn};
+use log::{Level, LevelFilter, Log, Logged, debug, error, info, trace, warn};
 use std::alloc::Global;
 use std::io::{self, ErrorKind, Write};
 use std::process::Abort;
@@ -47,7 +47,7 @@ fn two_threads_log_through_a_bridge(rt: HostRuntime) {
     let board = recorded(*rt, alloc);
     let one = bar_on(&board, *rt, alloc, "one");
     let other = bar_on(&board, *rt, alloc, "other");
-    let bridge = LogBridge::new((*board).clone().expect(rt, "granted"));
+    let bridge = LogBridge::new(board.clone().expect(rt, "granted"));
     let log = Logged::new(*rt, Level::Info, bridge);
     log_beside_ticks(rt, &log, (&one, &other));
     same!(rt; counted(&board, Kind::Log("INFO  mine")), 20);
@@ -59,6 +59,8 @@ fn two_threads_log_through_a_bridge(rt: HostRuntime) {
 // ---- filters, and forms of lines
 
 fn log_each_level<L: Log>(rt: &L) {
+    trace!(rt; "t");
+    debug!(rt; "d");
     warn!(rt; "w\nx");
     info!(rt; "i");
     error!(rt; "e\nf");
@@ -108,9 +110,11 @@ fn filters_and_forms(rt: HostRuntime) {
     on_each_line(*rt, &board);
     same!(rt; counted(&board, Kind::Log("WARN  w\nWARN  x")), 1);
     same!(rt; counted(&board, Kind::Log("ERROR e\nERROR f")), 1);
+    same!(rt; counted(&board, Kind::Log("DEBUG d")), 1);
+    same!(rt; counted(&board, Kind::Log("TRACE t")), 1);
     in_own_form(*rt, &board);
     same!(rt; counted(&board, Kind::Log("e\nf")), 1);
-    same!(rt; counted(&board, Kind::Any), 8);
+    same!(rt; counted(&board, Kind::Any), 12);
     is_one_run(*rt, &board, rt.alloc());
 }
 
@@ -147,13 +151,13 @@ fn breaking_after<R: Wait + Copy + Clone + Drop + Abort>(
     rt: R,
     alloc: Global,
     left: u32,
-) -> Box<Broken<R>> {
+) -> Broken<R> {
     let rt = &rt;
     let cells = Cells::new(alloc, 4, 20).granted(rt);
     let target = ProgressDrawTarget::term_like(Term::new(Wire { cells, left }, 4, 20));
     let clock = StepClock { next: 0, step: 1 };
     let board = MultiProgress::with_draw_target(*rt, alloc, target, clock, 1);
-    Box::new(alloc, board.expect(rt, "granted")).expect(rt, "granted")
+    board.expect(rt, "granted")
 }
 
 fn contents(term: Option<&Term<Wire>>) -> Option<String> {
@@ -170,13 +174,13 @@ fn warn_twice<L: Log>(rt: &L) {
 fn a_record_that_failed_is_missed(rt: HostRuntime) {
     let rt = &rt;
     let board = breaking_after(*rt, rt.alloc(), 0);
-    let bridge = LogBridge::new((*board).clone().expect(rt, "granted"));
+    let bridge = LogBridge::new(board.clone().expect(rt, "granted"));
     let log = Logged::new(*rt, Level::Trace, bridge);
     warn!(log; "one");
     same!(rt; log.sink().missed(), 1);
     warn_twice(&log);
     same!(rt; log.sink().missed(), 1);
-    let text = board.with_term(|term| contents(term)).granted(rt);
+    let text = board.with_term(contents).granted(rt);
     same!(rt; text.as_str(), "\nWARN  low disk\nERROR a\nb");
 }
 

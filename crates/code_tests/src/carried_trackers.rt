@@ -2,10 +2,11 @@
 ghost use Rattle.std.specs.Prelude.{false, true, List, [], ◌++◌, if◌then◌else◌, codes, decimal, unwrap_or};
 
 use crate::checks::Granted;
+use crate::styles::{look, saying, shows_line};
+use crate::values::is_shown;
 use indicatif::style::ProgressTracker;
 use indicatif::{BarState, FnTracker, Moment, ProgressState, ProgressStyle, Refusal, TellsText};
 use std::alloc::Global;
-use std::convert::AsStr;
 use std::process::Abort;
 
 /// Tells this text.
@@ -26,43 +27,12 @@ impl TellsText for Says {
 /// A key that tells it.
 pub type Telling = FnTracker<Says>;
 
-type Look = ProgressStyle<Telling>;
-
-/// The style with one key more, of this text.
-fn with_key<R: Abort>(
-    rt: &R,
-    alloc: Global,
-    look: Look,
-    (name, text): (&str, &'static str),
-) -> Look {
-    let tracker = FnTracker::new(alloc, Says { alloc, text }).granted(rt);
-    look.with_key(name, tracker).expect(rt, "granted")
-}
-
-/// The style of a template, with colours or without.
-fn look_of<R: Abort>(rt: &R, alloc: Global, template: &str, colours: bool) -> Look {
-    let look = ProgressStyle::with_template(alloc, template).granted(rt);
-    look.with_colors(colours).granted(rt)
-}
-
-/// The one line of a bar of 10 in this style is this, on 80 columns.
-fn shows<R: Abort>(rt: &R, alloc: Global, look: Look, wanted: &str) {
-    let bar = BarState::styled(alloc, look, Some(10), 0).expect(rt, "granted");
-    is_line(rt, &bar, 80, wanted);
-}
-
-fn is_line<R: Abort, K: ProgressTracker>(rt: &R, bar: &BarState<K>, width: u16, wanted: &str) {
-    let lines = bar.lines(0, width).granted(rt);
-    same!(rt; lines.len(), 1);
-    same!(rt; lines.first().granted(rt).as_str(), wanted);
-}
-
-/// The keys `foo` and `bar` make this of a template.
+/// The keys `foo` and `bar` make this line of a template.
 fn expands<R: Abort>(rt: &R, alloc: Global, template: &str, wanted: &str) {
-    let look = look_of(rt, alloc, template, false);
-    let look = with_key(rt, alloc, look, ("foo", "FOO"));
-    let look = with_key(rt, alloc, look, ("bar", "BAR"));
-    shows(rt, alloc, look, wanted);
+    let look = look(rt, alloc, (template, false));
+    let look = saying(rt, alloc, look, ("foo", "FOO"));
+    let look = saying(rt, alloc, look, ("bar", "BAR"));
+    shows_line(rt, alloc, look, wanted);
 }
 
 #[test]
@@ -74,11 +44,11 @@ fn test_expand_template(rt: HostRuntime) {
     expands(rt, alloc, json, r#"{ "foo": "FOO", "bar": BAR }"#);
 }
 
-/// The key `foo` makes this of a template, with colours or without.
-fn expands_flags<R: Abort>(rt: &R, alloc: Global, (template, colours): (&str, bool), wanted: &str) {
-    let look = look_of(rt, alloc, template, colours);
-    let look = with_key(rt, alloc, look, ("foo", "XXX"));
-    shows(rt, alloc, look, wanted);
+/// The key `foo` makes this line of a template, with colours or without.
+fn expands_flags<R: Abort>(rt: &R, alloc: Global, template: (&str, bool), wanted: &str) {
+    let look = look(rt, alloc, template);
+    let look = saying(rt, alloc, look, ("foo", "XXX"));
+    shows_line(rt, alloc, look, wanted);
 }
 
 #[test]
@@ -148,7 +118,7 @@ impl ProgressTracker for TestTracker {
 }
 
 /// A bar of 1 that shows such a tracker.
-fn tracked<R: Abort>(rt: &R, alloc: Global) -> Box<BarState<TestTracker>> {
+fn tracked<R: Abort>(rt: &R, alloc: Global) -> BarState<TestTracker> {
     let tracker = TestTracker {
         alloc,
         ticked: false,
@@ -158,18 +128,22 @@ fn tracked<R: Abort>(rt: &R, alloc: Global) -> Box<BarState<TestTracker>> {
     let style = ProgressStyle::with_template(alloc, "{{ {foo} }}").granted(rt);
     let style = style.with_key("foo", tracker).expect(rt, "granted");
     let style = style.progress_chars("#>-").granted(rt);
-    let bar = BarState::styled(alloc, style, Some(1), 0).expect(rt, "granted");
-    Box::new(alloc, bar).expect(rt, "granted")
+    BarState::styled(alloc, style, Some(1), 0).expect(rt, "granted")
+}
+
+/// The bar's one line is this, on 16 columns.
+fn is_line<R: Abort>(rt: &R, bar: &BarState<TestTracker>, wanted: &str) {
+    is_shown(rt, &bar.lines(0, 16).granted(rt), wanted);
 }
 
 #[test]
 fn test_stateful_tracker(rt: HostRuntime) {
     let rt = &rt;
     let mut bar = tracked(rt, rt.alloc());
-    is_line(rt, &bar, 16, "{  }");
+    is_line(rt, &bar, "{  }");
     bar.inc(1, 0);
-    is_line(rt, &bar, 16, "{ 1 1 }");
+    is_line(rt, &bar, "{ 1 1 }");
     bar.reset(0);
-    is_line(rt, &bar, 16, "{  }");
+    is_line(rt, &bar, "{  }");
     bar.finish_and_clear(0);
 }

@@ -4,6 +4,7 @@ ghost use Rattle.std.specs.Prelude.{◌≡◌};
 use crate::checks::Granted;
 use crate::fronts::{Bar, another_of, setup};
 use crate::gates::Open;
+use crate::stepped::twice;
 use indicatif::{BarWorker, Done, ProgressBar, run_workers, run_workers_with};
 use std::alloc::Global;
 use std::process::Abort;
@@ -14,7 +15,8 @@ use std::thread::join;
 fn bar_at<R: Wait + Copy + Clone + Drop + Abort>(rt: R, alloc: Global, position: u64) -> Bar<R> {
     let rt = &rt;
     let bar = ProgressBar::no_length(*rt, alloc, setup(rt, alloc, 20)).expect(rt, "granted");
-    bar.with_position(position).expect(rt, "granted")
+    holds!(rt; bar.set_position(position).is_ok());
+    bar
 }
 
 /// Adds 1 a thousand times.
@@ -72,8 +74,7 @@ fn pieces_over_a_shared_bar(rt: HostRuntime) {
     holds!(rt; made[2].is_empty());
     same!(rt; bar.position(), 3);
     let mut owner = another_of(rt, &bar);
-    let double = |x: &u32| x.wrapping_mul(2);
-    let made = run_workers_with(rt, alloc, pieces.as_slice(), double, &Open, &mut owner);
+    let made = run_workers_with(rt, alloc, pieces.as_slice(), twice, &Open, &mut owner);
     same!(rt; made.expect(rt, "granted").len(), 3);
     same!(rt; bar.position(), 6);
 }

@@ -60,11 +60,10 @@ pub fn setup<R: Abort>(rt: &R, alloc: Global, cols: u16) -> Setup<InMemoryTerm, 
 }
 
 /// A board of the id 1 that keeps its history.
-pub fn recorded<R: Wait + Copy + Clone + Drop + Abort>(rt: R, alloc: Global) -> Box<Shared<R>> {
+pub fn recorded<R: Wait + Copy + Clone + Drop + Abort>(rt: R, alloc: Global) -> Shared<R> {
     let rt = &rt;
     let Setup { target, clock } = setup(rt, alloc, 10);
-    let board = MultiProgress::recorded(*rt, alloc, target, clock, 1).expect(rt, "granted");
-    Box::new(alloc, board).expect(rt, "granted")
+    MultiProgress::recorded(*rt, alloc, target, clock, 1).expect(rt, "granted")
 }
 
 /// A bar that stands alone, in the style of a template.
@@ -74,12 +73,12 @@ pub fn alone<R: Wait + Copy + Clone + Drop + Abort>(
     template: &str,
 ) -> Bar<R> {
     let rt = &rt;
-    let bar = ProgressBar::no_length(*rt, alloc, setup(rt, alloc, 10)).expect(rt, "granted");
     let style = ProgressStyle::with_template(alloc, template).granted(rt);
-    bar.with_style(style).expect(rt, "granted")
+    let setup = setup(rt, alloc, 10);
+    ProgressBar::styled(*rt, alloc, style, None, setup).expect(rt, "granted")
 }
 
-/// A bar behind all others of a board, whose one line is this text.
+/// A bar behind all others of a board, whose one line is this text, which has no keys.
 pub fn bar_on<R: Wait + Copy + Clone + Drop + Abort>(
     board: &Shared<R>,
     rt: R,
@@ -87,8 +86,8 @@ pub fn bar_on<R: Wait + Copy + Clone + Drop + Abort>(
     text: &str,
 ) -> Bar<R> {
     let rt = &rt;
-    let bar = alone(*rt, alloc, "{msg}").with_message(text);
-    board.add(bar.expect(rt, "granted")).expect(rt, "granted")
+    let bar = alone(*rt, alloc, text);
+    board.add(bar).expect(rt, "granted")
 }
 
 /// What stands on a terminal.
@@ -102,7 +101,7 @@ pub fn bar_shows<C: Clock + Drop, R: Wait + Clone + Drop + Abort, K: Tracks>(
     bar: &ProgressBar<InMemoryTerm, C, R, K>,
     wanted: &str,
 ) {
-    let text = bar.with_term(|term| contents(term)).granted(rt);
+    let text = bar.with_term(contents).granted(rt);
     same!(rt; text.as_str(), wanted);
 }
 
@@ -112,6 +111,6 @@ pub fn board_shows<C: Clock + Drop, R: Wait + Clone + Drop + Abort, K: Tracks>(
     board: &MultiProgress<InMemoryTerm, C, R, K>,
     wanted: &str,
 ) {
-    let text = board.with_term(|term| contents(term)).granted(rt);
+    let text = board.with_term(contents).granted(rt);
     same!(rt; text.as_str(), wanted);
 }

@@ -67,7 +67,8 @@ fn files<R: Wait + Copy + Clone + Drop + Abort>(rt: R, alloc: Global) -> Keyed<R
     let setup = setup(alloc).granted(rt);
     let style = style(alloc).granted(rt);
     let bar = ProgressBar::styled(*rt, alloc, style, Some(10), setup).expect(rt, "granted");
-    bar.with_message("files").expect(rt, "granted")
+    holds!(rt; bar.set_message("files").is_ok());
+    bar
 }
 
 /// Where the bar is set, and what it shows then.
@@ -104,8 +105,9 @@ fn made_by<R: Wait + Copy + Clone + Drop + Abort>(
     let rt = &rt;
     let bar = board.new_bar(10).expect(rt, "granted");
     let style = style(alloc).granted(rt);
-    let bar = bar.with_style(style).expect(rt, "granted");
-    bar.with_message("a").expect(rt, "granted")
+    holds!(rt; bar.set_style(style).is_ok());
+    holds!(rt; bar.set_message("a").is_ok());
+    bar
 }
 
 /// The second of a board's two bars moves by 2.
@@ -116,7 +118,7 @@ fn shows_two<R: Wait + Copy + Clone + Drop + Abort>(rt: R, alloc: Global) {
         alloc,
         setup(alloc).expect(rt, "granted"),
         1,
-    ).granted(rt);
+    ).expect(rt, "granted");
     let first = made_by(&board, *rt, alloc);
     let second = board.add(files(*rt, alloc)).expect(rt, "granted");
     holds!(rt; first.tick().is_ok());

@@ -27,7 +27,7 @@
 //! - `ticking`: a bar's ticker, looked at from outside. `intervals`: how often it ticks. `keyed`: shared bars with a key of the tests' own.
 //!   `odd_keys`: keys that write what no line holds.
 //! - `lists`: lists, block by block. `own_bars`: lists with a bar of their own. `pieces`: pieces in threads of their own. `stepped`,
-//!   `gates`: a bar and gates for them.
+//!   `gates`: a bar and gates for them, and what is done with an item.
 //!
 //! `checks`: what `same!`, `holds!` and `granted` do.
 #![tactic(auto)]

@@ -54,7 +54,7 @@ fn goes_by<R: Threads + Sync + Abort>(rt: &R, alloc: Global, count: u32, steps: 
 }
 
 /// Ten thousand items are three blocks, the last of which is what is left; and there may be a whole block and one item more. A list that
-/// is no longer than a block moves its bar by a tenth at a time: of 2,000 items by 200.
+/// is no longer than a block moves its bar by a tenth at a time: of 2,000 items by 200. One item is a block.
 #[test]
 fn blocks_and_tenths(rt: HostRuntime) {
     let rt = &rt;
@@ -62,6 +62,7 @@ fn blocks_and_tenths(rt: HostRuntime) {
     goes_by(rt, alloc, 10_000, &[4096, 4096, 1808]);
     goes_by(rt, alloc, 4097, &[4096, 1]);
     goes_by(rt, alloc, 2000, &[200; 10]);
+    goes_by(rt, alloc, 1, &[1]);
 }
 
 /// For how many milliseconds an item waits for the other one to begin.
@@ -106,6 +107,9 @@ fn has_processors<R: Threads>(rt: &R) -> bool {
     }
 }
 
+/// What is done with an item that nobody needs.
+fn pass_over(_x: &u32) {}
+
 #[test]
 fn no_item_advances_nothing(rt: HostRuntime) {
     let rt = &rt;
@@ -116,17 +120,9 @@ fn no_item_advances_nothing(rt: HostRuntime) {
     holds!(rt; bar.steps.is_empty());
     same!(rt; bar.position, 7);
     let list = none.as_slice().progress_with(bar);
-    let (answer, bar) = list.for_each(rt, |_x: &u32| ());
+    let (answer, bar) = list.for_each(rt, pass_over);
     same!(rt; answer, Ok(()));
     holds!(rt; bar.steps.is_empty());
-}
-
-#[test]
-fn one_item_is_a_block(rt: HostRuntime) {
-    let rt = &rt;
-    let (made, bar) = doubled(rt, rt.alloc(), &[21], 0);
-    same!(rt; made.as_slice(), [42].as_slice());
-    same!(rt; bar.steps.as_slice(), [1].as_slice());
 }
 
 /// A million items: 244 whole blocks, which are 999,424 items, and one of 576.
@@ -273,7 +269,7 @@ fn a_shared_bar_moves_within_a_block(rt: HostRuntime) {
     holds!(rt; seen.granted(rt).contains(&true));
     same!(rt; bar.position(), 40);
     let list = items.as_slice().progress_with(owner);
-    let (answer, owner) = list.for_each(rt, |_x: &u32| ());
+    let (answer, owner) = list.for_each(rt, pass_over);
     same!(rt; answer, Ok(()));
     owner.bar.release();
     same!(rt; bar.position(), 80);

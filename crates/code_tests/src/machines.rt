@@ -1,12 +1,13 @@
 //! What is asked of the machine: its clock, and the terminals behind the program's own streams or behind a writer.
 use crate::checks::Granted;
+use crate::values::is_shown;
 use indicatif::machine::{
-    MachineClock, Shares, StderrBoard, StderrSetup, StreamSetup, TerminalSetup, facts_of,
-    on_stderr, on_stdout, on_stream, style_on_stderr, told_setup, wants_colors,
+    MachineClock, StreamSetup, TerminalSetup, facts_of, on_stderr, on_stdout, on_stream,
+    style_on_stderr, told_setup, wants_colors,
 };
 use indicatif::{
-    BarState, Clock, Drawn, Facts, LoneBar, Moment, MultiProgress, NoTracker, ProgressStyle,
-    Refusal, Setup, TermLike,
+    BarState, Clock, Drawn, Facts, LoneBar, Moment, NoTracker, ProgressStyle, Refusal, Setup,
+    TermLike,
 };
 use std::alloc::Global;
 use std::cell::Cell;
@@ -94,13 +95,6 @@ fn the_programs_own_streams(rt: HostRuntime) {
     same!(rt; setup.target.is_hidden(), out);
     let err = is_hidden_by(&facts_of(rt, &rt.stderr()).granted(rt));
     same!(rt; on_stderr(rt).granted(rt).target.is_hidden(), err);
-    let board = board_on(*rt, on_stderr(rt).expect(rt, "granted")).expect(rt, "granted");
-    same!(rt; board.is_hidden(), err);
-}
-
-/// A board on standard error.
-fn board_on<R: Shares>(rt: R, setup: StderrSetup) -> Result<StderrBoard<R>, Refusal> {
-    MultiProgress::new(rt, rt.alloc(), setup, 1)
 }
 
 /// A bar with the message `x` has this one line in a style.
@@ -109,8 +103,7 @@ fn shows<R: Abort>(rt: &R, alloc: Global, style: ProgressStyle<NoTracker>, wante
     let mut bar = Box::new(alloc, bar).expect(rt, "granted");
     holds!(rt; bar.set_message("x", 0).is_ok());
     let lines = bar.lines(0, 20).granted(rt);
-    same!(rt; lines.len(), 1);
-    holds!(rt; lines.first().is_some_and(|line| line.is_text(wanted)));
+    is_shown(rt, &lines, wanted);
 }
 
 /// A style for standard error has colours where they are wanted there, and none elsewhere.

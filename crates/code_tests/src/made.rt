@@ -48,7 +48,7 @@ fn no_length_no_bar(rt: HostRuntime) {
     let rt = &rt;
     let alloc = rt.alloc();
     let made = Sevens.try_progress(alloc, setup(rt, alloc, 20));
-    holds!(rt; made.granted(rt).is_none());
+    holds!(rt; made.expect(rt, "granted").is_none());
     let made = Sevens.progress_count(alloc, 2, setup(rt, alloc, 20));
-    same!(rt; length(&made.granted(rt)), Some(2));
+    same!(rt; length(&made.expect(rt, "granted")), Some(2));
 }

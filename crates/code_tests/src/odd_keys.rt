@@ -25,9 +25,9 @@ fn saying<R: Wait + Copy + Clone + Drop + Abort>(
     let style = ProgressStyle::with_template(alloc, "{t}").granted(rt);
     let style = style.with_key("t", key).expect(rt, "granted");
     let bar = ProgressBar::styled(*rt, alloc, style, Some(4), setup(rt, alloc, 10));
-    bar.expect(rt, "granted")
-        .with_tab_width(2)
-        .expect(rt, "granted")
+    let bar = bar.expect(rt, "granted");
+    holds!(rt; bar.set_tab_width(2).is_ok());
+    bar
 }
 
 /// A board that has drawn a bar whose key writes this text shows this; so does a fresh board that makes the calls of its history.
@@ -39,7 +39,7 @@ fn shows<R: Wait + Copy + Clone + Drop + Abort>(
 ) {
     let rt = &rt;
     let board = MultiProgress::keyed_recorded(*rt, alloc, setup(rt, alloc, 10), 1);
-    let board: Box<Shared<R>> = Box::new(alloc, board.expect(rt, "granted")).expect(rt, "granted");
+    let board: Shared<R> = board.expect(rt, "granted");
     let bar = board.add(saying(*rt, alloc, text)).expect(rt, "granted");
     same!(rt; bar.tick(), Ok(Drawn::Yes));
     board_shows(rt, &board, wanted);

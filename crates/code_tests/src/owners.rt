@@ -18,26 +18,15 @@ pub fn bar_on<R: Wait + Copy + Clone + Drop + Abort>(
     template: &str,
 ) -> Bar<R> {
     let rt = &rt;
-    let bar = ProgressBar::new(*rt, alloc, 10, setup_on(*rt, bytes, 10)).expect(rt, "granted");
     let style = ProgressStyle::with_template(alloc, template).granted(rt);
-    bar.with_style(style).expect(rt, "granted")
+    let setup = setup_on(*rt, bytes, 10);
+    ProgressBar::styled(*rt, alloc, style, Some(10), setup).expect(rt, "granted")
 }
 
 // ---- owners
 
-/// A bar on that terminal that is finished so once it has no owner.
-fn ending<R: Wait + Copy + Clone + Drop + Abort>(
-    rt: R,
-    alloc: Global,
-    bytes: &Bytes,
-    finish: ProgressFinish,
-) -> Bar<R> {
-    let rt = &rt;
-    let bar = bar_on(*rt, alloc, bytes, "{pos}/{len}");
-    bar.with_finish(finish).expect(rt, "granted")
-}
-
-/// Draws a bar, and gives up its owner, and then another one, which is the last; or drops the one owner that it has: this stands there then.
+/// Draws a bar that is finished so once it has no owner, and gives up its owner, and then another one, which is the last; or drops the one
+/// owner that it has: this stands there then.
 fn leaves<R: Wait + Copy + Clone + Drop + Abort>(
     rt: R,
     alloc: Global,
@@ -46,7 +35,8 @@ fn leaves<R: Wait + Copy + Clone + Drop + Abort>(
 ) {
     let rt = &rt;
     let bytes = no_bytes(rt, alloc);
-    let bar = ending(*rt, alloc, &bytes, finish);
+    let bar = bar_on(*rt, alloc, &bytes, "{pos}/{len}");
+    let bar = bar.with_finish(finish).expect(rt, "granted");
     same!(rt; bar.set_position(3), Ok(Drawn::Yes));
     match is_released {
         true => {

@@ -1,7 +1,7 @@
 //! Pieces in threads of their own.
 use crate::checks::Granted;
 use crate::gates::{Open, Roll, Together, Waves};
-use crate::stepped::{Stepped, bar_at};
+use crate::stepped::{Stepped, bar_at, twice};
 use indicatif::{Gate, Refusal, run_workers_with};
 use std::alloc::Global;
 use std::process::Abort;
@@ -34,7 +34,7 @@ fn doubled<R: Threads + Sync + Abort, G: Gate>(
     gate: &G,
     bar: &mut Stepped,
 ) -> Vec<Vec<u32>> {
-    let made = run_workers_with(rt, alloc, pieces, |x: &u32| x.wrapping_mul(2), gate, bar);
+    let made = run_workers_with(rt, alloc, pieces, twice, gate, bar);
     made.granted(rt)
 }
 
@@ -54,15 +54,8 @@ fn answers_stand_in_the_order_of_the_pieces(rt: HostRuntime) {
         early: AtomicU64::new(0),
     };
     // (not by `doubled`: that an answer stands at each index is what the contract of the call tells)
-    let made = run_workers_with(
-        rt,
-        alloc,
-        pieces.as_slice(),
-        |x: &u32| x.wrapping_mul(2),
-        &gate,
-        &mut bar,
-    )
-    .expect(rt, "granted");
+    let made = run_workers_with(rt, alloc, pieces.as_slice(), twice, &gate, &mut bar);
+    let made = made.expect(rt, "granted");
     same!(rt; made.len(), 3);
     same!(rt; made[0].as_slice(), [2, 4].as_slice());
     same!(rt; made[1].as_slice(), [6].as_slice());

@@ -2,7 +2,9 @@
 use crate::checks::Granted;
 use crate::fronts::{Bar, bar_shows, setup};
 use crate::ticking::{tick_off, ticks_on, waits};
-use indicatif::{ProgressBar, ProgressBarIter, ProgressFinish, ProgressStyle, Refusal, StepClock};
+use indicatif::{
+    ProgressBar, ProgressBarIter, ProgressFinish, ProgressStyle, Refusal, Setup, StepClock,
+};
 use std::alloc::Global;
 use std::ops::Range;
 use std::process::Abort;
@@ -16,51 +18,51 @@ const SECOND: u64 = 1_000_000_000;
 /// An hour: such a ticker ticks once in a test.
 const HOUR: u64 = 3600 * SECOND;
 
-/// Tells the bar of a wrapper all that it can be told but its elapsed time.
-fn told<R: Wait + Clone + Drop>(
-    alloc: Global,
-    wrapped: ProgressBarIter<Range<u32>, Bar<R>>,
-) -> Result<ProgressBarIter<Range<u32>, Bar<R>>, Refusal> {
-    let style = ProgressStyle::with_template(alloc, "{prefix} {msg} {pos}")?;
-    wrapped
-        .with_style(style)?
-        .with_prefix("a")?
-        .with_message("b")?
-        .with_position(7)?
-        .with_finish(ProgressFinish::Abandon)
-}
-
-/// A wrapper's bar is told before it moves, and what is told is seen by its other owners. Programmers are shown the fields of the wrapper, and
-/// the name of its bar.
-#[test]
-fn a_wrappers_bar_is_told(rt: HostRuntime) {
+/// A bar without a length, on a machine that runs for an hour and whose clock stands still.
+fn bar_after_an_hour<R: Wait + Copy + Clone + Drop + Abort>(rt: R, alloc: Global) -> Bar<R> {
     let rt = &rt;
-    let alloc = rt.alloc();
-    let bar = bar_on(*rt, alloc);
-    let items = 0..3u32;
-    let mut wrapped = bar.wrap_iter(items.into_iter()).expect(rt, "granted");
-    let mut wrapped = told(alloc, wrapped).granted(rt);
-    let text = format!(in alloc; "{wrapped:?}").granted(rt);
-    holds!(rt; text.as_str().starts_with("ProgressBarIter { it: 0..3, progress: ProgressBar, "));
-    same!(rt; bar.position(), 7);
-    while let Some(_item) = wrapped.next() {}
-    same!(rt; bar.position(), 10);
-    holds!(rt; bar.is_finished());
-    bar_shows(rt, &bar, "a b 10");
-}
-
-/// So is its elapsed time: a machine that runs for an hour has room for an hour, and for no second more.
-#[test]
-fn a_wrappers_bar_begins_with_elapsed_time(rt: HostRuntime) {
-    let rt = &rt;
+    let Setup { target, clock: _ } = setup(rt, alloc, 20);
     let clock = StepClock {
         next: HOUR,
         step: 0,
     };
-    let bar: Bar<HostRuntime> = ProgressBar::hidden(*rt, rt.alloc(), clock).expect(rt, "granted");
-    let wrapped = bar.wrap_iter(0..3u32).expect(rt, "granted");
+    ProgressBar::no_length(*rt, alloc, Setup { target, clock }).expect(rt, "granted")
+}
+
+/// Tells the bar of a wrapper all that it can be told.
+fn told<R: Wait + Copy + Clone + Drop + Abort>(
+    rt: R,
+    alloc: Global,
+    wrapped: ProgressBarIter<Range<u32>, Bar<R>>,
+) -> ProgressBarIter<Range<u32>, Bar<R>> {
+    let rt = &rt;
+    let style = ProgressStyle::with_template(alloc, "{prefix} {msg} {pos}").granted(rt);
+    let wrapped = wrapped.with_style(style).expect(rt, "granted");
+    let wrapped = wrapped.with_prefix("a").expect(rt, "granted");
+    let wrapped = wrapped.with_message("b").expect(rt, "granted");
+    let wrapped = wrapped.with_position(7).expect(rt, "granted");
     let wrapped = wrapped.with_elapsed(HOUR).expect(rt, "granted");
-    same!(rt; bar.elapsed(), HOUR);
+    let wrapped = wrapped.with_finish(ProgressFinish::Abandon);
+    wrapped.expect(rt, "granted")
+}
+
+/// A wrapper's bar is told before it moves, and what is told is seen by its other owners. A machine that runs for an hour has room for an
+/// elapsed hour, and for no second more. Programmers are shown the fields of the wrapper, and the name of its bar.
+#[test]
+fn a_wrappers_bar_is_told(rt: HostRuntime) {
+    let rt = &rt;
+    let alloc = rt.alloc();
+    let bar = bar_after_an_hour(*rt, alloc);
+    let items = 0..3u32;
+    let mut wrapped = bar.wrap_iter(items.into_iter()).expect(rt, "granted");
+    let mut wrapped = told(*rt, alloc, wrapped);
+    let text = format!(in alloc; "{wrapped:?}").granted(rt);
+    holds!(rt; text.as_str().starts_with("ProgressBarIter { it: 0..3, progress: ProgressBar, "));
+    same!(rt; (bar.position(), bar.elapsed()), (7, HOUR));
+    while let Some(_item) = wrapped.next() {}
+    same!(rt; bar.position(), 10);
+    holds!(rt; bar.is_finished());
+    bar_shows(rt, &bar, "a b 10");
     let refused = wrapped.with_elapsed(HOUR + SECOND).err();
     same!(rt; refused, Some(Refusal::ElapsedBeyondClock));
 }

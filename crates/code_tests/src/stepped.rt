@@ -1,4 +1,4 @@
-//! A bar of the tests', which tells where it stands and keeps what it is advanced by.
+//! A bar of the tests', which tells where it stands and keeps what it is advanced by; and what threads do with an item.
 use indicatif::{Drawn, Move, Moves, Reading, Refusal};
 use std::alloc::Global;
 
@@ -45,4 +45,9 @@ pub fn bar_at(alloc: Global, position: u64) -> Stepped {
         finished: false,
         steps: Vec::new(alloc),
     }
+}
+
+/// Twice an item.
+pub fn twice(x: &u32) -> u32 {
+    x.wrapping_mul(2)
 }

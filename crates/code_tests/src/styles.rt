@@ -1,8 +1,9 @@
 //! Keys of a template that are the caller's own.
 ghost use Rattle.std.specs.Prelude.{true, false, if◌then◌else◌, codes};
 
-use crate::carried_trackers::Says;
+use crate::carried_trackers::{Says, Telling};
 use crate::checks::Granted;
+use crate::values::is_shown;
 use indicatif_bar::state::{BarCommand, BarState, ProgressFinish, ProgressState};
 use indicatif_bar::style::{FnTracker, ProgressStyle, ProgressTracker};
 use indicatif_term::draw_target::LineType;
@@ -11,41 +12,16 @@ use std::alloc::Global;
 use std::convert::AsStr;
 use std::process::Abort;
 
-// ---- styles and bars in boxes, so that each way out of a function drops them by one call
+// ---- styles and bars
 
-type Look<K> = Box<ProgressStyle<K>>;
-
-type Told<K> = Box<BarState<K>>;
-
-fn look<K: ProgressTracker>(rt: &impl Abort, alloc: Global, template: &str) -> Look<K> {
-    let style = ProgressStyle::with_template(alloc, template).granted(rt);
-    Box::new(alloc, style).granted(rt)
-}
-
-/// The same style with this tracker.
-fn keyed<K: ProgressTracker>(
+/// A style of this template, with colours or without.
+pub fn look<K: ProgressTracker>(
     rt: &impl Abort,
     alloc: Global,
-    look: Look<K>,
-    (name, tracker): (&str, K),
-) -> Look<K> {
-    let style = Box::into_inner(look).with_key(name, tracker).granted(rt);
-    Box::new(alloc, style).granted(rt)
-}
-
-fn cloned<K: ProgressTracker>(rt: &impl Abort, alloc: Global, look: &Look<K>) -> Look<K> {
-    let style = look.try_clone().granted(rt);
-    Box::new(alloc, style).granted(rt)
-}
-
-fn bar<K: ProgressTracker>(
-    rt: &impl Abort,
-    alloc: Global,
-    look: Look<K>,
-    len: Option<u64>,
-) -> Told<K> {
-    let bar = BarState::styled(alloc, Box::into_inner(look), len, 0).granted(rt);
-    Box::new(alloc, bar).granted(rt)
+    (template, colours): (&str, bool),
+) -> ProgressStyle<K> {
+    let style = ProgressStyle::with_template(alloc, template).expect(rt, "granted");
+    style.with_colors(colours).expect(rt, "granted")
 }
 
 /// The lines on so many columns, each with a newline behind it, are these.
@@ -71,14 +47,14 @@ fn are_lines(rt: &impl Abort, alloc: Global, lines: Result<Vec<LineType>, Refusa
 // ---- a text that stays
 
 /// The same style with a tracker of this name that writes this text.
-fn saying(
+pub fn saying(
     rt: &impl Abort,
     alloc: Global,
-    look: Look<FnTracker<Says>>,
+    look: ProgressStyle<Telling>,
     (name, text): (&str, &'static str),
-) -> Look<FnTracker<Says>> {
+) -> ProgressStyle<Telling> {
     let tracker = FnTracker::new(alloc, Says { alloc, text }).granted(rt);
-    keyed(rt, alloc, look, (name, tracker))
+    look.with_key(name, tracker).expect(rt, "granted")
 }
 
 /// A style of this template with a tracker of the name `t`, without colours.
@@ -86,11 +62,10 @@ fn tracked(
     rt: &impl Abort,
     alloc: Global,
     (template, text): (&str, &'static str),
-) -> Look<FnTracker<Says>> {
-    let look = saying(rt, alloc, look(rt, alloc, template), ("t", text));
-    let style = Box::into_inner(look).with_colors(false).granted(rt);
-    let style = style.progress_chars("=>-").granted(rt);
-    Box::new(alloc, style).granted(rt)
+) -> ProgressStyle<Telling> {
+    let look = look(rt, alloc, (template, false));
+    let look = saying(rt, alloc, look, ("t", text));
+    look.progress_chars("=>-").expect(rt, "granted")
 }
 
 /// A template, the text of its tracker, spaces for a tab, and the lines on 10 columns.
@@ -116,7 +91,7 @@ const SAID: &[Said] = &[
 fn is_told(rt: &impl Abort, alloc: Global, row: &Said) {
     let (template, text, tab, wanted) = *row;
     let look = tracked(rt, alloc, (template, text));
-    let mut bar = bar(rt, alloc, look, Some(4));
+    let mut bar = BarState::styled(alloc, look, Some(4), 0).expect(rt, "granted");
     bar.set_tab_width(tab, 0).granted(rt);
     shows(rt, alloc, &bar, (10, wanted));
 }
@@ -132,18 +107,18 @@ fn texts_of_trackers(rt: HostRuntime) {
 // ---- names of keys
 
 /// Trackers of the names of keys, and two of one name.
-fn named(rt: &impl Abort, alloc: Global) -> Look<FnTracker<Says>> {
-    let look = look(rt, alloc, "{pos}{wide_msg}{t}");
+fn named(rt: &impl Abort, alloc: Global) -> ProgressStyle<Telling> {
+    let look = look(rt, alloc, ("{pos}{wide_msg}{t}", false));
     let look = saying(rt, alloc, look, ("pos", "p"));
     let look = saying(rt, alloc, look, ("wide_msg", "w"));
     let look = saying(rt, alloc, look, ("t", "1"));
     saying(rt, alloc, look, ("t", "2"))
 }
 
-/// The line of a bar that looks so is this.
-fn shows_line(rt: &impl Abort, alloc: Global, look: Look<FnTracker<Says>>, wanted: &str) {
-    let bar = bar(rt, alloc, look, None);
-    shows(rt, alloc, &bar, (80, wanted));
+/// The one line of a bar of 10 that looks so is this, on 80 columns.
+pub fn shows_line(rt: &impl Abort, alloc: Global, look: ProgressStyle<Telling>, wanted: &str) {
+    let bar = BarState::styled(alloc, look, Some(10), 0).expect(rt, "granted");
+    is_shown(rt, &bar.lines(0, 80).granted(rt), wanted);
 }
 
 /// A tracker comes before a key of its name, and before an earlier tracker of its name.
@@ -152,9 +127,9 @@ fn names_of_trackers(rt: HostRuntime) {
     let rt = &rt;
     let alloc = rt.alloc();
     let look = named(rt, alloc);
-    let clone = cloned(rt, alloc, &look);
-    shows_line(rt, alloc, look, "pw2\n");
-    shows_line(rt, alloc, clone, "pw2\n");
+    let clone = look.try_clone().expect(rt, "granted");
+    shows_line(rt, alloc, look, "pw2");
+    shows_line(rt, alloc, clone, "pw2");
 }
 
 // ---- a text that changes
@@ -191,10 +166,10 @@ impl ProgressTracker for Light {
 }
 
 /// A bar that shows whether it has ticked.
-fn lit(rt: &impl Abort, alloc: Global) -> Told<Light> {
-    let look = look(rt, alloc, "{light}");
-    let look = keyed(rt, alloc, look, ("light", Light { on: false }));
-    bar(rt, alloc, look, None)
+fn lit(rt: &impl Abort, alloc: Global) -> BarState<Light> {
+    let look = look(rt, alloc, ("{light}", false));
+    let look = look.with_key("light", Light { on: false });
+    BarState::styled(alloc, look.expect(rt, "granted"), None, 0).expect(rt, "granted")
 }
 
 /// A call of a bar.

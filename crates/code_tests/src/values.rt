@@ -40,35 +40,28 @@ pub fn is_shown(rt: &impl Abort, lines: &[LineType], wanted: &str) {
 
 // ---- room of lines
 
-/// A bar's line in this room is this, and the room is kept.
-fn shows_in(rt: &impl Abort, bar: &Bar, spare: &mut SpareLines, wanted: &str) {
-    let lines = bar.lines_in(spare, 0, 80).granted(rt);
-    is_shown(rt, &lines, wanted);
-    spare.store(lines);
-}
-
 fn advance(bar: &mut Bar, steps: u64) -> Ask {
     bar.inc(steps, 0)
 }
 
-/// Two bars have one room, and the lines that each has without it.
-fn share_a_room(rt: &impl Abort, first: &mut Bar, second: &Bar, spare: &mut SpareLines) {
-    shows_in(rt, first, spare, "0");
-    same!(rt; advance(first, 10), Ask::Unforced);
-    shows_in(rt, first, spare, "10");
-    shows_in(rt, second, spare, "0");
-    let lines = first.lines(0, 80).granted(rt);
-    is_shown(rt, &lines, "10");
-}
-
+/// Two bars have one room, one after another, and the lines that each has without it.
 #[test]
 fn spare_lines(rt: HostRuntime) {
     let rt = &rt;
-    let alloc = rt.alloc();
-    let mut first = plain_bar(rt, alloc, 10);
-    let second = plain_bar(rt, alloc, 10);
+    let (alloc, now) = (rt.alloc(), 0);
+    let mut bar = plain_bar(rt, alloc, 10);
     let mut spare = SpareLines::new(alloc);
-    share_a_room(rt, &mut first, &second, &mut spare);
+    let before = bar.lines_in(&mut spare, 0, 80).granted(rt);
+    is_shown(rt, &before, "0");
+    spare.store(before);
+    same!(rt; advance(&mut bar, 10), Ask::Unforced);
+    let lines = bar.lines_in(&mut spare, 1, 80).granted(rt);
+    is_shown(rt, &lines, "10");
+    spare.store(lines);
+    is_shown(rt, &bar.lines(1, 80).granted(rt), "10");
+    let bar = plain_bar(rt, alloc, 10);
+    let lines = bar.lines_in(&mut spare, now, 80).granted(rt);
+    is_shown(rt, &lines, "0");
 }
 
 // ---- closures

@@ -2,7 +2,7 @@
 use crate::checks::Granted;
 use crate::owners::{Bar, bar_on};
 use crate::shown::{Bytes, Shown, is_seen, is_written, no_bytes, setup_on};
-use indicatif::{Drawn, MultiProgress, ProgressStyle, StepClock, Term};
+use indicatif::{Drawn, MultiProgress, StepClock, Term};
 use std::alloc::Global;
 use std::process::Abort;
 use std::sync::{Arc, Wait};
@@ -15,10 +15,9 @@ pub fn board_on<R: Wait + Copy + Clone + Drop + Abort>(
     alloc: Global,
     bytes: &Bytes,
     cols: u16,
-) -> Box<Board<R>> {
+) -> Board<R> {
     let rt = &rt;
-    let board = MultiProgress::new(*rt, alloc, setup_on(*rt, bytes, cols), 1).expect(rt, "granted");
-    Box::new(alloc, board).expect(rt, "granted")
+    MultiProgress::new(*rt, alloc, setup_on(*rt, bytes, cols), 1).expect(rt, "granted")
 }
 
 /// A bar of the board whose one line is this text; it isn't drawn yet.
@@ -29,10 +28,8 @@ fn bar_of<R: Wait + Copy + Clone + Drop + Abort>(
     text: &str,
 ) -> Bar<R> {
     let rt = &rt;
-    let bar = board.new_spinner().expect(rt, "granted");
-    let style = ProgressStyle::with_template(alloc, "{msg}").granted(rt);
-    let bar = bar.with_style(style).expect(rt, "granted");
-    bar.with_message(text).expect(rt, "granted")
+    let bar = bar_on(*rt, alloc, &no_bytes(rt, alloc), text);
+    board.add(bar).expect(rt, "granted")
 }
 
 /// A tick that draws. Its call promises nothing here.
@@ -75,7 +72,8 @@ fn bar_pauses<R: Wait + Copy + Clone + Drop + Abort>(
     same!(rt; paused, (7, Ok(Drawn::Yes)));
 }
 
-/// A board's bars stand there before and behind a pause of the board or of one of them, and not while the closure runs.
+/// A board's bars stand there before and behind a pause of the board or of one of them, and not while the closure runs. The same of a bar
+/// that stands alone.
 #[test]
 fn bars_are_taken_back_while_a_closure_runs(rt: HostRuntime) {
     let rt = &rt;
@@ -91,13 +89,6 @@ fn bars_are_taken_back_while_a_closure_runs(rt: HostRuntime) {
     is_seen(rt, alloc, &bytes, "a\nb");
     bar_pauses(&one, *rt, alloc, &bytes);
     is_seen(rt, alloc, &bytes, "a\nb");
-}
-
-/// So is a bar that stands alone.
-#[test]
-fn a_bar_is_taken_back_while_a_closure_runs(rt: HostRuntime) {
-    let rt = &rt;
-    let alloc = rt.alloc();
     let bytes = no_bytes(rt, alloc);
     let bar = bar_on(*rt, alloc, &bytes, "{pos}/{len}");
     draws(*rt, &bar);

@@ -14,7 +14,7 @@ use std::rc::Rc;
 // ---- a writer that takes all
 
 /// Takes all bytes, and counts its calls.
-#[derive(Default, Drop)]
+#[derive(Drop)]
 struct CallCount {
     writes: u64,
     flushes: u64,
@@ -58,7 +58,11 @@ fn each_is_one_write(rt: &impl Abort, mut bar: Buffered) {
 fn a_drawing_is_one_write(rt: HostRuntime) {
     let rt = &rt;
     let alloc = rt.alloc();
-    let writer = BufWriter::new(alloc, CallCount::default()).granted(rt);
+    let count = CallCount {
+        writes: 0,
+        flushes: 0,
+    };
+    let writer = BufWriter::new(alloc, count).granted(rt);
     let bar = Shown::on(alloc, "ab", Term::new(writer, 6, 10)).granted(rt);
     each_is_one_write(rt, bar);
 }

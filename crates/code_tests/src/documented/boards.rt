@@ -43,14 +43,17 @@ fn texts_on_fewer_columns(rt: HostRuntime) {
     shows(rt, board, "a.t\nxt\nhel\nlo");
 }
 
-/// One of another board isn't taken out.
+/// A candidate is copied, and a bar of another board isn't taken out.
 #[test]
 fn order_of_bars(rt: HostRuntime) {
     let rt = &rt;
     let alloc = rt.alloc();
     let mut board = board_of(rt, alloc);
     board.set_move_cursor(true);
-    take_in(rt, alloc, &mut board);
+    let id = take_in(rt, alloc, &mut board);
+    let candidate = Candidate::<NoTracker>::Member(id);
+    let again = candidate.try_clone().granted(rt);
+    holds!(rt; matches!(again, Candidate::Member(_)));
     turn_away(rt, alloc, &mut board);
     stack(rt, alloc, &mut board);
     same!(rt; board.order(), [0, 2, 1].as_slice());
@@ -124,16 +127,4 @@ fn log_and_clear(rt: &impl Abort, alloc: Global, board: &mut Bars) {
     let again = answer.same();
     same!(rt; answer, Answer::Drawn(Drawn::Yes));
     same!(rt; again, Answer::Drawn(Drawn::Yes));
-}
-
-#[test]
-fn copy_of_a_candidate(rt: HostRuntime) {
-    let rt = &rt;
-    let id = BarId {
-        board: 1,
-        number: 0,
-    };
-    let candidate = Candidate::<NoTracker>::Member(id);
-    let again = candidate.try_clone().granted(rt);
-    holds!(rt; matches!(again, Candidate::Member(_)));
 }

@@ -13,7 +13,7 @@ use std::process::Abort;
 type Bar = LoneBar<NoTracker, InMemoryTerm>;
 
 /// A bar's terminal shows this.
-fn shows(rt: &impl Abort, bar: Box<Bar>, contents: &str) {
+fn shows(rt: &impl Abort, bar: &Bar, contents: &str) {
     let term = bar.term().granted(rt);
     same!(rt; term.contents().granted(rt).as_str(), contents);
 }
@@ -29,38 +29,6 @@ fn shown(rt: &impl Abort, alloc: Global) -> Box<Bar> {
     bar.set_message("copying", now).granted(rt);
     bar.println("a.txt", now).granted(rt);
     Box::new(alloc, bar).granted(rt)
-}
-
-#[test]
-fn hidden_bar(rt: HostRuntime) {
-    let rt = &rt;
-    let record = BarState::new(rt.alloc(), Some(10), 0).granted(rt);
-    let mut bar: Bar = LoneBar::new(record, ProgressDrawTarget::hidden());
-    let drawn = bar.tick(0).granted(rt);
-    same!(rt; drawn, Drawn::Hidden);
-}
-
-#[test]
-fn other_style(rt: HostRuntime) {
-    let rt = &rt;
-    let (alloc, now) = (rt.alloc(), 0);
-    let mut bar = shown(rt, alloc);
-    bar.set_move_cursor(true);
-    let style = ProgressStyle::with_template(alloc, "{pos} of {len}").granted(rt);
-    let drawn = bar.with_style(style, now).granted(rt);
-    same!(rt; drawn, Drawn::Limited);
-    draws_now(rt, &mut bar);
-    shows(rt, bar, "a.txt\n0 of 10");
-}
-
-#[test]
-fn elapsed_time(rt: HostRuntime) {
-    let rt = &rt;
-    let mut bar = shown(rt, rt.alloc());
-    let drawn = bar.with_elapsed(3_000_000_000, 4_000_000_000).granted(rt);
-    same!(rt; drawn, Drawn::Limited);
-    draws_now(rt, &mut bar);
-    same!(rt; step(&mut bar, 6_000_000_000), Ok(Drawn::Yes));
 }
 
 /// Draws a bar at the moment that a clock tells.
@@ -94,15 +62,28 @@ fn calls_of(rt: &impl Abort, alloc: Global) -> Vec<(LoneCall<NoTracker>, Moment)
     calls
 }
 
+/// Three calls, another style, an elapsed time, and then a hidden target.
 #[test]
-fn three_calls(rt: HostRuntime) {
+fn calls_style_time_and_target(rt: HostRuntime) {
     let rt = &rt;
-    let alloc = rt.alloc();
+    let (alloc, now) = (rt.alloc(), 5);
     let mut bar = shown(rt, alloc);
     let calls = calls_of(rt, alloc);
     let answers = bar.run(calls).granted(rt);
     same!(rt; answers.len(), 3);
-    shows(rt, bar, "a.txt\na.txt");
+    shows(rt, &bar, "a.txt\na.txt");
+    bar.set_move_cursor(true);
+    let style = ProgressStyle::with_template(alloc, "{pos} of {len}").granted(rt);
+    let drawn = bar.with_style(style, now).granted(rt);
+    same!(rt; drawn, Drawn::Limited);
+    let drawn = bar.with_elapsed(3_000_000_000, 4_000_000_000).granted(rt);
+    same!(rt; drawn, Drawn::Limited);
+    draws_now(rt, &mut bar);
+    shows(rt, &bar, "a.txt\na.txt\n0 of 10");
+    same!(rt; step(&mut bar, 6_000_000_000), Ok(Drawn::Yes));
+    drop(bar.set_draw_target(ProgressDrawTarget::hidden()));
+    let drawn = bar.tick(0).granted(rt);
+    same!(rt; drawn, Drawn::Hidden);
 }
 
 /// A bar of a text of 13 columns on 10 of them.
@@ -124,5 +105,5 @@ fn terminal_of_new_sizes(rt: HostRuntime) {
     bar.resize(4, 5).granted(rt); // `progress bars` stands on three rows: `progr`, `ess b`, `ars`
     bar.resize(4, 20).granted(rt); // and still does
     bar.tick(now).granted(rt); // stands on one row again
-    shows(rt, bar, "progress bars");
+    shows(rt, &bar, "progress bars");
 }

@@ -1,11 +1,9 @@
-//! Examples of a bar's record, its style and a tracker. `keyed` has that of a key of one's own.
+//! Examples of a bar's record, its style and a tracker. `values` has those of a room of lines, `keyed` that of a key of one's own.
 ghost use Rattle.std.specs.Prelude.{string_bytes};
 
 use crate::checks::Granted;
 use crate::values::is_shown;
-use indicatif_bar::state::{
-    Ask, BarCommand, BarState, Change, ProgressFinish, ProgressState, SpareLines,
-};
+use indicatif_bar::state::{Ask, BarCommand, BarState, Change, ProgressFinish, ProgressState};
 use indicatif_bar::style::{FnTracker, NoTracker, ProgressStyle, ProgressTracker, TellsText};
 use indicatif_text::columns::{Moment, Refusal};
 use std::alloc::Global;
@@ -30,21 +28,6 @@ fn says<K: ProgressTracker>(rt: &impl Abort, bar: &BarState<K>, text: &str) {
     is_shown(rt, &bar.lines(0, 80).granted(rt), text);
 }
 
-#[test]
-fn change_of_both_numbers(rt: HostRuntime) {
-    let rt = &rt;
-    let mut bar = bar_at(rt, rt.alloc(), 1);
-    bar.set_length(10, 0);
-    let change = Change {
-        pos: Some(3),
-        len: Some(4),
-    };
-    bar.apply(BarCommand::Update(change), 0).granted(rt);
-    same!(rt; (bar.state().pos(), bar.state().len()), (3, Some(4)));
-    let text = format!(in rt.alloc(); "{:?}", bar.state()).granted(rt);
-    same!(rt; text.as_str(), "ProgressState { position: 3, len: Some(4), .. }");
-}
-
 /// A copy of a command. The command itself is given up.
 fn copy_of(
     rt: &impl Abort,
@@ -55,8 +38,9 @@ fn copy_of(
     again
 }
 
+/// A command as a value and a copy of it; a change of both numbers; and a copy of the bar, which stays where it was.
 #[test]
-fn command_as_a_value_and_its_copy(rt: HostRuntime) {
+fn commands_and_copies(rt: HostRuntime) {
     let rt = &rt;
     let (alloc, now) = (rt.alloc(), 0);
     let mut bar = bar_at(rt, alloc, 3);
@@ -65,54 +49,37 @@ fn command_as_a_value_and_its_copy(rt: HostRuntime) {
     let again = copy_of(rt, alloc, BarCommand::Inc(2));
     bar.apply(again, now).granted(rt);
     same!(rt; bar.state().pos(), 7);
+    bar.set_length(10, 0);
+    let change = Change {
+        pos: Some(3),
+        len: Some(4),
+    };
+    bar.apply(BarCommand::Update(change), 0).granted(rt);
+    same!(rt; (bar.state().pos(), bar.state().len()), (3, Some(4)));
+    let text = format!(in alloc; "{:?}", bar.state()).granted(rt);
+    same!(rt; text.as_str(), "ProgressState { position: 3, len: Some(4), .. }");
+    let before = bar.try_clone().granted(rt);
+    bar.inc(1, now);
+    same!(rt; (before.state().pos(), bar.state().pos()), (3, 4));
 }
 
+/// The rate since a reset; what asks for draws; and a finish that leaves the bar.
 #[test]
-fn rate_since_a_reset(rt: HostRuntime) {
+fn rate_draws_and_finish(rt: HostRuntime) {
     let rt = &rt;
+    let now = 2_000_000_000;
     let mut bar = bar_at(rt, rt.alloc(), 0);
     bar.set_position(2, 1_000_000_000);
     bar.reset_eta(1_000_000_000);
     bar.set_position(3, 2_000_000_000);
     let rate = bar.state().per_sec(2_000_000_000);
     same!(rt; (rate.steps, rate.nanos), (1, 1_000_000_000));
-}
-
-#[test]
-fn copy_of_a_bar(rt: HostRuntime) {
-    let rt = &rt;
-    let now = 0;
-    let mut bar = bar_at(rt, rt.alloc(), 3);
-    let before = bar.try_clone().granted(rt);
-    bar.inc(1, now);
-    same!(rt; (before.state().pos(), bar.state().pos()), (3, 4));
-}
-
-/// It asked for draws before.
-#[test]
-fn finish_that_leaves_the_bar(rt: HostRuntime) {
-    let rt = &rt;
-    let now = 0;
-    let mut bar = bar_at(rt, rt.alloc(), 3);
     same!(rt; bar.tick(now), Ask::Unforced);
     same!(rt; bar.force_draw(now), Ask::Forced);
     bar.with_finish(ProgressFinish::AndLeave, now);
     bar.finish_using_style(now).granted(rt);
     same!(rt; (bar.state().pos(), bar.state().is_finished()), (4, true));
-}
-
-#[test]
-fn lines_in_the_room_of_others(rt: HostRuntime) {
-    let rt = &rt;
-    let (alloc, now) = (rt.alloc(), 0);
-    let bar = bar_at(rt, alloc, 4);
-    let mut spare = SpareLines::new(alloc);
-    let lines = bar.lines_in(&mut spare, now, 80).granted(rt);
-    is_shown(rt, &lines, "========== 4/4");
-    let before = bar.lines_in(&mut spare, 0, 80).granted(rt);
-    spare.store(before);
-    let lines = bar.lines_in(&mut spare, 1, 80).granted(rt);
-    is_shown(rt, &lines, "========== 4/4");
+    says(rt, &bar, "========== 4/4");
 }
 
 /// A bar in that style, and its first step.

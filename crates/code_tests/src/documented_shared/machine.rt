@@ -1,8 +1,8 @@
 //! What is asked of the machine.
 use crate::checks::Granted;
 use indicatif::machine::{
-    MachineClock, Shares, StderrBar, StderrSetup, StreamTerm, TerminalSetup, facts_of, on_stderr,
-    sized_stderr, sized_target, style_on_stderr, told_setup, wants_colors,
+    MachineClock, Shares, StderrBar, StderrBoard, StderrSetup, StreamTerm, TerminalSetup, facts_of,
+    on_stderr, sized_stderr, sized_target, style_on_stderr, told_setup, wants_colors,
 };
 use indicatif::{
     BarState, Drawn, Facts, InMemoryTerm, LoneBar, MultiProgress, NoTracker, OwnRows, ProgressBar,
@@ -115,7 +115,12 @@ pub fn shown<R: Shares>(
     !bar.is_hidden()
 }
 
-/// A bar that goes on by three, and a board whose terminal gets another size.
+/// A board on standard error.
+fn board_on<R: Shares>(rt: R, setup: StderrSetup) -> Result<StderrBoard<R>, Refusal> {
+    MultiProgress::new(rt, rt.alloc(), setup, 1)
+}
+
+/// A bar that goes on by three, and a board, hidden as its setup is, whose terminal gets another size.
 #[test]
 fn shared_bars_on_standard_error(rt: HostRuntime) {
     let rt = &rt;
@@ -126,7 +131,9 @@ fn shared_bars_on_standard_error(rt: HostRuntime) {
     work(rt, &bar, 2).granted(rt);
     same!(rt; bar.position(), 3);
     let setup = on_stderr(rt).granted(rt);
-    let board = MultiProgress::new(*rt, alloc, setup, 1).expect(rt, "granted");
+    let is_hidden = setup.target.is_hidden();
+    let board = board_on(*rt, setup).expect(rt, "granted");
+    same!(rt; board.is_hidden(), is_hidden);
     board.clear().granted(rt);
     board
         .set_draw_target(sized_stderr(rt, 50, 132).granted(rt))

@@ -1,18 +1,14 @@
 //! Where wrapped readers stand.
 use indicatif::{MaxRingBuf, SeekMax};
 
+/// The greatest of the last place, and of the last of seeks.
 #[test]
-fn the_greatest_of_the_last_place(rt: HostRuntime) {
+fn the_greatest_of_places(rt: HostRuntime) {
     let rt = &rt;
     let mut places = MaxRingBuf::<1>::new();
     places.update(7);
     places.update(3);
     same!(rt; places.max(), 3);
-}
-
-#[test]
-fn the_greatest_of_seeks(rt: HostRuntime) {
-    let rt = &rt;
     let mut seeks = SeekMax::<5, 10>::new();
     same!(rt; seeks.update_seek(100), 100);
     same!(rt; seeks.update_seq(100, 10), 110);

@@ -1,6 +1,6 @@
 //! A board that is shared, and its history.
 use crate::checks::Granted;
-use crate::fronts::setup;
+use crate::fronts::{board_shows, setup};
 use indicatif::style::Tracks;
 use indicatif::{MultiProgress, ProgressBar, RecordReader, Recorded, StepClock, TermLike};
 
@@ -29,8 +29,6 @@ fn line_above_a_bar(rt: HostRuntime) {
     holds!(rt; !bar.is_hidden());
     board.println("a.txt").granted(rt);
     board.set_move_cursor(true).granted(rt);
-    let shown = board.with_term(|term| term.map(|term| term.contents()));
-    let shown = shown.granted(rt).granted(rt);
-    same!(rt; shown.as_str(), "a.txt");
+    board_shows(rt, &board, "a.txt");
     same!(rt; board.with_record(Length), 0);
 }
