@@ -21,14 +21,13 @@ pub struct OnScreen {
     screen: Rc<Screen>,
 }
 
-/// `board ROWS COLS RATE`: a board on a new screen. A rate of 0 is none. `board hidden`: on none. Behind it `top` or `bottom`.
+/// `board ROWS COLS RATE`: a board on a new screen. A rate of 0 is none. `board hidden`: on none. Behind it `bottom`.
 pub fn begin(rest: &str, at: At) -> Result<Box<OnScreen>, Bad> {
     let mut words = Words::of(rest);
     let (screen, target) = screen::begin(&mut words, at)?;
     let mut board = Board::new(at.alloc, target.0, BOARD_ID);
     match words.rest() {
         "" => (),
-        "top" => board.set_alignment(MultiProgressAlignment::Top),
         "bottom" => board.set_alignment(MultiProgressAlignment::Bottom),
         _ => return Err(Bad::Step),
     }

@@ -8,7 +8,7 @@ use scripts::boards::{BOARD_ID, candidate, of_bar};
 use scripts::commands::command;
 use scripts::got::{Bad, Got};
 use scripts::row::{At, Words, headed};
-use scripts::spelling::{flag, unescaped};
+use scripts::spelling::flag;
 
 /// A board on a terminal in memory.
 #[derive(Drop)]
@@ -22,8 +22,8 @@ pub fn begin(rest: &str, at: At) -> Result<Box<OnNoted>, Bad> {
 }
 
 impl OnNoted {
-    /// `move yes` or `move no`; `add BAR`, `log TEXT`, `clear`; a command of a bar; `contents`; or at the end `moves`, all calls of the
-    /// terminal, which the board gives away for that.
+    /// `move yes` or `move no`; `add BAR`; a command of a bar; `contents`; or at the end `moves`, all calls of the terminal, which the board
+    /// gives away for that.
     pub fn step(&mut self, step: &str, at: At, got: &mut Got) {
         if let Some((id, text)) = of_bar(step) {
             return match command(at.alloc, text) {
@@ -36,35 +36,25 @@ impl OnNoted {
                 Ok(on) => self.0.set_move_cursor(on),
                 Err(bad) => got.bad(bad),
             },
-            ("clear", "") => got.answer(self.0.clear(at.now)),
-            ("log", text) => match unescaped(at.alloc, text) {
-                Ok(text) => got.answer(self.0.println(text.as_str(), at.now)),
-                Err(bad) => got.bad(bad),
-            },
             ("contents", "") => match self.0.term() {
                 Some(term) => got.text_of(term.contents()),
                 None => got.bad(Bad::Step),
             },
-            ("moves", "") => match self
-                .0
-                .set_draw_target(ProgressDrawTarget::hidden())
-                .into_term()
-            {
-                Some(mut term) => got.text(term.moves_since_last_check().as_str()),
-                None => got.bad(Bad::Step),
+            ("moves", "") => {
+                let target = self.0.set_draw_target(ProgressDrawTarget::hidden());
+                match target.into_term() {
+                    Some(mut term) => got.text(term.moves_since_last_check().as_str()),
+                    None => got.bad(Bad::Step),
+                }
+            }
+            ("add", bar) => match candidate(at, bar) {
+                Ok(candidate) => match self.0.add(candidate) {
+                    Ok(id) => got.number(id.number),
+                    Err(turned) => got.refusal(turned.refusal),
+                },
+                Err(bad) => got.bad(bad),
             },
-            ("add", bar) => self.add(bar, at, got),
             _ => got.bad(Bad::Step),
-        }
-    }
-
-    fn add(&mut self, bar: &str, at: At, got: &mut Got) {
-        match candidate(at, bar) {
-            Ok(candidate) => match self.0.add(candidate) {
-                Ok(id) => got.number(id.number),
-                Err(turned) => got.refusal(turned.refusal),
-            },
-            Err(bad) => got.bad(bad),
         }
     }
 }
