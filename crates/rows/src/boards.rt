@@ -1,14 +1,12 @@
 //! A board on a screen.
-use crate::outside;
 use indicatif_bar::style::NoTracker;
-use indicatif_board::multi::{Answer, BarId, Board, Call, Candidate, InsertLocation};
+use indicatif_board::multi::{BarId, Board, Candidate, InsertLocation};
 use indicatif_term::draw_target::MultiProgressAlignment;
-use indicatif_text::columns::Moment;
 use scripts::boards::{BOARD_ID, bar_id, board_call, candidate, of_bar, placed, push_answer};
 use scripts::commands::command;
 use scripts::got::{Bad, Got};
 use scripts::lone::read_bar;
-use scripts::row::{At, Words, headed, timed};
+use scripts::row::{At, Words, headed};
 use scripts::screen::{self, Behind, Screen};
 use scripts::spelling::{flag, unescaped};
 use std::rc::Rc;
@@ -23,14 +21,13 @@ pub struct OnScreen {
     screen: Rc<Screen>,
 }
 
-/// `board ROWS COLS RATE`: a board on a new screen. A rate of 0 is none. `board hidden`: on none. Behind it `top` or `bottom`.
+/// `board ROWS COLS RATE`: a board on a new screen. A rate of 0 is none. `board hidden`: on none. Behind it `bottom`.
 pub fn begin(rest: &str, at: At) -> Result<Box<OnScreen>, Bad> {
     let mut words = Words::of(rest);
     let (screen, target) = screen::begin(&mut words, at)?;
     let mut board = Board::new(at.alloc, target.0, BOARD_ID);
     match words.rest() {
         "" => (),
-        "top" => board.set_alignment(MultiProgressAlignment::Top),
         "bottom" => board.set_alignment(MultiProgressAlignment::Bottom),
         _ => return Err(Bad::Step),
     }
@@ -50,9 +47,7 @@ impl OnScreen {
                 Err(bad) => got.bad(bad),
             },
             ("size", words) => self.resize(words, got),
-            ("suspend", "") => self.suspend(at.now, got),
-            ("suspend", text) => outside::suspend(&mut self.board, &self.screen, (text, at), got),
-            ("run", calls) => run(&mut self.board, calls, at, got),
+            ("suspend", text) => self.suspend(text, at, got),
             ("call", text) => match board_call(at, text) {
                 Ok(call) => push_answer(self.board.call(call, at.now), got),
                 Err(bad) => got.bad(bad),
@@ -87,11 +82,22 @@ impl OnScreen {
         }
     }
 
-    /// What the board answers that is suspended, and what stands on the screen when the closure runs.
-    fn suspend(&mut self, now: Moment, got: &mut Got) {
-        let screen = &self.screen;
-        let (look, answer) = self.board.suspend(now, || screen.look());
-        look.push(answer, got);
+    /// `suspend TEXT`: what the board answers that is suspended, and what stands on the screen when the closure runs, which then puts this
+    /// text there.
+    fn suspend(&mut self, text: &str, at: At, got: &mut Got) {
+        match unescaped(at.alloc, text) {
+            Ok(text) => {
+                let (screen, bytes) = (&self.screen, text.as_str().as_bytes());
+                let ((look, fed), answer) = self
+                    .board
+                    .suspend(at.now, || (screen.look(), screen.feed(bytes)));
+                look.push(answer, got);
+                if fed.is_err() {
+                    got.bad(Bad::Step);
+                }
+            }
+            Err(bad) => got.bad(bad),
+        }
     }
 }
 
@@ -146,7 +152,6 @@ fn of_all(board: &mut Shown, step: &str, at: At, got: &mut Got) {
     match headed(step) {
         ("clear", "") => got.answer(board.clear(at.now)),
         ("redraw", "") => got.answer(board.redraw(at.now)),
-        ("top", "") => board.set_alignment(MultiProgressAlignment::Top),
         ("bottom", "") => board.set_alignment(MultiProgressAlignment::Bottom),
         ("log", text) => match unescaped(at.alloc, text) {
             Ok(text) => got.answer(board.println(text.as_str(), at.now)),
@@ -191,41 +196,5 @@ fn take_in(
             got.text(if id.board == BOARD_ID { " =" } else { " =x" });
             got.number(id.number);
         }
-    }
-}
-
-/// `run CALL | CALL ..`: calls as one list, each at its moment, and what each answers.
-fn run(board: &mut Shown, calls: &str, at: At, got: &mut Got) {
-    let mut timed_calls = Vec::new(at.alloc);
-    match push_calls(&mut timed_calls, calls, at) {
-        Ok(()) => match board.run(timed_calls) {
-            Ok(answers) => push_answers(answers, got),
-            Err(refusal) => got.bad(Bad::Refused(refusal)),
-        },
-        Err(bad) => got.bad(bad),
-    }
-}
-
-/// Appends calls, each with its moment.
-fn push_calls(
-    timed_calls: &mut Vec<(Call<NoTracker>, Moment)>,
-    calls: &str,
-    at: At,
-) -> Result<(), Bad> {
-    for text in calls.split(" | ") {
-        let (text, now) = timed(text);
-        timed_calls.push((board_call(at, text)?, now.unwrap_or(at.now)))?;
-    }
-    Ok(())
-}
-
-fn push_answers(answers: Vec<Answer>, got: &mut Got) {
-    let mut is_first = true;
-    for answer in answers {
-        if !is_first {
-            got.text(" ");
-        }
-        push_answer(answer, got);
-        is_first = false;
     }
 }

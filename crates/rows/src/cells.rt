@@ -121,15 +121,13 @@ fn feed_parts(cells: &mut Cells, bytes: &[u8], cut: Option<usize>) -> Result<(),
             feed(cells, front)?;
             feed(cells, rest)
         }
-        None => feed_singly(cells, bytes),
+        None => {
+            for byte in bytes.chunks(1) {
+                feed(cells, byte)?;
+            }
+            Ok(())
+        }
     }
-}
-
-fn feed_singly(cells: &mut Cells, bytes: &[u8]) -> Result<(), Refusal> {
-    for byte in bytes.chunks(1) {
-        feed(cells, byte)?;
-    }
-    Ok(())
 }
 
 /// Appends the picture without the empty rows at its end, the contents and the cursor, a tab between two.

@@ -8,11 +8,11 @@
 //! - `front`: what is played over `indicatif`. All that follows is played over the libraries below it.
 //! - `world`: what is played on, and which module plays a step.
 //! - `lone`, `boards`: a lone bar and a board on a screen. `records`: a bar's record. `terminals`: a terminal before a screen.
-//! - `recorded`: a board that keeps its history. `outside`: what others write to a board's screen while it is suspended.
+//! - `recorded`: a board that keeps its history.
 //! - `slots`: the order of bars and their slots. `streams`: targets on streams. `program`: runs of `bars run`.
 //! - `formats`: texts of formatters. `columns`: columns, rows and pieces of texts. `templates`: templates, and words of styles.
 //!   `refusals`: numbers and texts of refusals.
-//! - `noted`: a board on a terminal in memory whose calls are read.
+//! - `noted`: a board on a terminal in memory whose calls are read at the end.
 //! - `cells`: the cell terminal. `memory`: the terminal in memory. `engines`: the engine. `limiters`: limiters.
 //! - `styles`: styles and their builders. `lines`: lines of bars. `runs`: long texts, told by their runs.
 #![tactic(auto)]
@@ -38,7 +38,6 @@ mod lines;
 mod lone;
 mod memory;
 mod noted;
-mod outside;
 mod program;
 mod recorded;
 mod records;
@@ -80,6 +79,7 @@ fn play_all<
         + Env
         + Files
         + Print
+        + Eprint
         + RandomSource
         + Wait
         + Threads
@@ -103,6 +103,7 @@ fn play_file<
     R: AllocGlobal
         + Files
         + Print
+        + Eprint
         + RandomSource
         + Wait
         + Threads

@@ -6,7 +6,7 @@ use std::io::ErrorKind;
 use std::str;
 
 /// Why a step gives nothing.
-#[derive(Clone, Copy, Debug, Drop)]
+#[derive(Clone, Copy, Drop)]
 pub enum Bad {
     /// It can't be read.
     Step,

@@ -1,7 +1,7 @@
 //! A terminal behind a writer: what stands on it can be read at any time, and its writer fails or takes little where that is asked.
 use crate::got::{Bad, Got};
 use crate::row::{At, Words, headed};
-use crate::spelling::{number, unescaped_bytes};
+use crate::spelling::{number, unescaped, unescaped_bytes};
 use indicatif_term::draw_target::ProgressDrawTarget;
 use indicatif_term::in_memory::Cells;
 use indicatif_term::term_like::Term;
@@ -37,7 +37,7 @@ struct Limits {
 }
 
 /// What the writer was given so far.
-#[derive(Clone, Copy, Default)]
+#[derive(Clone, Copy)]
 struct Counts {
     bytes: u64,
     writes: u64,
@@ -84,11 +84,16 @@ impl Screen {
             halt: Halt::Nothing,
             halts: 0,
         };
+        let counts = Counts {
+            bytes: 0,
+            writes: 0,
+            flushes: 0,
+        };
         let screen = Screen {
             cells: RefCell::new(Cells::new(alloc, rows, cols)?),
             written: RefCell::new(Vec::new(alloc)),
             limits: Cell::new(limits),
-            counts: Cell::new(Counts::default()),
+            counts: Cell::new(counts),
         };
         Ok(Rc::new(alloc, screen)?)
     }
@@ -289,6 +294,10 @@ pub fn look_at(screen: &Screen, step: &str, at: At, got: &mut Got) -> bool {
         "bytes" => got.number(screen.counts.get().bytes),
         "writes" => got.number(screen.counts.get().writes),
         "flushes" => got.number(screen.counts.get().flushes),
+        "writes_over_bytes" => {
+            let Counts { bytes, writes, .. } = screen.counts.get();
+            got.number(writes.saturating_sub(bytes));
+        }
         "row_count" => push_count(screen.contents(), got),
         _ => return named(screen, headed(step), at, got),
     }
@@ -305,16 +314,14 @@ fn push_count(contents: Result<String, Refusal>, got: &mut Got) {
 
 /// `row N`: a row of what stands in the window, counted from 1; nothing past its end.
 fn push_row(screen: &Screen, number_of_row: &str, got: &mut Got) {
-    match (number(number_of_row), screen.contents()) {
-        (Ok(row), Ok(contents)) => got.text(nth_row(contents.as_str(), row)),
+    match (number::<usize>(number_of_row), screen.contents()) {
+        (Ok(row), Ok(contents)) => {
+            let before = row.saturating_sub(1);
+            got.text(contents.as_str().split('\n').nth(before).unwrap_or(""));
+        }
         (Err(bad), _) => got.bad(bad),
         (_, Err(refusal)) => got.bad(Bad::Refused(refusal)),
     }
-}
-
-fn nth_row(contents: &str, number: usize) -> &str {
-    let before = number.saturating_sub(1);
-    contents.split('\n').nth(before).unwrap_or("")
 }
 
 /// Appends the rows up to the last one that isn't empty.
@@ -336,12 +343,39 @@ pub fn filled(rows: &[String]) -> &[String] {
     rows.get(..count).unwrap_or(rows)
 }
 
-/// Tells a row, puts bytes there, or has the writer fail; whether the step asks for that.
+/// Tells a row, or how the rows end; puts bytes there, or has the writer fail; whether the step asks for that.
 fn named(screen: &Screen, (name, rest): (&str, &str), at: At, got: &mut Got) -> bool {
     match name {
         "row" => push_row(screen, rest, got),
         "feed" => feed(screen, rest, at, got),
+        "ends" => push_ends(screen, rest, at, got),
         _ => return limit(screen, name, rest, got),
+    }
+    true
+}
+
+/// `ends TEXT`: whether the rows of this text are the last ones down to the cursor's.
+fn push_ends(screen: &Screen, text: &str, at: At, got: &mut Got) {
+    match (unescaped(at.alloc, text), screen.picture(), screen.cursor()) {
+        (Ok(text), Ok(rows), Some((row, _))) => {
+            let rows = rows.get(..=usize::from(row)).unwrap_or(&rows);
+            got.flag(are_last(rows, text.as_str()));
+        }
+        (Err(bad), _, _) => got.bad(bad),
+        (_, Err(refusal), _) => got.bad(Bad::Refused(refusal)),
+        (_, _, None) => got.bad(Bad::Step),
+    }
+}
+
+/// Whether the last of these rows are those of a text.
+fn are_last(rows: &[String], text: &str) -> bool {
+    let before = rows.len().saturating_sub(text.split('\n').count());
+    let mut last = rows.get(before..).unwrap_or(rows).iter();
+    for row in text.split('\n') {
+        match last.next() {
+            Some(stands) if stands.as_str() == row => (),
+            _ => return false,
+        }
     }
     true
 }

@@ -3,7 +3,7 @@
 //! `bytes POSITION TEXT, ANSWERS` wraps one (`scripted`) with a bar at this position that counts its moves. Then
 //!
 //! - `read N`, `read_exact N`, `room N`: a read into the front of a room of 16 bytes gives the bytes that came; the room's first bytes.
-//! - `read_to_string`, `read_to_end`, `copy`, `drain N`: all that is left; by reads of N bytes, how many reads and bytes there were.
+//! - `read_to_string`, `read_to_end`, `copy`: all that is left.
 //! - `fill_buf`, `consume N`, `read_line`; `seek start N`, `seek end N`, `seek current N`, `position`.
 //! - `write TEXT`, `write_all TEXT`, `flush`, `written`, the last of which unwraps; `next` of what is wrapped as an iterator.
 //! - `poll_read N`, `poll_write TEXT`, `poll_flush`, `poll_shutdown`, `poll_next`, `poll_next N` (so many polls).
@@ -175,14 +175,13 @@ fn seek_of(to: &str) -> Result<SeekFrom, Bad> {
     }
 }
 
-/// A call with a number: bytes that are consumed or drained, items, or a read into the front of the room.
+/// A call with a number: bytes that are consumed, items, or a read into the front of the room.
 fn counts<P: Moves + Drop>(over: &mut Over<P>, (name, count): (&str, usize), got: &mut Got) {
     let Some(wrapped) = &mut over.wrapped else {
         return got.bad(Bad::Step);
     };
     match name {
         "consume" => wrapped.consume(count),
-        "drain" => drain(wrapped, count, got),
         "poll_next" => {
             for _ in 0..count {
                 poll(wrapped, &over.task, Asked::Next, got);
@@ -258,41 +257,4 @@ fn to_end<P: Moves + Drop>(wrapped: &mut Wrapped<P>, alloc: Global, name: &str, 
     got.text(" ");
     got.text(text.as_str());
     got.bytes(&bytes);
-}
-
-/// Reads of so many bytes until none come: how many reads gave any, and how many bytes, each the next of 0, 1, 2 and so on, modulo
-/// 256.
-fn drain<P: Moves + Drop>(wrapped: &mut Wrapped<P>, count: usize, got: &mut Got) {
-    let mut all = [0u8; 8];
-    let Some(room) = all.get_mut(..count) else {
-        return;
-    };
-    let mut drained = Drained { reads: 0, bytes: 0 };
-    for _ in 0..10_000u32 {
-        match wrapped.read(room) {
-            Ok(0) | Err(_) => break,
-            Ok(n) => drained.takes(room.get(..n).unwrap_or(&[])),
-        }
-    }
-    got.number(drained.reads);
-    got.text(" ");
-    got.number(drained.bytes);
-}
-
-/// How many reads gave bytes, and how many came in order.
-#[derive(Drop)]
-struct Drained {
-    reads: u32,
-    bytes: u32,
-}
-
-impl Drained {
-    fn takes(&mut self, bytes: &[u8]) {
-        self.reads = self.reads.saturating_add(1);
-        for byte in bytes {
-            if u32::from(*byte) == self.bytes % 256 {
-                self.bytes = self.bytes.saturating_add(1);
-            }
-        }
-    }
 }

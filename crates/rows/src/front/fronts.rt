@@ -197,13 +197,6 @@ impl<R: Wait + Copy + Clone + Drop> Fronts<R> {
         }
     }
 
-    fn weak_of(&self, place: &str) -> Result<Weak<R>, Bad> {
-        match self.bar(place) {
-            Some(bar) => Weak::of(bar),
-            None => Err(Bad::Step),
-        }
-    }
-
     /// A bar that stands alone, or another owner, where the step asks for one.
     fn coming(&self, step: &str) -> Option<Result<Bar<R>, Bad>> {
         Some(match (step, step.split_once(' ')) {
@@ -316,7 +309,7 @@ impl<R: Wait + Copy + Clone + Drop> Fronts<R> {
             "top" => board.set_alignment(MultiProgressAlignment::Top),
             "bottom" => board.set_alignment(MultiProgressAlignment::Bottom),
             "turn" | "hide" => match self.turned_to(name == "hide") {
-                Ok(target) => turn(board, target),
+                Ok(target) => board.set_draw_target(target),
                 Err(refusal) => return got.bad(Bad::Refused(refusal)),
             },
             "move" => match flag(word) {
@@ -456,18 +449,6 @@ impl<R: Wait + Copy + Clone + Drop> Fronts<R> {
     }
 }
 
-/// Another target for a board, by another owner of it.
-fn turn<R: Wait + Copy + Clone + Drop>(
-    board: &FrontBoard<R>,
-    target: Target,
-) -> Result<(), Refusal> {
-    let other: Result<_, _> = board.clone();
-    match other {
-        Ok(board) => board.set_draw_target(target),
-        Err(_) => Err(Refusal::Memory),
-    }
-}
-
 impl<R: AllocGlobal + RandomSource + Wait + Copy + Clone + Drop> Fronts<R> {
     /// What a bar wraps by the call of this name, to be asked.
     fn wrapped_by(&self, name: &str, rest: &str) -> Result<Wrapped<R>, Bad> {
@@ -539,9 +520,12 @@ impl<
                 Ok(bar) => got.flag(bar.is_some()),
                 Err(bad) => got.bad(bad),
             },
-            "weak" => match self.weak_of(rest) {
-                Ok(weak) => self.weak = weak,
-                Err(bad) => got.bad(bad),
+            "weak" => match self.bar(rest) {
+                Some(bar) => match Weak::of(bar) {
+                    Ok(weak) => self.weak = weak,
+                    Err(bad) => got.bad(bad),
+                },
+                None => got.bad(Bad::Step),
             },
             _ => match self.coming(step) {
                 Some(bar) => self.store(bar, got),
@@ -557,8 +541,8 @@ impl<
             (None, _, _) => got.bad(Bad::Step),
             (Some(bar), "note", _) => self.noted = bar.ticks(),
             (Some(bar), "ticks_since", _) => got.number(bar.ticks().wrapping_sub(self.noted)),
-            (Some(bar), "rests", _) => got.flag(rests(rt, bar)),
-            (Some(bar), "comes_to_rest", _) => got.flag(comes_to_rest(rt, bar)),
+            (Some(bar), "rests", _) => got.flag(rests(rt, bar, 1)),
+            (Some(bar), "comes_to_rest", _) => got.flag(rests(rt, bar, 500)),
             (Some(bar), _, Some(("ticks_past", ticks))) => match number::<u64>(ticks) {
                 Ok(ticks) => got.flag(ticks_past(rt, bar, ticks.saturating_add(self.noted))),
                 Err(bad) => got.bad(bad),
@@ -582,18 +566,14 @@ impl<R: Wait + Clock + Copy + Clone + Drop> Fronts<R> {
     fn history_rests(&self, got: &mut Got) {
         match self.board() {
             Some(board) => {
-                let before = self.recorded_calls(board);
+                let mut unsaid = Got::new(self.maker.alloc);
+                let before = shown(board, self.look(Question::Order), &mut unsaid);
                 pause(&self.maker.rt);
-                got.flag(self.recorded_calls(board) == before);
+                let after = shown(board, self.look(Question::Order), &mut unsaid);
+                got.flag(after == before);
             }
             None => got.bad(Bad::Step),
         }
-    }
-
-    /// How many calls the board has recorded.
-    fn recorded_calls(&self, board: &FrontBoard<R>) -> usize {
-        let look = self.look(Question::Order);
-        shown(board, look, &mut Got::new(self.maker.alloc))
     }
 }
 
@@ -631,17 +611,12 @@ fn ticks_past<R: Wait + Clock + Copy + Clone + Drop>(rt: &R, bar: &Front<R>, bef
     false
 }
 
-/// Whether two readings of the ticks with 50 turns of a millisecond between them are equal.
-fn rests<R: Wait + Clock + Copy + Clone + Drop>(rt: &R, bar: &Front<R>) -> bool {
-    let before = bar.ticks();
-    pause(rt);
-    bar.ticks() == before
-}
-
-/// Whether the bar ticks no more, by at most 500 such readings.
-fn comes_to_rest<R: Wait + Clock + Copy + Clone + Drop>(rt: &R, bar: &Front<R>) -> bool {
-    for _ in 0..500u32 {
-        if rests(rt, bar) {
+/// Whether the bar ticks no more: one of so many tries finds two readings of the ticks, with 50 turns of a millisecond between them, equal.
+fn rests<R: Wait + Clock + Copy + Clone + Drop>(rt: &R, bar: &Front<R>, tries: u32) -> bool {
+    for _ in 0..tries {
+        let before = bar.ticks();
+        pause(rt);
+        if bar.ticks() == before {
             return true;
         }
     }

@@ -1,7 +1,7 @@
 //! The greatest of the last places, and the place that moves and seeks show.
 //!
 //! `places 10` or `places 1` begins with none, and remembers so many: `put P ..` gives the greatest once these came. `places seeks`
-//! begins with neither moves nor seeks: `seek P` and `move P BYTES` give the place that is shown; `moves N BYTES` makes N moves from 0 on.
+//! begins with neither moves nor seeks: `seek P` and `move P BYTES` give the place that is shown.
 use indicatif::{MaxRingBuf, SeekMax};
 use scripts::got::{Bad, Got};
 use scripts::row::{Words, headed};
@@ -60,16 +60,6 @@ fn shown(seeks: &mut SeekMax<5, 10>, name: &str, rest: &str) -> Result<u64, Bad>
     match (name, words.done(place), number(words.rest())) {
         ("seek", Ok(place), _) => Ok(seeks.update_seek(place)),
         ("move", Ok(place), Ok(bytes)) => Ok(seeks.update_seq(place, bytes)),
-        ("moves", Ok(times), Ok(bytes)) => Ok(moved(seeks, times, bytes)),
         _ => Err(Bad::Step),
     }
-}
-
-/// Where so many moves lead.
-fn moved(seeks: &mut SeekMax<5, 10>, times: u64, bytes: u64) -> u64 {
-    let mut place = 0;
-    for _ in 0..times {
-        place = seeks.update_seq(place, bytes);
-    }
-    place
 }

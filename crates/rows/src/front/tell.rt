@@ -67,7 +67,13 @@ fn numbered<R: Wait + Copy + Clone + Drop>(
 ) -> Result<Told, Bad> {
     match name {
         "further" => Ok(bar.update(|state| further(state, n))),
-        "absorb" => Ok(absorb(bar, n)),
+        "absorb" => Ok(match bar.worker() {
+            Ok((done, mut worker)) => {
+                worker.add(&done, n);
+                bar.absorb(done, worker)
+            }
+            Err(refusal) => Err(refusal),
+        }),
         "advance" => Ok(moved(bar, Move::Advance(n))),
         "place" => Ok(moved(bar, Move::PlaceAt(n))),
         _ => build(bar, BarCommand::SetElapsed(n)),
@@ -80,12 +86,6 @@ pub fn further(state: &ProgressState, delta: u64) -> Change {
         pos: Some(state.pos().wrapping_add(delta)),
         len: None,
     }
-}
-
-fn absorb<R: Wait + Copy + Clone + Drop>(bar: &Front<R>, n: u64) -> Told {
-    let (done, mut worker) = bar.worker()?;
-    worker.add(&done, n);
-    bar.absorb(done, worker)
 }
 
 /// A move that something else makes, of another owner.
@@ -127,7 +127,13 @@ fn worded<R: Wait + Copy + Clone + Drop>(
 ) -> Result<Told, Bad> {
     match name {
         "log" => Ok(bar.println(text)),
-        "template" => Ok(set_template(bar, text)),
+        "template" => Ok(match bar.style() {
+            Ok(style) => match style.template(text) {
+                Ok(style) => bar.set_style(style),
+                Err(refusal) => Err(refusal),
+            },
+            Err(refusal) => Err(refusal),
+        }),
         _ => match spinner(alloc, text) {
             Ok(style) => match name {
                 "set_style" => Ok(bar.set_style(style)),
@@ -136,9 +142,4 @@ fn worded<R: Wait + Copy + Clone + Drop>(
             Err(refusal) => Ok(Err(refusal)),
         },
     }
-}
-
-fn set_template<R: Wait + Copy + Clone + Drop>(bar: &Front<R>, template: &str) -> Told {
-    let style = bar.style()?.template(template)?;
-    bar.set_style(style)
 }

@@ -60,11 +60,6 @@ impl<T: Resize + Drop> OnBoard<T> {
         Ok(stage)
     }
 
-    /// Its terminal.
-    pub fn term(&self) -> Option<&T> {
-        self.board.term()
-    }
-
     /// A new bar that says this comes before another, or last.
     fn add(&mut self, anchor: Option<u64>, text: &str) -> Said {
         let candidate = Candidate::New(saying(self.alloc, text)?);
