@@ -4,7 +4,7 @@
 //! Of the four lower libraries, and of what plays rows and scripts over them:
 //!
 //! - `values`: what bars return, what comes by default, and closures that bars take.
-//! - `writers`: a writer that fails at each byte; boxed terminals, and buffers. `lone_shown`: a bar on a terminal.
+//! - `writers`: boxed terminals, and buffers. `lone_shown`: a bar on a terminal.
 //! - `histories`: boards that keep their history. `sums`: workers that add to one sum.
 //! - `played`: which lines of a file are rows, and which of them agree.
 //! - `styles`, `term`, `text`: keys of a template, what targets hand out, numbers and formatters. `words`: those of a command line.

@@ -56,14 +56,14 @@ pub enum Step {
     Log(&'static str),
 }
 
-/// The calls of a bar that first says `ab`, and the rows that each draw writes.
-pub const SCRIPT: &[(Step, &str)] = &[
-    (Step::Tick, "ab"),
-    (Step::Log("l1"), "l1\nab"),
-    (Step::Message("c\nd"), "c\nd"),
-    (Step::Log("l2"), "l2\nc\nd"),
-    (Step::Tick, "c\nd"),
-    (Step::Message("e"), "e"),
+/// The calls of a bar that first says `ab`.
+pub const SCRIPT: &[Step] = &[
+    Step::Tick,
+    Step::Log("l1"),
+    Step::Message("c\nd"),
+    Step::Log("l2"),
+    Step::Tick,
+    Step::Message("e"),
 ];
 
 /// The place in the script of the tick that changes no line: the log before it wrote all of them. Such a drawing writes nothing.

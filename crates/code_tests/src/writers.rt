@@ -1,9 +1,10 @@
 //! What a terminal hands on to its writer, and what it makes of the writer's answers; and terminals in a box.
 use crate::checks::Granted;
 use crate::lone_shown::{SCRIPT, STILL, Shown, Step};
-use indicatif_term::in_memory::{Cells, InMemoryTerm};
+use indicatif_term::in_memory::InMemoryTerm;
 use indicatif_term::term_like::{Term, TermLike};
 use indicatif_text::columns::{Drawn, Refusal};
+use scripts::judged::record::{Plan, Record, Size};
 use std::alloc::Global;
 use std::cell::Cell;
 use std::io;
@@ -45,10 +46,10 @@ fn writes_and_flushes(bar: &Buffered) -> Option<(u64, u64)> {
 /// Each call of the script is drawn by one more flush, and by one more write where it changes a line.
 fn each_is_one_write(rt: &impl Abort, mut bar: Buffered) {
     let (mut writes, mut flushes): (u64, u64) = (0, 0);
-    for (place, call) in SCRIPT.iter().enumerate() {
+    for (place, step) in SCRIPT.iter().enumerate() {
         writes = writes.saturating_add(u64::from(place != STILL));
         flushes = flushes.saturating_add(1);
-        same!(rt; bar.makes(call.0), Ok(Drawn::Yes));
+        same!(rt; bar.makes(*step), Ok(Drawn::Yes));
         same!(rt; writes_and_flushes(&bar), Some((writes, flushes)));
     }
 }
@@ -89,7 +90,7 @@ type Boxed = Box<dyn TermLike + Drop>;
 
 /// A bar draws the script, and refuses a wide character.
 fn draws_the_script<T: TermLike + Drop>(rt: &impl Abort, mut bar: Shown<T>) {
-    for (step, _) in SCRIPT {
+    for step in SCRIPT {
         same!(rt; bar.makes(*step), Ok(Drawn::Yes));
     }
     same!(rt; bar.makes(Step::Log("国")), Err(Refusal::TooWide));
@@ -120,7 +121,7 @@ fn boxed(rt: &impl Abort, alloc: Global, count: &Rc<Cell<u64>>) -> Boxed {
 /// Each call of the script is drawn, and flushed once.
 fn each_is_flushed_once<T: TermLike + Drop>(rt: &impl Abort, mut bar: Shown<T>, count: &Cell<u64>) {
     let mut flushes = count.get();
-    for (step, _) in SCRIPT {
+    for step in SCRIPT {
         flushes = flushes.saturating_add(1);
         same!(rt; bar.makes(*step), Ok(Drawn::Yes));
         same!(rt; count.get(), flushes);
@@ -140,172 +141,6 @@ fn a_boxed_terminal_is_flushed_once_a_drawing(rt: HostRuntime) {
     each_is_flushed_once(rt, bar, &count);
 }
 
-// ---- a writer that takes one byte a call
-
-/// How much a writer takes a call.
-#[derive(Clone, Copy, Drop)]
-enum Taking {
-    /// All that it is given.
-    All,
-    /// One byte.
-    One,
-    /// One byte. The first call that comes when so many were taken fails with `BrokenPipe`.
-    OneFailingAt(usize),
-}
-
-/// Takes bytes, and counts its calls.
-#[derive(Drop)]
-struct Taker {
-    taken: Vec<u8>,
-    calls: u64,
-    taking: Taking,
-}
-
-impl Write for Taker {
-    fn write(&mut self, buf: &[u8]) -> io::Result<usize> {
-        self.calls = self.calls.saturating_add(1);
-        let taken = match self.taking {
-            Taking::OneFailingAt(at) if self.taken.len() == at => {
-                self.taking = Taking::One;
-                return Err(io::Error::from(ErrorKind::BrokenPipe));
-            }
-            Taking::All => buf,
-            _ => buf.get(..1).unwrap_or(buf),
-        };
-        self.taken.extend_from_slice(taken)?;
-        Ok(taken.len())
-    }
-
-    fn flush(&mut self) -> io::Result<()> {
-        Ok(())
-    }
-}
-
-/// A bar behind such a writer.
-type Behind = Shown<Term<Taker>>;
-
-// ---- a bar behind such writers
-
-/// A bar that says `ab` behind a writer that takes so much.
-fn bar_behind(rt: &impl Abort, alloc: Global, taking: Taking) -> Behind {
-    let writer = Taker {
-        taken: Vec::new(alloc),
-        calls: 0,
-        taking,
-    };
-    Shown::on(alloc, "ab", Term::new(writer, 20, 10)).granted(rt)
-}
-
-/// Makes each call of the script, and gives the terminal.
-fn played<'a, T: TermLike + Drop>(rt: &impl Abort, bar: &'a mut Shown<T>) -> &'a T {
-    for (step, _) in SCRIPT {
-        same!(rt; bar.makes(*step), Ok(Drawn::Yes));
-    }
-    bar.term().granted(rt)
-}
-
-/// The bytes that the script writes where nothing fails.
-fn bytes_of_the_script(rt: &impl Abort, alloc: Global) -> Vec<u8> {
-    let mut bar = bar_behind(rt, alloc, Taking::All);
-    let bytes = &played(rt, &mut bar).writer().taken;
-    holds!(rt; !bytes.is_empty());
-    Vec::from_slice(alloc, bytes).granted(rt)
-}
-
-/// A terminal's writer was given these bytes one by one, without a fault.
-fn was_given_each(rt: &impl Abort, term: &Term<Taker>, bytes: &[u8]) {
-    let writer = term.writer();
-    same!(rt; (writer.calls, term.faults()), (bytes.len() as u64, 0));
-    same!(rt; writer.taken.as_slice(), bytes);
-}
-
-/// The rows down to the cursor's that these bytes show, each behind a newline.
-fn shown(rt: &impl Abort, alloc: Global, bytes: &[u8]) -> String {
-    let mut cells = Cells::new(alloc, 20, 10).granted(rt);
-    cells.feed(bytes).granted(rt);
-    let (row, _) = cells.cursor();
-    joined(rt, alloc, cells.picture(), usize::from(row))
-}
-
-/// The rows down to the last of these numbers, each behind a newline.
-fn joined(
-    rt: &impl Abort,
-    alloc: Global,
-    picture: Result<Vec<String>, Refusal>,
-    last: usize,
-) -> String {
-    let rows = picture.granted(rt);
-    let mut text = String::new(alloc);
-    for row in rows.get(..=last).unwrap_or(&rows) {
-        text.push('\n').granted(rt);
-        text.push_str(row.as_str()).granted(rt);
-    }
-    text
-}
-
-/// These rows stand at the bottom of what the terminal's bytes show.
-fn shows_below(rt: &impl Abort, alloc: Global, term: &Term<Taker>, rows: &str) {
-    let below = format!(in alloc; "\n{rows}").granted(rt);
-    let shown = shown(rt, alloc, &term.writer().taken);
-    let is_below = shown.as_str().ends_with(below.as_str());
-    same!(rt; (rows, is_below), (rows, true));
-}
-
-/// Makes the call, and answers how often it failed: never, and its rows stand at the bottom; or once, after this many bytes.
-fn broken_calls(
-    rt: &impl Abort,
-    alloc: Global,
-    bar: &mut Behind,
-    call: (Step, &str),
-    at: usize,
-) -> u64 {
-    let answer = bar.makes(call.0);
-    let term = bar.term().granted(rt);
-    if answer == Ok(Drawn::Yes) {
-        shows_below(rt, alloc, term, call.1);
-        return 0;
-    }
-    let broken = Err(Refusal::Terminal(ErrorKind::BrokenPipe));
-    same!(rt; (answer, term.writer().taken.len()), (broken, at));
-    1
-}
-
-/// Runs the script and one more draw of this bar, and answers how many calls failed.
-fn play_broken_at(rt: &impl Abort, alloc: Global, bar: &mut Behind, at: usize) -> u64 {
-    let mut failures: u64 = 0;
-    for call in SCRIPT {
-        let failed = broken_calls(rt, alloc, bar, *call, at);
-        failures = failures.saturating_add(failed);
-    }
-    let failed = broken_calls(rt, alloc, bar, (Step::Tick, "e"), at);
-    failures.saturating_add(failed)
-}
-
-/// The same behind a writer that fails once, after this many bytes: one call tells that failure, and of each other one the rows
-/// stand at the bottom, each as it was written. The terminal counts that fault, and its writer one call a byte and one a fault.
-fn is_broken_once_at(rt: &impl Abort, alloc: Global, at: usize) {
-    let mut bar = bar_behind(rt, alloc, Taking::OneFailingAt(at));
-    let failures = play_broken_at(rt, alloc, &mut bar, at);
-    same!(rt; (at, failures), (at, 1));
-    let term = bar.term().granted(rt);
-    let writer = term.writer();
-    let calls = (writer.taken.len() as u64).saturating_add(1);
-    same!(rt; (at, writer.calls, term.faults()), (at, calls, 1));
-}
-
-/// One that takes one byte a call, and then one that fails, too, once at each byte.
-#[test]
-fn a_bar_behind_a_writer_of_one_byte_a_call(rt: HostRuntime) {
-    let rt = &rt;
-    let alloc = rt.alloc();
-    let bytes = bytes_of_the_script(rt, alloc);
-    let mut bar = bar_behind(rt, alloc, Taking::One);
-    was_given_each(rt, played(rt, &mut bar), &bytes);
-    for at in 0..bytes.len() {
-        is_broken_once_at(rt, alloc, at);
-    }
-}
-
 // ---- one in a box that fails
 
 /// How often the bar's terminal has failed.
@@ -323,12 +158,9 @@ fn fails_at_a_line<T: TermLike + Drop>(rt: &impl Abort, mut bar: Shown<T>) {
 
 /// A boxed terminal whose writer fails once, behind the ten bytes of a first drawing on ten columns.
 fn failing(rt: &impl Abort, alloc: Global) -> Boxed {
-    let writer = Taker {
-        taken: Vec::new(alloc),
-        calls: 0,
-        taking: Taking::OneFailingAt(10),
-    };
-    Box::new(alloc, Term::new(writer, 5, 10)).granted(rt)
+    let record = Record::new(alloc, Plan::Byte(10), 64).granted(rt);
+    let size = Size { rows: 5, cols: 10 };
+    Box::new(alloc, size.terminal(&record).granted(rt)).granted(rt)
 }
 
 #[test]
