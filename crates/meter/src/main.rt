@@ -30,7 +30,7 @@ use meter_parts::{Row, plain_text};
 use shown::{Bar, bar_for};
 use sizes::size_of_all;
 use std::env::Env;
-use std::io::ErrorKind;
+use std::io::{ErrorKind, Stderr};
 use std::process::ExitCode;
 use std::rt::Files;
 use std::sync::Wait;
@@ -52,9 +52,19 @@ fn main(rt: HostRuntime) -> ExitCode {
         output: rt.stdout(),
     };
     let size = size_for(&rt, &asked);
-    let copied = match bar_for(&rt, rt.stderr(), &asked, size) {
-        Ok(bar) => copy_beside(&rt, streams, &asked, size, &bar),
-        Err(refusal) => Err(refusal),
+    let bar = match begun(&rt, rt.stderr(), &asked, size) {
+        Ok(bar) => bar,
+        Err(refusal) => return refused(&rt, &refusal),
+    };
+    let copied = if bar.is_hidden() {
+        copy_all(&rt, streams, &asked, size, &bar)
+    } else {
+        let copy = || copy_all(&rt, streams, &asked, size, &bar);
+        let tell = || tell_until_finished(&rt, &bar, &asked, size);
+        // (where no thread can be made, `join` calls its second closure first, and `tell` waits for the end of `copy`)
+        let ((), copied) = join(&rt, tell, copy);
+        last_look(&rt, &asked, &bar);
+        copied
     };
     match copied {
         Ok(copied) => answered(&rt, &asked, &copied),
@@ -71,19 +81,18 @@ fn size_for<R: Files>(rt: &R, asked: &Asked<'_>) -> Option<u64> {
     }
 }
 
-/// Hands all inputs on beside a bar. Where it is shown, with room for all rows, a thread tells it how it goes; it ticks where the time begins
-/// at once.
+/// The bar that is asked for, with room for all rows; it ticks where the time begins at once.
 ///
-/// Refused: `Memory`.
-fn copy_beside<R: Shares + Env + Files + Eprint>(
+/// Refused: `Memory`, and what a template is refused with.
+fn begun<R: Shares + Env + Eprint>(
     rt: &R,
-    streams: Streams,
+    errors: Stderr,
     asked: &Asked<'_>,
     size: Option<u64>,
-    bar: &Bar<R>,
-) -> Result<Copied, Refusal> {
+) -> Result<Bar<R>, Refusal> {
+    let bar = bar_for(rt, errors, asked, size)?;
     if bar.is_hidden() {
-        return copy_all(rt, streams, asked, size, bar);
+        return Ok(bar);
     }
     if let Some(row) = asked.look.row {
         make_room(rt, row)?;
@@ -91,12 +100,7 @@ fn copy_beside<R: Shares + Env + Files + Eprint>(
     if matches!(asked.timing.begins, Begins::AtOnce) {
         bar.enable_steady_tick(asked.timing.interval)?;
     }
-    let copy = || copy_all(rt, streams, asked, size, bar);
-    let tell = || tell_until_finished(rt, bar, asked, size);
-    // (where no thread can be made, `join` calls its second closure first, and `tell` waits for the end of `copy`)
-    let ((), copied) = join(rt, tell, copy);
-    last_look(rt, asked, bar);
-    copied
+    Ok(bar)
 }
 
 /// Rows for all meters that draw beside one another, below the cursor. They come by one write, since the others may draw already.
