@@ -2,13 +2,15 @@
 use indicatif_bar::style::NoTracker;
 use indicatif_board::multi::{BarId, Board, Candidate, InsertLocation};
 use indicatif_term::draw_target::MultiProgressAlignment;
+use indicatif_text::columns::{Drawn, Refusal};
 use scripts::boards::{BOARD_ID, bar_id, board_call, candidate, of_bar, placed, push_answer};
 use scripts::commands::command;
 use scripts::got::{Bad, Got};
 use scripts::lone::read_bar;
 use scripts::row::{At, Words, headed};
-use scripts::screen::{self, Behind, Screen};
+use scripts::screen::{self, Behind, Look, Screen};
 use scripts::spelling::{flag, unescaped};
+use std::io;
 use std::rc::Rc;
 
 /// The board.
@@ -85,12 +87,8 @@ impl OnScreen {
     /// `suspend TEXT`: what the board answers that is suspended, and what stands on the screen when the closure runs, which then puts this
     /// text there.
     fn suspend(&mut self, text: &str, at: At, got: &mut Got) {
-        match unescaped(at.alloc, text) {
-            Ok(text) => {
-                let (screen, bytes) = (&self.screen, text.as_str().as_bytes());
-                let ((look, fed), answer) = self
-                    .board
-                    .suspend(at.now, || (screen.look(), screen.feed(bytes)));
+        match suspended(&mut self.board, &self.screen, (text, at)) {
+            Ok(((look, fed), answer)) => {
                 look.push(answer, got);
                 if fed.is_err() {
                     got.bad(Bad::Step);
@@ -99,6 +97,21 @@ impl OnScreen {
             Err(bad) => got.bad(bad),
         }
     }
+}
+
+/// What stood on the screen, what came of putting a text there, and what the board answers.
+type Suspended = ((Look, io::Result<()>), Result<Drawn, Refusal>);
+
+fn suspended(
+    board: &mut Shown,
+    screen: &Rc<Screen>,
+    (text, at): (&str, At),
+) -> Result<Suspended, Bad> {
+    let text = unescaped(at.alloc, text)?;
+    let screen = screen.clone()?;
+    Ok(board.suspend(at.now, move || {
+        (screen.look(), screen.feed(text.as_str().as_bytes()))
+    }))
 }
 
 /// Reads something of the board; whether the step asks for that.
