@@ -145,7 +145,7 @@ impl Stage {
         Law::Written.holds(!wrote.has_bytes && !wrote.has_failed)
     }
 
-    /// Notes what is known of the bars behind a call that was taken. Each bar that came stands at most once then.
+    /// What is known of the bars behind a call that was taken.
     fn notes(
         &mut self,
         call: &Call<NoTracker>,
@@ -165,12 +165,19 @@ impl Stage {
             }
             _ => {}
         }
+        Law::Order.holds(self.is_order())
+    }
+
+    /// Each bar that came stands at most once.
+    fn is_order(&self) -> bool {
         let order = self.board.order();
         for (at, bar) in order.iter().enumerate() {
             let before = order.get(..at).unwrap_or(&[]);
-            Law::Order.holds(*bar < self.came && !before.contains(bar))?;
+            if *bar >= self.came || before.contains(bar) {
+                return false;
+            }
         }
-        Ok(())
+        true
     }
 
     /// Makes a call that has to answer so, and to leave what it should.
