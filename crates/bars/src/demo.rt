@@ -19,7 +19,7 @@ fn started<R: Wait + Clone + Drop>(rt: R, alloc: Global) -> Result<Bar<R>, Refus
     ProgressBar::styled(rt, alloc, style, None, setup)
 }
 
-/// Says `hello` and ticks, then says something else, and ticks in each of two threads; what stands on the terminal then, and how often the bar
+/// Says `hello` and ticks, then says something else, and a clone ticks in each of two threads; what stands on the terminal then, and how often the bar
 /// ticked.
 fn play<R: Threads + Wait + Sync + Clone + Drop>(
     rt: &R,
@@ -29,7 +29,8 @@ fn play<R: Threads + Wait + Sync + Clone + Drop>(
     bar.set_message("hello")?;
     bar.tick()?;
     bar.set_message("progress bars")?;
-    let (one, other) = join(rt, || bar.tick(), || bar.tick());
+    let (mine, theirs) = (bar.clone()?, bar.clone()?);
+    let (one, other) = join(rt, || mine.tick(), || theirs.tick());
     one.and(other)?;
     let contents = bar.with_term(|term| match term {
         Some(term) => term.contents(),

@@ -52,6 +52,8 @@ fn two_threads_log_through_a_bridge(rt: HostRuntime) {
     log_beside_ticks(rt, &log, (&one, &other));
     same!(rt; counted(&board, Kind::Log("INFO  mine")), 20);
     same!(rt; counted(&board, Kind::Log("INFO  theirs")), 20);
+    // two bars that were added, 40 ticks, and no other line
+    same!(rt; counted(&board, Kind::Any), 82);
     same!(rt; log.sink().missed(), 0);
     is_one_run(*rt, &board, alloc);
 }
@@ -218,13 +220,15 @@ fn lines_stand_above_the_bar(rt: HostRuntime) {
     let (alloc, now) = (rt.alloc(), 0);
     let mut board = showing_x(rt, alloc);
     same!(rt; tick(&mut board), Ok(Drawn::Yes));
-    let drawn = emit(alloc, &mut board, Level::Error, "no such file", now).granted(rt);
-    same!(rt; drawn, Drawn::Yes);
+    same!(rt; emit(alloc, &mut board, Level::Warn, "low disk", now), Ok(Drawn::Yes));
     same!(rt; emit(alloc, &mut board, Level::Error, "a\nb", now), Ok(Drawn::Yes));
-    shows(rt, &board, "ERROR no such file\nERROR a\nb\nx");
+    shows(rt, &board, "WARN  low disk\nERROR a\nb\nx");
     drop(board.set_draw_target(ProgressDrawTarget::hidden()));
     same!(rt; emit(alloc, &mut board, Level::Info, "i", now), Ok(Drawn::Hidden));
     drop(board.set_draw_target(setup(rt, alloc, 20).target));
     holds!(rt; board.redraw(now).is_ok());
     shows(rt, &board, "x");
+    let drawn = emit(alloc, &mut board, Level::Error, "no such file", now).granted(rt);
+    same!(rt; drawn, Drawn::Yes);
+    shows(rt, &board, "ERROR no such file\nx");
 }

@@ -19,6 +19,22 @@ fn bar_at<R: Wait + Copy + Clone + Drop + Abort>(rt: R, alloc: Global, position:
     bar
 }
 
+/// Of 1 and 2, from 2^64 - 2 on.
+#[test]
+fn a_bar_absorbs_past_2_to_the_64(rt: HostRuntime) {
+    let rt = &rt;
+    let bar = bar_at(*rt, rt.alloc(), u64::MAX - 1);
+    let (done, worker) = bar.worker().expect(rt, "granted");
+    let (mut mine, mut theirs) = worker.split(&done).expect(rt, "granted");
+    mine.add(&done, 1);
+    theirs.add(&done, 2);
+    same!(rt; bar.position(), u64::MAX - 1);
+    let whole = mine.join(theirs, &done);
+    bar.absorb(done, whole).granted(rt);
+    same!(rt; bar.position(), 1);
+    holds!(rt; !bar.is_finished());
+}
+
 /// Adds 1 a thousand times.
 fn a_thousand_times(done: &Done, mut worker: BarWorker) -> BarWorker
     requires of { worker.adds_to ≡ done.now }
@@ -31,7 +47,7 @@ fn a_thousand_times(done: &Done, mut worker: BarWorker) -> BarWorker
     worker
 }
 
-/// The bar goes on once their sum is taken in, not before. (That a sum goes past 2^64 is in `sums`, and of a bar in rows.)
+/// The bar goes on once their sum is taken in, not before.
 #[test]
 fn two_threads_count_for_a_bar(rt: HostRuntime) {
     let rt = &rt;

@@ -1,7 +1,11 @@
-//! Iterators of the tests' own that get a bar when they are wrapped.
+//! Iterators that get a bar when they are wrapped, or are handed one.
 use crate::checks::Granted;
-use crate::fronts::setup;
-use indicatif::{InMemoryTerm, NoTracker, OwnedBar, ProgressBarIter, ProgressIterator, StepClock};
+use crate::fronts::{Led, setup};
+use indicatif::{
+    InMemoryTerm, NoTracker, OwnedBar, ProgressBar, ProgressBarIter, ProgressIterator,
+    ProgressStyle, StepClock,
+};
+use std::process::Abort;
 
 /// What is wrapped by a bar of its own.
 type Shown<I> = ProgressBarIter<I, OwnedBar<NoTracker, InMemoryTerm, StepClock>>;
@@ -51,4 +55,38 @@ fn no_length_no_bar(rt: HostRuntime) {
     holds!(rt; made.expect(rt, "granted").is_none());
     let made = Sevens.progress_count(alloc, 2, setup(rt, alloc, 20));
     same!(rt; length(&made.expect(rt, "granted")), Some(2));
+}
+
+/// Doubles what a list of 1, 2 and 3 gives, each by a closure.
+fn doubles<R: Abort, I: Iterator<Item = u32>>(rt: &R, items: I) {
+    let mut doubled = items.map(|x: u32| x.wrapping_mul(2));
+    same!(rt; doubled.next(), Some(2));
+    same!(rt; doubled.next(), Some(4));
+    same!(rt; doubled.next(), Some(6));
+    same!(rt; doubled.next(), None);
+}
+
+/// A test of the crate `indicatif` 0.18.6 with its own values.
+#[test]
+fn it_can_wrap_an_iterator(rt: HostRuntime) {
+    let rt = &rt;
+    let alloc = rt.alloc();
+    let items = [1u32, 2, 3];
+    let items = items.as_slice();
+    let wrapped = items.iter().copied().progress(alloc, setup(rt, alloc, 20));
+    doubles(rt, wrapped.expect(rt, "granted"));
+    let wrapped = items
+        .iter()
+        .copied()
+        .progress_count(alloc, 3, setup(rt, alloc, 20));
+    doubles(rt, wrapped.expect(rt, "granted"));
+    let bar = ProgressBar::new(*rt, alloc, 3, setup(rt, alloc, 20)).expect(rt, "granted");
+    doubles(rt, items.iter().copied().progress_with(Led { bar }));
+    let style: ProgressStyle<NoTracker> = ProgressStyle::default_bar(alloc).granted(rt);
+    let style = style.template("{wide_bar:.red} {percent}/100%").granted(rt);
+    let wrapped = items
+        .iter()
+        .copied()
+        .progress_with_style(alloc, style, setup(rt, alloc, 20));
+    doubles(rt, wrapped.expect(rt, "granted"));
 }

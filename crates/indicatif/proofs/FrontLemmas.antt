@@ -9,7 +9,7 @@ use Rattle.indicatif_bar.specs.Trackers.{Tracking}
 use Rattle.indicatif_bar.specs.Lone.{LoneCall}
 use Rattle.indicatif_bar.specs.LoneBars.{record_of, lone_known}
 use Rattle.indicatif_bar.specs.Progress.{Progress, new_progress, eta, per_sec, duration, elapsed}
-use Rattle.indicatif_bar.specs.declared.command.Change.{Change as Changed}
+use Rattle.indicatif_bar.specs.declared.state.commands.Change.{Change as Changed}
 use Rattle.indicatif_bar.specs.declared.lone.LoneBar.{LoneBar}
 use Rattle.indicatif_board.specs.BoardValues.{id_of}
 use Rattle.indicatif.specs.Fronts.{of_no_draw, of_a_draw, has_no_bar, CanAnswer, CanDraw, CanTurn, IsMissing, MemoryOrForeign, unchanged}

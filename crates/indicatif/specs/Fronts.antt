@@ -9,7 +9,7 @@ use Rattle.indicatif_bar.specs.declared.ask.Ask.{Ask}
 use Rattle.indicatif_bar.specs.declared.ask.Ask.TheVariants.{No, Unforced, Forced}
 use Rattle.indicatif_bar.specs.Commands.{Command, SetTicker, SetStyle, PutPosition, PutMessage, PutPrefix, PutFinish, PutTabWidth, SetTabWidth, SetElapsed, ResetEta, ResetElapsed, FinishBy, FinishUsingStyle, ForceDraw}
 use Rattle.indicatif_bar.specs.Lone.{LoneCall, Obey, Log, Clear}
-use Rattle.indicatif_bar.specs.declared.command.Change.{Change}
+use Rattle.indicatif_bar.specs.declared.state.commands.Change.{Change}
 
 -- ---- calls
 

@@ -75,8 +75,8 @@ pub trait Moves {
         None
     }
 
-    /// Whether threads that work on a list (`map_collect`, `for_each`) may move it within a block, by smaller steps; how many these are
-    /// is told nobody, since it depends on how the threads go on. Where they may not, it moves behind each block alone. A bar that tells
+    /// Whether threads that work on a list (`map_collect`, `for_each`) may move it within a block, by smaller steps; nobody
+    /// knows how many, since that depends on the threads. Where they may not, it moves behind each block alone. A bar that tells
     /// where it stands doesn't let them: so its moves are as many as its list has blocks.
     fn stops_within_blocks(&self) -> bool
         ensures { IfSome (stands self.now) (λ _. result ≡ false) }

@@ -15,7 +15,7 @@ ghost use Rattle.indicatif_bar.specs.Commands.{command_of};
 ghost use Rattle.indicatif_bar.specs.Finishes as Finish;
 ghost use Rattle.indicatif_bar.specs.Lone as Lone;
 ghost use Rattle.indicatif_bar.specs.Progress.{Progress};
-ghost use Rattle.indicatif_bar.specs.declared.command.Change.{Change as Changed};
+ghost use Rattle.indicatif_bar.specs.declared.state.commands.Change.{Change as Changed};
 ghost use Rattle.indicatif.specs.Fronts.{CanAnswer, CanDraw, CanTurn, IsMissing, MemoryOrForeign, unchanged};
 ghost use Rattle.indicatif.specs.Inside.LockedBar.{OwnerJoins};
 ghost use Rattle.indicatif.specs.Inside.PositionChange.{position_command};

@@ -14,8 +14,8 @@ use indicatif_text::columns::{Drawn, Refusal};
 ///   stream finishes it, by its stored finish;
 /// - bytes that were read, consumed or written place the bar behind them, and a seek places it at its target, as
 ///   `SeekMax<5, 10>` says, which keeps a bar from jumping with a reader that seeks back and forth;
-/// - an error, and a poll that is pending, leave the bar as it is, but for a polled read that failed: it places the bar behind no
-///   more bytes, as the Rust crate does, so that the position stays where no seek is remembered.
+/// - an error or a pending poll leaves the bar as it is. Only a polled read that fails places the bar, as a read of 0 bytes does, and
+///   as the Rust crate does: the position stays where no seek is remembered.
 ///
 /// What a draw answered is kept for `last_draw`, since an iterator has no place for it.
 ///

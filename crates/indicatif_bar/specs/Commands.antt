@@ -8,8 +8,8 @@ use Rattle.indicatif_bar.specs.Progress.{Progress, new_progress, is_finished, el
 use Rattle.indicatif_bar.specs.Tabs.{has_tab, is_some_text}
 use Rattle.indicatif_bar.specs.Trackers.{Tracking, changed_trackers}
 use Rattle.indicatif_bar.specs.Styles.{BarStyle}
-use Rattle.indicatif_bar.specs.declared.command.BarCommand.{BarCommand}
-use Rattle.indicatif_bar.specs.declared.command.BarCommand.TheVariants as told
+use Rattle.indicatif_bar.specs.declared.state.commands.BarCommand.{BarCommand}
+use Rattle.indicatif_bar.specs.declared.state.commands.BarCommand.TheVariants as told
 use Rattle.indicatif_bar.specs.Finishes.{BarFinish, AndClear, finish_of, finished_by, finish_takes_memory}
 
 pub record BarRecord (K : Type 0) : Type 0 where

@@ -1,11 +1,12 @@
 //! Plays files of rows: `rows FILE ..`. Each row that differs is printed, with its file and its line, what was wanted and what came.
 //! How many rows of each file agreed is told on standard error, so standard output is empty if all did.
 //!
-//! Files in a folder `front` are played over crate `indicatif`, all others over the four libraries below it.
+//! Files in a folder `front` are played over crate `indicatif`, all others over the four libraries below it, `bars_run` and
+//! `meter_parts`.
 //!
 //! The exit status is 1 if a row differed or a file had none, and 2 where a file can't be read or a stream fails.
 //!
-//! - `front`: what is played over `indicatif`. All that follows is played over the libraries below it.
+//! - `front`: what is played over `indicatif`. All that follows is played without it.
 //! - `world`: what is played on, and which module plays a step.
 //! - `lone`, `boards`: a lone bar and a board on a screen. `records`: a bar's record. `terminals`: a terminal before a screen.
 //! - `recorded`: a board that keeps its history.

@@ -11,7 +11,7 @@ use Rattle.indicatif_bar.specs.Commands.{BarRecord, Command, FinishUsingStyle}
 use Rattle.indicatif_bar.specs.Progress.{Progress, is_finished}
 use Rattle.indicatif_bar.specs.Lone.{LoneState, LoneCall, Obey}
 use Rattle.indicatif_bar.specs.LoneBars.{LoneIsIn, LoneLeadsBy, LoneSuspends, CallDone, record_of, lone_terminal}
-use Rattle.indicatif_bar.specs.declared.command.Change.{Change as Changed}
+use Rattle.indicatif_bar.specs.declared.state.commands.Change.{Change as Changed}
 use Rattle.indicatif_bar.specs.declared.lone.LoneBar.{LoneBar}
 use Rattle.indicatif_board.specs.Boards.{Drop}
 use Rattle.indicatif_board.specs.BoardValues.{id_of}

@@ -6,7 +6,7 @@ ghost use Rattle.indicatif_bar.specs.Commands.{Update, SetTicker, SetPosition, F
 ghost use Rattle.indicatif_bar.specs.Lone as Lone;
 ghost use Rattle.indicatif_bar.specs.LoneBars.{record_of};
 ghost use Rattle.indicatif_bar.specs.Progress.{eta, per_sec, duration, elapsed, is_finished};
-ghost use Rattle.indicatif_bar.specs.declared.command.Change.{Change as Changed};
+ghost use Rattle.indicatif_bar.specs.declared.state.commands.Change.{Change as Changed};
 ghost use Rattle.indicatif.specs.Fronts.{IsMissing, MemoryOrForeign};
 ghost use Rattle.indicatif.specs.Inside.AnyBar.{MadeBy, BarMakes, BarSuspends, BarEnds, BarTurns, IsOf, IsUnfinished, Measures};
 ghost use Rattle.indicatif.specs.Inside.LockedBar.{OwnerJoins, OwnerLeaves};

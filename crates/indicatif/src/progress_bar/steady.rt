@@ -54,8 +54,8 @@ impl<
     /// bar.disable_steady_tick()?;
     /// ```
     ///
-    /// Refused: `Memory`, where no thread can be started or the history of the bar's board finds none: the ticker that was installed
-    /// goes on then.
+    /// Refused: `Memory`, where no thread can be started or the history of the bar's board finds none; `NotMember`, where `tick` is, on a
+    /// board. The ticker that was installed goes on then.
     #[tactic(auto, using(crate::proofs::FrontLemmas::place_answers))]
     pub fn enable_steady_tick(&self, nanos: u64) -> Result<(), Refusal>
         ensures idle { nanos ≡ 0 → IsTrue (is_ok result) }
@@ -99,7 +99,8 @@ impl<T: TermLike + Drop, C: Clock + Drop, R: Wait + Clone + Drop, K: Tracks> Pro
 > {
     /// Stops the steady ticker. Its thread ends by itself; this doesn't wait for it.
     ///
-    /// Refused: `Memory`, if the history of the bar's board finds none. Then the installed ticker goes on.
+    /// Refused: `Memory`, if the history of the bar's board finds none; `NotMember`, where `tick` is, on a board. The installed ticker
+    /// goes on then.
     #[tactic(auto, using(crate::proofs::FrontLemmas::place_answers))]
     pub fn disable_steady_tick(&self) -> Result<(), Refusal>
         ensures { IfErr result (λ e. CanAnswer K (Lone.Obey (Command.SetTicker false)) (Err e)) }

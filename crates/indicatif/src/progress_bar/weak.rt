@@ -8,7 +8,7 @@ use std::alloc::{AllocError, Global};
 use std::fmt::{self, Debug, Formatter};
 use std::sync::{Arc, Wait};
 
-/// A bar that others own: this is no owner, so that the bar ends with its last one, and it is a bar again while owners are left.
+/// A reference that doesn't own its bar. While the bar has an owner, `upgrade` makes another one; the bar ends with its last owner.
 /// The bar's memory, its terminal among it, stays until this one is gone too.
 ///
 /// ```
@@ -47,7 +47,7 @@ impl<T: TermLike + Drop, C: Clock + Drop, R: Wait + Clone + Drop, K: Tracks> Wea
     R,
     K,
 > {
-    /// Of no bar: it is never one again.
+    /// A reference to no bar: `upgrade` always returns `None`.
     pub fn new() -> WeakProgressBar<T, C, R, K> {
         WeakProgressBar { of: None }
     }
@@ -59,7 +59,7 @@ impl<T: TermLike + Drop, C: Clock + Drop, R: Wait + Clone + Drop, K: Tracks> Wea
         }
     }
 
-    /// One owner more, exactly where the count of owners is above 0 and below 2^64 - 1.
+    /// Another owner of the bar; `None` exactly where it has no owner left, or 2^64 - 1 of them, or there is no bar.
     ///
     /// Refused: want of memory; nothing has changed then.
     pub fn upgrade(&self) -> Result<Option<ProgressBar<T, C, R, K>>, AllocError> {

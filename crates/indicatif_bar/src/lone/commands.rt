@@ -1,7 +1,7 @@
 //! What a bar that stands alone is told, and texts above it.
 ghost use Rattle.std.specs.Prelude.{◌≡◌, ◌<◌, Ok, Err, IsTrue, IsFalse, ◌↔◌, IfOk, IfErr, OnErr};
 ghost use Rattle.std.specs.Fn.{FnOnceReturnsAt};
-ghost use Rattle.indicatif_bar.specs.declared.command.Change.{Change as Changed};
+ghost use Rattle.indicatif_bar.specs.declared.state.commands.Change.{Change as Changed};
 ghost use Rattle.indicatif_bar.specs.Runs.{wrote};
 ghost use Rattle.indicatif_bar.specs.Finishes.{AndLeave, WithMessage, AndClear, Abandon, AbandonWithMessage, finish_of};
 ghost use Rattle.indicatif_bar.specs.Commands.{Tick, TickerTick, SetTicker, Inc, Dec, SetPosition, Update, SetLength, UnsetLength, IncLength, DecLength, SetMessage, SetPrefix, SetStyle};
@@ -163,7 +163,7 @@ impl<K: Tracks, T: TermLike + Drop> LoneBar<K, T> {
         self.obey(ask, now)
     }
 
-    /// The bar is finished where it stands, as where work is given up, and stays on the screen. A draw by force.
+    /// The bar is finished where it stands, for work that is given up, and stays on the screen. A draw by force.
     pub fn abandon(&mut self, now: Moment) -> Result<Drawn, Refusal>
         ensures { Obeys K.means T.view self.old self.new (FinishBy Abandon) now result }
     {
@@ -198,6 +198,8 @@ impl<K: Tracks, T: TermLike + Drop> LoneBar<K, T> {
     }
 
     /// Another message, and a draw. It shows only where the template has `{msg}` or `{wide_msg}`.
+    ///
+    /// Refused: `Memory`, only where the text isn't empty; nothing has changed then. Else as a draw.
     pub fn set_message(&mut self, text: &str, now: Moment) -> Result<Drawn, Refusal>
         ensures { ObeysOrNot K.means T.view self.old self.new (SetMessage text.now) now result }
     {
@@ -206,6 +208,8 @@ impl<K: Tracks, T: TermLike + Drop> LoneBar<K, T> {
     }
 
     /// Another prefix, and a draw. It shows only where the template has `{prefix}`.
+    ///
+    /// Refused: `Memory`, only where the text isn't empty; nothing has changed then. Else as a draw.
     pub fn set_prefix(&mut self, text: &str, now: Moment) -> Result<Drawn, Refusal>
         ensures { ObeysOrNot K.means T.view self.old self.new (SetPrefix text.now) now result }
     {
@@ -213,7 +217,9 @@ impl<K: Tracks, T: TermLike + Drop> LoneBar<K, T> {
         self.obey_unless(asked, now)
     }
 
-    /// Another style, with the bar's width of tabs. No draw is asked. A style that is refused is given up.
+    /// Another style, with the bar's width of tabs. No draw is asked.
+    ///
+    /// Refused: `Memory`, where the style has another width of tabs; nothing has changed then, and the style is given up.
     pub fn set_style(&mut self, style: ProgressStyle<K>, now: Moment) -> Result<Drawn, Refusal>
         ensures obeys { ObeysOrNot K.means T.view self.old self.new (SetStyle style) now result }
         ensures memory { IfErr result (λ e. (e ≡ Refusal.Memory)
@@ -243,6 +249,8 @@ impl<K: Tracks, T: TermLike + Drop> LoneBar<K, T> {
     }
 
     /// Another message, which shows only where the template has `{msg}` or `{wide_msg}`. No draw is asked.
+    ///
+    /// Refused: `Memory`, only where the text isn't empty; nothing has changed then.
     pub fn with_message(&mut self, text: &str, now: Moment) -> Result<Drawn, Refusal>
         ensures obeys { ObeysOrNot K.means T.view self.old self.new (PutMessage text.now) now result }
         ensures memory { IfErr result (λ e. (e ≡ Refusal.Memory)
@@ -255,6 +263,8 @@ impl<K: Tracks, T: TermLike + Drop> LoneBar<K, T> {
     }
 
     /// Another prefix, which shows only where the template has `{prefix}`. No draw is asked.
+    ///
+    /// Refused: `Memory`, only where the text isn't empty; nothing has changed then.
     pub fn with_prefix(&mut self, text: &str, now: Moment) -> Result<Drawn, Refusal>
         ensures obeys { ObeysOrNot K.means T.view self.old self.new (PutPrefix text.now) now result }
         ensures memory { IfErr result (λ e. (e ≡ Refusal.Memory)
@@ -267,6 +277,8 @@ impl<K: Tracks, T: TermLike + Drop> LoneBar<K, T> {
     }
 
     /// As many spaces for a tab, in the message, the prefix and the style. No draw is asked.
+    ///
+    /// Refused: `Memory`, only where the message or the prefix has a tab, or the style another width of tabs; nothing has changed then.
     pub fn with_tab_width(&mut self, tab: usize, now: Moment) -> Result<Drawn, Refusal>
         ensures obeys { ObeysOrNot K.means T.view self.old self.new (PutTabWidth tab) now result }
         ensures memory { IfErr result (λ e. (e ≡ Refusal.Memory)
@@ -279,6 +291,8 @@ impl<K: Tracks, T: TermLike + Drop> LoneBar<K, T> {
     }
 
     /// The same, and a draw by force.
+    ///
+    /// Refused: `Memory` as `with_tab_width`; nothing has changed then. Else as a draw.
     pub fn set_tab_width(&mut self, tab: usize, now: Moment) -> Result<Drawn, Refusal>
         ensures { ObeysOrNot K.means T.view self.old self.new (SetTabWidth tab) now result }
     {
@@ -316,6 +330,8 @@ impl<K: Tracks, T: TermLike + Drop> LoneBar<K, T> {
     }
 
     /// As `finish`, with this message, which shows only where the template has `{msg}` or `{wide_msg}`.
+    ///
+    /// Refused: `Memory`, only where the message isn't empty; nothing has changed then. Else as a draw.
     pub fn finish_with_message(&mut self, text: &str, now: Moment) -> Result<Drawn, Refusal>
         ensures { ObeysOrNot K.means T.view self.old self.new (FinishBy (WithMessage text.now)) now result }
     {
@@ -324,6 +340,8 @@ impl<K: Tracks, T: TermLike + Drop> LoneBar<K, T> {
     }
 
     /// As `abandon`, with this message.
+    ///
+    /// Refused: as `finish_with_message`.
     pub fn abandon_with_message(&mut self, text: &str, now: Moment) -> Result<Drawn, Refusal>
         ensures { ObeysOrNot K.means T.view self.old self.new (FinishBy (AbandonWithMessage text.now)) now result }
     {
@@ -332,6 +350,8 @@ impl<K: Tracks, T: TermLike + Drop> LoneBar<K, T> {
     }
 
     /// The bar is finished by the finish that `with_finish` stored, at first `AndClear`. A draw by force.
+    ///
+    /// Refused: `Memory`, only where that finish has a message that isn't empty; nothing has changed then. Else as a draw.
     pub fn finish_using_style(&mut self, now: Moment) -> Result<Drawn, Refusal>
         ensures { ObeysOrNot K.means T.view self.old self.new FinishUsingStyle now result }
     {
@@ -341,6 +361,8 @@ impl<K: Tracks, T: TermLike + Drop> LoneBar<K, T> {
 
     /// Writes the text's lines above the bar, by force. A line is ended by `\n` or `\r\n`; an empty text is one empty
     /// line; tabs stay as they are. The bar's lines are laid out anew. On a hidden target the text is dropped.
+    ///
+    /// Refused: as a draw.
     pub fn println(&mut self, text: &str, now: Moment) -> Result<Drawn, Refusal>
         ensures bar { record_of self.new ≡ record_of self.old }
         ensures silent { IsFalse (wrote result) → lone_terminal self.new ≡ lone_terminal self.old }

@@ -1,0 +1,615 @@
+//! What a bar can be told: each command as a value, and as a call of the bar's record.
+ghost use Rattle.std.specs.Prelude.{◌≡◌, ◌<◌, ◌↔◌, ◌⊎◌, OnErr, IfOk, IfErr, IsTrue, IsFalse};
+ghost use Rattle.std.specs.Fn.{FnOnceReturnsAt};
+ghost use Rattle.indicatif_bar.specs.Progress.{is_finished};
+ghost use Rattle.indicatif_bar.specs.declared.state.commands.Change.{Change};
+ghost use Rattle.indicatif_bar.specs.Commands.{Tick, TickerTick, SetTicker, Inc, Dec, SetPosition, Update, SetLength, UnsetLength, IncLength, DecLength, SetMessage, SetPrefix, SetStyle};
+ghost use Rattle.indicatif_bar.specs.Commands.{PutPosition, PutMessage, PutPrefix, PutFinish, PutTabWidth, SetTabWidth, SetElapsed, ResetEta, ResetElapsed, Reset, FinishBy, FinishUsingStyle};
+ghost use Rattle.indicatif_bar.specs.Commands.{ForceDraw, obeyed, after_drop, command_of, copy_takes_memory, is_beyond_clock, takes_memory, update, with_length, redraw_ask};
+ghost use Rattle.indicatif_bar.specs.Finishes.{AndLeave, WithMessage, AndClear, Abandon, AbandonWithMessage, finish_of};
+
+use crate::ask::Ask;
+use crate::finish::{ProgressFinish, same_text};
+use crate::progress::{ProgressState, Status};
+use crate::state::BarState;
+use crate::style::ProgressStyle;
+use crate::tracker::Tracks;
+use indicatif_text::columns::{Moment, Refusal};
+use std::alloc::Global;
+
+/// What is to be set of a bar's position and length; what is `None` stays.
+///
+/// ```
+/// let change = Change { pos: Some(3), len: Some(4) };
+/// bar.apply(BarCommand::Update(change), 0)?; // three of four steps are done then
+/// ```
+#[derive(Clone, Copy, Debug, Default, Drop, PartialEq, Eq)]
+pub struct Change {
+    /// The new position.
+    pub pos: Option<u64>,
+    /// The new length.
+    pub len: Option<u64>,
+}
+
+/// A command of a bar as a value. Each is the call of `BarState` with its name, but `Update` is `set_change` and `Finish` is
+/// `finish_by`; `with_style` and `with_elapsed` are `SetStyle` and `SetElapsed`.
+///
+/// ```
+/// let ask = bar.apply(BarCommand::Inc(2), now)?; // as `bar.inc(2, now)`
+/// ```
+#[derive(Drop)]
+pub enum BarCommand<K> {
+    /// A tick, unless a steady ticker is installed.
+    Tick,
+    /// A steady ticker's own tick.
+    TickerTick,
+    /// A steady ticker is installed, or is not.
+    SetTicker(bool),
+    /// The position goes up, modulo 2^64.
+    Inc(u64),
+    /// The position goes down, modulo 2^64.
+    Dec(u64),
+    /// Another position.
+    SetPosition(u64),
+    /// Another position and another length, each if there is one.
+    Update(Change),
+    /// Another length.
+    SetLength(u64),
+    /// No length.
+    UnsetLength,
+    /// A longer length, up to 2^64 - 1, where there is one.
+    IncLength(u64),
+    /// A shorter length, down to 0, where there is one.
+    DecLength(u64),
+    /// Another message, and a draw.
+    SetMessage(String),
+    /// Another prefix, and a draw.
+    SetPrefix(String),
+    /// Another style.
+    SetStyle(ProgressStyle<K>),
+    /// Another position, and no draw.
+    WithPosition(u64),
+    /// Another message, and no draw.
+    WithMessage(String),
+    /// Another prefix, and no draw.
+    WithPrefix(String),
+    /// What finishes the bar when it is dropped, or by `FinishUsingStyle`.
+    WithFinish(ProgressFinish),
+    /// So many spaces for a tab, and no draw.
+    WithTabWidth(usize),
+    /// So many spaces for a tab, and a draw by force.
+    SetTabWidth(usize),
+    /// So many nanoseconds have passed since the start.
+    SetElapsed(u64),
+    /// The rate is counted from now.
+    ResetEta,
+    /// The rate and the time are counted from now.
+    ResetElapsed,
+    /// All is counted from now, from position 0.
+    Reset,
+    /// The bar is finished.
+    Finish(ProgressFinish),
+    /// The bar is finished by what `WithFinish` stored.
+    FinishUsingStyle,
+    /// A draw by force.
+    ForceDraw,
+}
+
+impl<K: Tracks> BarCommand<K> {
+    /// Another command, equal to this one.
+    ///
+    /// ```
+    /// let again = command.try_clone(alloc)?;
+    /// ```
+    ///
+    /// Refused: `Memory`, only where it has a style, or a text that isn't empty.
+    pub fn try_clone(&self, alloc: Global) -> Result<BarCommand<K>, Refusal>
+        ensures same { IfOk result (λ other. command_of other ≡ command_of self.now) }
+        ensures memory { IfErr result (λ e. (e ≡ Refusal.Memory) × IsTrue (copy_takes_memory (command_of self.now))) }
+    {
+        Ok(match self {
+            BarCommand::Tick => BarCommand::Tick,
+            BarCommand::TickerTick => BarCommand::TickerTick,
+            BarCommand::SetTicker(installed) => BarCommand::SetTicker(*installed),
+            BarCommand::Inc(delta) => BarCommand::Inc(*delta),
+            BarCommand::Dec(delta) => BarCommand::Dec(*delta),
+            BarCommand::SetPosition(position) => BarCommand::SetPosition(*position),
+            BarCommand::Update(change) => BarCommand::Update(*change),
+            BarCommand::SetLength(len) => BarCommand::SetLength(*len),
+            BarCommand::UnsetLength => BarCommand::UnsetLength,
+            BarCommand::IncLength(delta) => BarCommand::IncLength(*delta),
+            BarCommand::DecLength(delta) => BarCommand::DecLength(*delta),
+            BarCommand::SetMessage(text) => BarCommand::SetMessage(same_text(alloc, text)?),
+            BarCommand::SetPrefix(text) => BarCommand::SetPrefix(same_text(alloc, text)?),
+            BarCommand::SetStyle(style) => BarCommand::SetStyle(style.try_clone()?),
+            BarCommand::WithPosition(position) => BarCommand::WithPosition(*position),
+            BarCommand::WithMessage(text) => BarCommand::WithMessage(same_text(alloc, text)?),
+            BarCommand::WithPrefix(text) => BarCommand::WithPrefix(same_text(alloc, text)?),
+            BarCommand::WithFinish(finish) => BarCommand::WithFinish(finish.try_clone(alloc)?),
+            BarCommand::WithTabWidth(tab) => BarCommand::WithTabWidth(*tab),
+            BarCommand::SetTabWidth(tab) => BarCommand::SetTabWidth(*tab),
+            BarCommand::SetElapsed(nanos) => BarCommand::SetElapsed(*nanos),
+            BarCommand::ResetEta => BarCommand::ResetEta,
+            BarCommand::ResetElapsed => BarCommand::ResetElapsed,
+            BarCommand::Reset => BarCommand::Reset,
+            BarCommand::Finish(finish) => BarCommand::Finish(finish.try_clone(alloc)?),
+            BarCommand::FinishUsingStyle => BarCommand::FinishUsingStyle,
+            BarCommand::ForceDraw => BarCommand::ForceDraw,
+        })
+    }
+}
+
+impl<K: Tracks> BarState<K> {
+    /// One more tick, unless a steady ticker is installed: then nothing changes and no draw is asked.
+    pub fn tick(&mut self, now: Moment) -> Ask
+        ensures { (self.new, result) ≡ obeyed K.means Tick self.old now }
+    {
+        if self.ticker {
+            return Ask::No;
+        }
+        self.ticker_tick(now)
+    }
+
+    /// A steady ticker's own tick: one more tick, up to 2^64 - 1, and a draw.
+    pub fn ticker_tick(&mut self, now: Moment) -> Ask
+        ensures { (self.new, result) ≡ obeyed K.means TickerTick self.old now }
+    {
+        self.progress.count_tick();
+        self.update_draw(now)
+    }
+
+    /// Records the position with the rate, ticks the trackers, and asks a draw.
+    fn update_draw(&mut self, now: Moment) -> Ask
+        ensures { (self.new, result) ≡ update K.means self.old now }
+    {
+        self.progress.record_position(now);
+        self.style.tick_trackers(&self.progress, now);
+        self.asked()
+    }
+
+    /// A draw, which is forced where the bar is finished.
+    fn asked(&self) -> Ask
+        ensures { result ≡ redraw_ask self.now }
+    {
+        if self.progress.is_finished() {
+            return Ask::Forced;
+        }
+        Ask::Unforced
+    }
+
+    /// From now on a steady ticker is installed, or none is; while one is, `tick` changes nothing. No draw is asked.
+    pub fn set_ticker(&mut self, installed: bool, now: Moment) -> Ask
+        ensures { (self.new, result) ≡ obeyed K.means (SetTicker installed) self.old now }
+    {
+        self.ticker = installed;
+        Ask::No
+    }
+
+    /// The position goes up by `delta`, modulo 2^64. It is looked at, as by a tick, as often as the position's limiter
+    /// allows: 10 times at once, and once more each millisecond, where moments don't go back.
+    #[inline(always)]
+    pub fn inc(&mut self, delta: u64, now: Moment) -> Ask
+        ensures { (self.new, result) ≡ obeyed K.means (Inc delta) self.old now }
+    {
+        let position = self.progress.pos().wrapping_add(delta);
+        self.set_position(position, now)
+    }
+
+    /// The position goes down by `delta`, modulo 2^64; else as `inc`.
+    #[inline(always)]
+    pub fn dec(&mut self, delta: u64, now: Moment) -> Ask
+        ensures { (self.new, result) ≡ obeyed K.means (Dec delta) self.old now }
+    {
+        let position = self.progress.pos().wrapping_sub(delta);
+        self.set_position(position, now)
+    }
+
+    /// Another position; else as `inc`.
+    #[inline(always)]
+    pub fn set_position(&mut self, position: u64, now: Moment) -> Ask
+        ensures { (self.new, result) ≡ obeyed K.means (SetPosition position) self.old now }
+    {
+        self.progress.set_pos(position);
+        if self.limiter.is_early(now) {
+            return Ask::No;
+        }
+        self.look(now)
+    }
+
+    /// Looks at the position, if its limiter allows it.
+    #[inline(never)]
+    fn look(&mut self, now: Moment) -> Ask
+        ensures { (self.new, result) ≡ obeyed K.means (SetPosition self.old.progress.position) self.old now }
+    {
+        if self.limiter.allow(now) {
+            return self.tick(now);
+        }
+        Ask::No
+    }
+
+    /// What workers have counted is added to the position; as `inc`.
+    #[inline(always)]
+    pub fn absorb(&mut self, sum: u64, now: Moment) -> Ask
+        ensures { (self.new, result) ≡ obeyed K.means (Inc sum) self.old now }
+    {
+        self.inc(sum, now)
+    }
+
+    /// Sets what the closure answers of the state that it is shown; then as `tick`.
+    pub fn update<F: FnOnce(&ProgressState) -> Change>(&mut self, f: F, now: Moment) -> Ask
+        requires { F.IsAlwaysCallable f }
+        ensures { (change : Change) × FnOnceReturnsAt F.FnOnce f self.old.progress change
+            × ((self.new, result) ≡ obeyed K.means (Update change.pos change.len) self.old now) }
+    {
+        let change = f(&self.progress);
+        self.set_change(change, now)
+    }
+
+    /// Sets a position and a length, each if there is one; then as `tick`.
+    pub fn set_change(&mut self, change: Change, now: Moment) -> Ask
+        ensures { (self.new, result) ≡ obeyed K.means (Update change.pos change.len) self.old now }
+    {
+        if let Some(position) = change.pos {
+            self.progress.set_pos(position);
+        }
+        if let Some(len) = change.len {
+            self.progress.set_len(len);
+        }
+        self.tick(now)
+    }
+
+    /// Another length, and a draw: the position is recorded with the rate, and the trackers tick.
+    pub fn set_length(&mut self, len: u64, now: Moment) -> Ask
+        ensures { (self.new, result) ≡ obeyed K.means (SetLength len) self.old now }
+    {
+        self.put_length(Some(len), now)
+    }
+
+    /// No length: the bar is empty, and `{len}` shows the position; else as `set_length`.
+    pub fn unset_length(&mut self, now: Moment) -> Ask
+        ensures { (self.new, result) ≡ obeyed K.means UnsetLength self.old now }
+    {
+        self.put_length(None, now)
+    }
+
+    /// A length that is longer by `delta`, up to 2^64 - 1; else as `set_length`. Where there is none, there stays none.
+    pub fn inc_length(&mut self, delta: u64, now: Moment) -> Ask
+        ensures { (self.new, result) ≡ obeyed K.means (IncLength delta) self.old now }
+    {
+        let len = self.progress.len().map(|len| len.saturating_add(delta));
+        self.put_length(len, now)
+    }
+
+    /// A length that is shorter by `delta`, down to 0; else as `set_length`. Where there is none, there stays none.
+    pub fn dec_length(&mut self, delta: u64, now: Moment) -> Ask
+        ensures { (self.new, result) ≡ obeyed K.means (DecLength delta) self.old now }
+    {
+        let len = self.progress.len().map(|len| len.saturating_sub(delta));
+        self.put_length(len, now)
+    }
+
+    /// This length or none, and a draw.
+    fn put_length(&mut self, len: Option<u64>, now: Moment) -> Ask
+        ensures { (self.new, result) ≡ with_length K.means len self.old now }
+    {
+        self.progress.put_len(len);
+        self.update_draw(now)
+    }
+
+    /// Another message, which shows only where the template has `{msg}` or `{wide_msg}`; else as `set_length`.
+    ///
+    /// Refused: `Memory`, only where the text isn't empty; nothing has changed then.
+    pub fn set_message(&mut self, text: &str, now: Moment) -> Result<Ask, Refusal>
+        ensures done { IfOk result (λ ask. (self.new, ask) ≡ obeyed K.means (SetMessage text.now) self.old now) }
+        ensures unchanged { OnErr result (self.new ≡ self.old) }
+        ensures memory { IfErr result (λ e. (e ≡ Refusal.Memory)
+            × IsTrue (takes_memory (SetMessage text.now) self.old)) }
+    {
+        self.progress.set_message(text)?;
+        Ok(self.update_draw(now))
+    }
+
+    /// Another prefix, which shows only where the template has `{prefix}`; else as `set_length`.
+    ///
+    /// Refused: `Memory`, only where the text isn't empty; nothing has changed then.
+    pub fn set_prefix(&mut self, text: &str, now: Moment) -> Result<Ask, Refusal>
+        ensures done { IfOk result (λ ask. (self.new, ask) ≡ obeyed K.means (SetPrefix text.now) self.old now) }
+        ensures unchanged { OnErr result (self.new ≡ self.old) }
+        ensures memory { IfErr result (λ e. (e ≡ Refusal.Memory)
+            × IsTrue (takes_memory (SetPrefix text.now) self.old)) }
+    {
+        self.progress.set_prefix(text)?;
+        Ok(self.update_draw(now))
+    }
+
+    /// Another style, with the bar's width of tabs. No draw is asked.
+    ///
+    /// Refused: `Memory`, where the style has another width of tabs; nothing has changed then, and the style is given up.
+    pub fn set_style(&mut self, style: ProgressStyle<K>, now: Moment) -> Result<Ask, Refusal>
+        ensures done { IfOk result (λ ask. (self.new, ask) ≡ obeyed K.means (SetStyle style) self.old now) }
+        ensures unchanged { OnErr result (self.new ≡ self.old) }
+        ensures memory { IfErr result (λ e. (e ≡ Refusal.Memory)
+            × IsTrue (takes_memory (SetStyle style) self.old)) }
+    {
+        let mut style = style;
+        style.set_tab_width(self.progress.tab_width())?;
+        self.style = style;
+        Ok(Ask::No)
+    }
+
+    /// As `set_style`.
+    pub fn with_style(&mut self, style: ProgressStyle<K>, now: Moment) -> Result<Ask, Refusal>
+        ensures done { IfOk result (λ ask. (self.new, ask) ≡ obeyed K.means (SetStyle style) self.old now) }
+        ensures unchanged { OnErr result (self.new ≡ self.old) }
+        ensures memory { IfErr result (λ e. (e ≡ Refusal.Memory)
+            × IsTrue (takes_memory (SetStyle style) self.old)) }
+    {
+        self.set_style(style, now)
+    }
+
+    /// Another position. No draw is asked, and the rate doesn't count it.
+    pub fn with_position(&mut self, position: u64, now: Moment) -> Ask
+        ensures { (self.new, result) ≡ obeyed K.means (PutPosition position) self.old now }
+    {
+        self.progress.set_pos(position);
+        Ask::No
+    }
+
+    /// Another message, which shows only where the template has `{msg}` or `{wide_msg}`. No draw is asked.
+    ///
+    /// Refused: `Memory`, only where the text isn't empty; nothing has changed then.
+    pub fn with_message(&mut self, text: &str, now: Moment) -> Result<Ask, Refusal>
+        ensures done { IfOk result (λ ask. (self.new, ask) ≡ obeyed K.means (PutMessage text.now) self.old now) }
+        ensures unchanged { OnErr result (self.new ≡ self.old) }
+        ensures memory { IfErr result (λ e. (e ≡ Refusal.Memory)
+            × IsTrue (takes_memory (PutMessage text.now) self.old)) }
+    {
+        self.progress.set_message(text)?;
+        Ok(Ask::No)
+    }
+
+    /// Another prefix, which shows only where the template has `{prefix}`. No draw is asked.
+    ///
+    /// Refused: `Memory`, only where the text isn't empty; nothing has changed then.
+    pub fn with_prefix(&mut self, text: &str, now: Moment) -> Result<Ask, Refusal>
+        ensures done { IfOk result (λ ask. (self.new, ask) ≡ obeyed K.means (PutPrefix text.now) self.old now) }
+        ensures unchanged { OnErr result (self.new ≡ self.old) }
+        ensures memory { IfErr result (λ e. (e ≡ Refusal.Memory)
+            × IsTrue (takes_memory (PutPrefix text.now) self.old)) }
+    {
+        self.progress.set_prefix(text)?;
+        Ok(Ask::No)
+    }
+
+    /// What finishes the bar when its owner is gone, or by `finish_using_style`.
+    pub fn with_finish(&mut self, finish: ProgressFinish, now: Moment) -> Ask
+        ensures { (self.new, result) ≡ obeyed K.means (PutFinish (finish_of finish)) self.old now }
+    {
+        self.on_finish = finish;
+        Ask::No
+    }
+
+    /// As many spaces for a tab, in the message, the prefix and the style. No draw is asked.
+    ///
+    /// Refused: `Memory`, only where the message or the prefix has a tab, or the style another width of tabs; nothing has changed
+    /// then.
+    pub fn with_tab_width(&mut self, tab: usize, now: Moment) -> Result<Ask, Refusal>
+        ensures done { IfOk result (λ ask. (self.new, ask) ≡ obeyed K.means (PutTabWidth tab) self.old now) }
+        ensures unchanged { OnErr result (self.new ≡ self.old) }
+        ensures memory { IfErr result (λ e. (e ≡ Refusal.Memory)
+            × IsTrue (takes_memory (PutTabWidth tab) self.old)) }
+    {
+        let widened = self.progress.widened(tab)?;
+        self.style.set_tab_width(tab)?;
+        self.progress.put_tab_width(widened);
+        Ok(Ask::No)
+    }
+
+    /// The same, and a draw by force.
+    ///
+    /// Refused: as `with_tab_width`; nothing has changed then.
+    pub fn set_tab_width(&mut self, tab: usize, now: Moment) -> Result<Ask, Refusal>
+        ensures done { IfOk result (λ ask. (self.new, ask) ≡ obeyed K.means (SetTabWidth tab) self.old now) }
+        ensures unchanged { OnErr result (self.new ≡ self.old) }
+        ensures memory { IfErr result (λ e. (e ≡ Refusal.Memory)
+            × IsTrue (takes_memory (SetTabWidth tab) self.old)) }
+    {
+        self.with_tab_width(tab, now)?;
+        Ok(Ask::Forced)
+    }
+
+    /// So many nanoseconds have passed since the start. No draw is asked.
+    ///
+    /// Refused: `ElapsedBeyondClock`, exactly where they are more than the moment; nothing has changed then.
+    pub fn set_elapsed(&mut self, nanos: u64, now: Moment) -> Result<Ask, Refusal>
+        ensures done { IfOk result (λ ask. (self.new, ask) ≡ obeyed K.means (SetElapsed nanos) self.old now) }
+        ensures unchanged { OnErr result (self.new ≡ self.old) }
+        ensures beyond { (result ≡ Err Refusal.ElapsedBeyondClock) ↔ (now < nanos) }
+        ensures no_other { IfErr result (λ e. e ≡ Refusal.ElapsedBeyondClock) }
+    {
+        if now < nanos {
+            return Err(Refusal::ElapsedBeyondClock);
+        }
+        self.progress.put_start(now - nanos);
+        Ok(Ask::No)
+    }
+
+    /// As `set_elapsed`.
+    pub fn with_elapsed(&mut self, nanos: u64, now: Moment) -> Result<Ask, Refusal>
+        ensures done { IfOk result (λ ask. (self.new, ask) ≡ obeyed K.means (SetElapsed nanos) self.old now) }
+        ensures unchanged { OnErr result (self.new ≡ self.old) }
+        ensures beyond { (result ≡ Err Refusal.ElapsedBeyondClock) ↔ (now < nanos) }
+        ensures no_other { IfErr result (λ e. e ≡ Refusal.ElapsedBeyondClock) }
+    {
+        self.set_elapsed(nanos, now)
+    }
+
+    /// The rate is counted from this moment on. No draw is asked.
+    pub fn reset_eta(&mut self, now: Moment) -> Ask
+        ensures { (self.new, result) ≡ obeyed K.means ResetEta self.old now }
+    {
+        self.progress.reset_rate(now);
+        Ask::No
+    }
+
+    /// The rate and the time are counted from this moment on. No draw is asked.
+    pub fn reset_elapsed(&mut self, now: Moment) -> Ask
+        ensures { (self.new, result) ≡ obeyed K.means ResetElapsed self.old now }
+    {
+        self.progress.reset_rate(now);
+        self.progress.put_start(now);
+        Ask::No
+    }
+
+    /// The bar goes on from position 0, with its rate and its time counted from this moment on; its trackers are reset. A
+    /// draw is asked.
+    pub fn reset(&mut self, now: Moment) -> Ask
+        ensures { (self.new, result) ≡ obeyed K.means Reset self.old now }
+    {
+        self.progress.reset(now);
+        self.limiter.reset(now);
+        self.style.reset_trackers(&self.progress, now);
+        self.asked()
+    }
+
+    /// The bar is finished at its length, where it has one, and stays on the screen. A draw is forced.
+    pub fn finish(&mut self, now: Moment) -> Ask
+        ensures { (self.new, result) ≡ obeyed K.means (FinishBy AndLeave) self.old now }
+    {
+        self.progress.finish(Status::DoneVisible, now);
+        Ask::Forced
+    }
+
+    /// The same, with this message.
+    ///
+    /// Refused: `Memory`, only where the message isn't empty; nothing has changed then.
+    pub fn finish_with_message(&mut self, text: &str, now: Moment) -> Result<Ask, Refusal>
+        ensures done { IfOk result (λ ask. (self.new, ask) ≡ obeyed K.means (FinishBy (WithMessage text.now)) self.old now) }
+        ensures unchanged { OnErr result (self.new ≡ self.old) }
+        ensures memory { IfErr result (λ e. (e ≡ Refusal.Memory)
+            × IsTrue (takes_memory (FinishBy (WithMessage text.now)) self.old)) }
+    {
+        self.progress.set_message(text)?;
+        Ok(self.finish(now))
+    }
+
+    /// The bar is finished at its length, where it has one, and goes from the screen: it has no lines from then on. A draw is forced.
+    pub fn finish_and_clear(&mut self, now: Moment) -> Ask
+        ensures { (self.new, result) ≡ obeyed K.means (FinishBy AndClear) self.old now }
+    {
+        self.progress.finish(Status::DoneHidden, now);
+        Ask::Forced
+    }
+
+    /// The bar is finished where it stands, for work that is given up, and stays on the screen. A draw is forced.
+    pub fn abandon(&mut self, now: Moment) -> Ask
+        ensures { (self.new, result) ≡ obeyed K.means (FinishBy Abandon) self.old now }
+    {
+        self.progress.abandon(now);
+        Ask::Forced
+    }
+
+    /// The same, with this message.
+    ///
+    /// Refused: `Memory`, only where the message isn't empty; nothing has changed then.
+    pub fn abandon_with_message(&mut self, text: &str, now: Moment) -> Result<Ask, Refusal>
+        ensures done { IfOk result (λ ask. (self.new, ask) ≡ obeyed K.means (FinishBy (AbandonWithMessage text.now)) self.old now) }
+        ensures unchanged { OnErr result (self.new ≡ self.old) }
+        ensures memory { IfErr result (λ e. (e ≡ Refusal.Memory)
+            × IsTrue (takes_memory (FinishBy (AbandonWithMessage text.now)) self.old)) }
+    {
+        self.progress.set_message(text)?;
+        Ok(self.abandon(now))
+    }
+
+    /// The bar is finished so. A draw is forced.
+    ///
+    /// Refused: `Memory`, only where the finish has a message that isn't empty; nothing has changed then.
+    pub fn finish_by(&mut self, finish: &ProgressFinish, now: Moment) -> Result<Ask, Refusal>
+        ensures done { IfOk result (λ ask. (self.new, ask) ≡ obeyed K.means (FinishBy (finish_of finish.now)) self.old now) }
+        ensures unchanged { OnErr result (self.new ≡ self.old) }
+        ensures memory { IfErr result (λ e. (e ≡ Refusal.Memory)
+            × IsTrue (takes_memory (FinishBy (finish_of finish.now)) self.old)) }
+    {
+        self.progress.finish_by(finish, now)?;
+        Ok(Ask::Forced)
+    }
+
+    /// The bar is finished by the finish that `with_finish` stored, at first `AndClear`. A draw is forced.
+    ///
+    /// Refused: `Memory`, only where that finish has a message that isn't empty; nothing has changed then.
+    pub fn finish_using_style(&mut self, now: Moment) -> Result<Ask, Refusal>
+        ensures done { IfOk result (λ ask. (self.new, ask) ≡ obeyed K.means FinishUsingStyle self.old now) }
+        ensures unchanged { OnErr result (self.new ≡ self.old) }
+        ensures memory { IfErr result (λ e. (e ≡ Refusal.Memory)
+            × IsTrue (takes_memory FinishUsingStyle self.old)) }
+    {
+        self.progress.finish_by(&self.on_finish, now)?;
+        Ok(Ask::Forced)
+    }
+
+    /// The bar's owner is gone: one that isn't finished is finished by its stored finish, and a draw is forced; else nothing
+    /// changes and no draw is asked.
+    ///
+    /// Refused: `Memory`, only where it is to be finished with a message that isn't empty; nothing has changed then.
+    pub fn dropped(&mut self, now: Moment) -> Result<Ask, Refusal>
+        ensures done { IfOk result (λ ask. (self.new, ask) ≡ after_drop self.old now) }
+        ensures unchanged { OnErr result (self.new ≡ self.old) }
+        ensures memory { IfErr result (λ e. (e ≡ Refusal.Memory) × IsFalse (is_finished self.old.progress)
+            × IsTrue (takes_memory FinishUsingStyle self.old)) }
+    {
+        if self.progress.is_finished() {
+            return Ok(Ask::No);
+        }
+        self.finish_using_style(now)
+    }
+
+    /// Changes nothing; a draw is forced.
+    pub fn force_draw(&mut self, now: Moment) -> Ask
+        ensures { (self.new, result) ≡ obeyed K.means ForceDraw self.old now }
+    {
+        Ask::Forced
+    }
+
+    /// Does what the command says: the call that `BarCommand` names.
+    ///
+    /// Refused: `ElapsedBeyondClock`, exactly where an elapsed time is more than the moment; `Memory`, where the command takes
+    /// some. Nothing has changed then.
+    pub fn apply(&mut self, command: BarCommand<K>, now: Moment) -> Result<Ask, Refusal>
+        ensures done { IfOk result (λ ask. (self.new, ask) ≡ obeyed K.means (command_of command) self.old now) }
+        ensures unchanged { OnErr result (self.new ≡ self.old) }
+        ensures beyond { (result ≡ Err Refusal.ElapsedBeyondClock) ↔ IsTrue (is_beyond_clock (command_of command) now) }
+        ensures memory { result ≡ Err Refusal.Memory → IsTrue (takes_memory (command_of command) self.old) }
+        ensures no_other { IfErr result (λ e. (e ≡ Refusal.ElapsedBeyondClock) ⊎ (e ≡ Refusal.Memory)) }
+    {
+        match command {
+            BarCommand::Tick => Ok(self.tick(now)),
+            BarCommand::TickerTick => Ok(self.ticker_tick(now)),
+            BarCommand::SetTicker(installed) => Ok(self.set_ticker(installed, now)),
+            BarCommand::Inc(delta) => Ok(self.inc(delta, now)),
+            BarCommand::Dec(delta) => Ok(self.dec(delta, now)),
+            BarCommand::SetPosition(position) => Ok(self.set_position(position, now)),
+            BarCommand::Update(change) => Ok(self.set_change(change, now)),
+            BarCommand::SetLength(len) => Ok(self.set_length(len, now)),
+            BarCommand::UnsetLength => Ok(self.unset_length(now)),
+            BarCommand::IncLength(delta) => Ok(self.inc_length(delta, now)),
+            BarCommand::DecLength(delta) => Ok(self.dec_length(delta, now)),
+            BarCommand::SetMessage(text) => self.set_message(text.as_str(), now),
+            BarCommand::SetPrefix(text) => self.set_prefix(text.as_str(), now),
+            BarCommand::SetStyle(style) => self.set_style(style, now),
+            BarCommand::WithPosition(position) => Ok(self.with_position(position, now)),
+            BarCommand::WithMessage(text) => self.with_message(text.as_str(), now),
+            BarCommand::WithPrefix(text) => self.with_prefix(text.as_str(), now),
+            BarCommand::WithFinish(finish) => Ok(self.with_finish(finish, now)),
+            BarCommand::WithTabWidth(tab) => self.with_tab_width(tab, now),
+            BarCommand::SetTabWidth(tab) => self.set_tab_width(tab, now),
+            BarCommand::SetElapsed(nanos) => self.set_elapsed(nanos, now),
+            BarCommand::ResetEta => Ok(self.reset_eta(now)),
+            BarCommand::ResetElapsed => Ok(self.reset_elapsed(now)),
+            BarCommand::Reset => Ok(self.reset(now)),
+            BarCommand::Finish(finish) => self.finish_by(&finish, now),
+            BarCommand::FinishUsingStyle => self.finish_using_style(now),
+            BarCommand::ForceDraw => Ok(self.force_draw(now)),
+        }
+    }
+}
