@@ -577,6 +577,10 @@ def blocks(text):
         yield language, lines
 
 
+# What stands in the place of a contract that isn't there.
+MISSING = "// nothing: "
+
+
 def contract(path, call):
     """The head of a call and its clauses, as they stand in a file."""
     owner, _, name = call.rpartition("::")
@@ -592,7 +596,7 @@ def contract(path, call):
             found = [it[indent:].rstrip() for it in lines[start : end + 1]]
             found[-1] = found[-1].rstrip("{").rstrip()
             return [it for it in found if it]
-    return [f"// {path} has no {call}"]
+    return [f"{MISSING}{path} has no {call}"]
 
 
 def renewed(text):
@@ -731,6 +735,8 @@ def faults_of_blocks():
         if name.endswith(".md") and renewed(text) != text:
             yield f"{name} quotes another contract than the sources have: run tools/pages.py --write"
         for language, lines in blocks(text):
+            if lines and lines[0].startswith(MISSING):
+                yield f"{name}: {lines[0].removeprefix(MISSING)}"
             if not known.has(language, lines):
                 yield f"{name}: this block stands in no source: {(bare(lines, False) or ['(empty)'])[0]}"
 

@@ -1,10 +1,10 @@
 //! Boards that threads share and that keep their history: a fresh board that makes the calls that were kept gives the same answers and
 //! the same picture.
 use crate::checks::Granted;
-use crate::fronts::{Shared, bar_on, recorded};
+use crate::fronts::{Bar, Shared, bar_on, recorded};
 use crate::recordings::{Kind, counted, is_one_run};
 use crate::ticking::{tick_off, ticks_on, waits};
-use indicatif::Drawn;
+use indicatif::{Drawn, ProgressFinish, Refusal};
 use std::alloc::Global;
 use std::process::Abort;
 use std::sync::Wait;
@@ -90,4 +90,37 @@ fn a_pause_beside_a_ticker(rt: HostRuntime) {
     is_one_run(*rt, &board, alloc);
     let text = format!(in alloc; "{board:?}").granted(rt);
     same!(rt; text.as_str(), "MultiProgress");
+}
+
+// ---- two boards of one id
+
+const LOST: Option<Refusal> = Some(Refusal::NotMember);
+
+/// Another owner of a bar, which a builder gives up.
+fn owner<R: Wait + Copy + Clone + Drop + Abort>(rt: &R, bar: &Bar<R>) -> Bar<R> {
+    bar.clone().expect(rt, "granted")
+}
+
+/// The board of this bar hasn't it: what the bar is told is refused, also where no draw is asked.
+fn is_lost<R: Wait + Copy + Clone + Drop + Abort>(rt: &R, bar: &Bar<R>) {
+    same!(rt; bar.tick().err(), LOST);
+    same!(rt; owner(rt, bar).with_position(3).err(), LOST);
+    same!(rt; owner(rt, bar).with_finish(ProgressFinish::AndLeave).err(), LOST);
+    same!(rt; bar.message().err(), LOST);
+    same!(rt; (bar.position(), bar.length()), (0, None));
+    same!(rt; (bar.is_finished(), bar.tab_width()), (true, 8));
+}
+
+/// A removal of the other board's bar takes out the bar here that has its number.
+#[test]
+fn a_bar_that_its_board_has_lost(rt: HostRuntime) {
+    let rt = &rt;
+    let alloc = rt.alloc();
+    let (board, twin) = (recorded(*rt, alloc), recorded(*rt, alloc));
+    let bar = bar_on(&board, *rt, alloc, "a");
+    let other = bar_on(&twin, *rt, alloc, "b");
+    same!(rt; board.remove(&other), Ok(()));
+    is_lost(rt, &bar);
+    same!(rt; bar.enable_steady_tick(1_000_000_000).err(), LOST);
+    same!(rt; board.add(bar).err(), Some(Refusal::ForeignBar));
 }

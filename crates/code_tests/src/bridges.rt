@@ -100,7 +100,26 @@ fn in_own_form<R: Wait + Copy + Clone + Drop + Abort>(rt: R, board: &Shared<R>) 
     log_each_level(&Logged::new(*rt, Level::Trace, bridge));
 }
 
-/// A record that a filter drops isn't missed. A line has the form of its bridge.
+/// A form that finds no memory for a line.
+#[derive(Drop)]
+struct NoRoom;
+
+impl LineForm for NoRoom {
+    fn push_line(&self, _level: Level, _text: &str, _out: &mut String) -> Result<(), Refusal> {
+        Err(Refusal::Memory)
+    }
+}
+
+/// How many of five records were missed, whose lines were refused.
+fn without_room<R: Wait + Copy + Clone + Drop + Abort>(rt: R, board: &Shared<R>) -> u64 {
+    let rt = &rt;
+    let bridge = LogBridge::with_form(board.clone().expect(rt, "granted"), NoRoom);
+    let log = Logged::new(*rt, Level::Trace, bridge);
+    log_each_level(&log);
+    log.sink().missed()
+}
+
+/// A record that a filter drops isn't missed; one whose line is refused is. A line has the form of its bridge.
 #[test]
 fn filters_and_forms(rt: HostRuntime) {
     let rt = &rt;
@@ -116,6 +135,8 @@ fn filters_and_forms(rt: HostRuntime) {
     same!(rt; counted(&board, Kind::Log("TRACE t")), 1);
     in_own_form(*rt, &board);
     same!(rt; counted(&board, Kind::Log("e\nf")), 1);
+    same!(rt; counted(&board, Kind::Any), 12);
+    same!(rt; without_room(*rt, &board), 5);
     same!(rt; counted(&board, Kind::Any), 12);
     is_one_run(*rt, &board, rt.alloc());
 }

@@ -2,7 +2,7 @@
 use crate::fronts::setup;
 use crate::lent::{Count, Lent, first};
 use crate::ticking::{tick_off, ticks_on};
-use indicatif::{InMemoryTerm, ProgressBar, StepClock};
+use indicatif::{InMemoryTerm, ProgressBar, Refusal, StepClock};
 use std::alloc::Global;
 use std::process::Abort;
 use std::sync::{Arc, Wait};
@@ -96,6 +96,18 @@ fn ticker_thread_terminates_on_drop_2(rt: HostRuntime) {
     holds!(rt; comes_to(rt, &count, 0));
 }
 
+/// Where there is no memory for a ticker's thread, the ticker that was installed goes on.
+#[test]
+fn no_memory_for_a_ticker(rt: HostRuntime) {
+    let rt = &rt;
+    let (bar, count) = counted_bar(*rt, rt.alloc());
+    ticks_each(rt, &bar, OFTEN);
+    count.refuse(true);
+    same!(rt; bar.enable_steady_tick(HOUR), Err(Refusal::Memory));
+    holds!(rt; ticks_on(rt, &bar, bar.ticks().saturating_add(1)));
+    same!(rt; tick_off(&bar), Ok(()));
+}
+
 // ---- another owner
 
 /// Where there is no memory for another owner, a weak bar says so, which isn't that no owner is left; so does a bar that is to be cloned.
@@ -109,6 +121,7 @@ fn no_memory_for_another_owner(rt: HostRuntime) {
     holds!(rt; weak.upgrade().is_err());
     holds!(rt; bar.clone().is_err());
     holds!(rt; bar.downgrade().is_err());
+    holds!(rt; bar.wrap_iter(0..1u32).is_err());
     count.refuse(false);
     holds!(rt; weak.upgrade().expect(rt, "granted").is_some());
     bar.release();

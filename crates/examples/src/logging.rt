@@ -11,6 +11,13 @@ const LINES: &[(&str, &str)] = &[
     ("copied d.txt", "copying\n4 of 4"),
 ];
 
+fn print_rows(rt: &HostRuntime, rows: Vec<String>) -> Result<()> {
+    for row in rows {
+        println!(rt; "{row}")?;
+    }
+    Ok(())
+}
+
 fn copy_all(rt: &HostRuntime, bar: &mut LoneBar<NoTracker, InMemoryTerm>) -> Result<()> {
     for (line, message) in LINES {
         bar.println(line, 0)?;
@@ -18,9 +25,7 @@ fn copy_all(rt: &HostRuntime, bar: &mut LoneBar<NoTracker, InMemoryTerm>) -> Res
     }
     if let Some(term) = bar.term() {
         println!(rt; "{}\n-- and all rows:", term.contents()?)?;
-        for row in term.picture()? {
-            println!(rt; "{row}")?;
-        }
+        print_rows(rt, term.picture()?)?;
     }
     Ok(())
 }

@@ -18,6 +18,10 @@ fn go_on<R: Shares>(bar: &StderrBar<R>) -> Result<()> {
     for _ in 0..10u32 {
         bar.inc(1)?;
     }
+    stand_still(bar)
+}
+
+fn stand_still<R: Shares>(bar: &StderrBar<R>) -> Result<()> {
     for _ in 0..5u32 {
         bar.force_draw()?;
     }

@@ -46,6 +46,7 @@ fn say<R: Print>(rt: &R, telling: Telling, tally: Tally) -> Result<()> {
     } = tally;
     match telling {
         _ if differ > 0 => println!(rt; "{differ} of {runs} runs differ")?,
+        _ if runs <= u64::from(SIZES) => println!(rt; "{runs} runs, in which nothing failed")?,
         Telling::Verdicts => println!(rt; "as it should be")?,
         Telling::Counts => println!(rt; "{runs} runs, all as they should be")?,
     }

@@ -2,6 +2,7 @@
 use indicatif_text::columns::{
     Clock, StepClock, columns, is_parameter, pieces, width, wrapped, write_ansi_range,
 };
+use meter_parts::{cut, plain_text};
 use scripts::got::{Bad, Got};
 use scripts::row::{At, Words};
 use scripts::spelling::unescaped;
@@ -12,12 +13,15 @@ use scripts::spelling::unescaped;
 /// - `wrapped WIDTH TEXT`: its rows, and the columns of the last one.
 /// - `range START END TEXT`: what stands in these columns.
 /// - `pieces TEXT`: colours in brackets, what stands between them in braces; `plain TEXT`: what stands between them.
+/// - `cut COLUMNS TEXT`: its front, as `meter` cuts a name; `made_plain TEXT`: without control characters, as `meter` makes it.
 /// - `clock NEXT STEP COUNT`: so many readings.
 pub fn measured(name: &str, rest: &str, at: At, got: &mut Got) {
     match name {
         "wrapped" => push_wrapped(rest, at, got),
         "range" => push_range(rest, at, got),
         "clock" => push_clock(rest, got),
+        "cut" => push_cut(rest, at, got),
+        "made_plain" => push_plain(rest, at, got),
         _ => match unescaped(at.alloc, rest) {
             Ok(text) => of_text(name, text.as_str(), got),
             Err(bad) => got.bad(bad),
@@ -75,6 +79,30 @@ fn push_range(rest: &str, at: At, got: &mut Got) {
             let done = write_ansi_range(text.as_str(), start, end, got.room());
             got.done(done);
         }
+        Err(bad) => got.bad(bad),
+    }
+}
+
+/// Appends the front of a text that has at most so many columns.
+fn push_cut(rest: &str, at: At, got: &mut Got) {
+    let mut words = Words::of(rest);
+    let room: usize = words.number();
+    match words.text(at.alloc) {
+        Ok(text) => match cut(at.alloc, text.as_str(), room) {
+            Ok(front) => got.text(front.as_str()),
+            Err(error) => got.bad(error.into()),
+        },
+        Err(bad) => got.bad(bad),
+    }
+}
+
+/// Appends a text without control characters.
+fn push_plain(rest: &str, at: At, got: &mut Got) {
+    match unescaped(at.alloc, rest) {
+        Ok(text) => match plain_text(at.alloc, text.as_str()) {
+            Ok(made) => got.text(made.as_str()),
+            Err(error) => got.bad(error.into()),
+        },
         Err(bad) => got.bad(bad),
     }
 }

@@ -8,8 +8,8 @@
 //! - `counted`: a bar that counts its moves. `scripted`: a reader, a writer and a stream that do what a row says. `bytes`: steps of
 //!   these where they are wrapped. `polls`: those that are polled.
 //! - `lists`: lists that are wrapped. `loops`: loops with a bar of their own. `places`: the place that moves and seeks show.
-//! - `environment`: what an environment says of a terminal. `on_pane`: a board on a terminal of another size than it was told. `pane`:
-//!   that terminal.
+//! - `environment`: what an environment says of a terminal. `on_pane`: a board on a terminal of another size than it was told.
+//!   `metered`: the same on the terminal of `meter`. `pane`: the terminal of another size.
 mod bars;
 mod beside;
 mod bytes;
@@ -21,6 +21,7 @@ mod fronts;
 mod history;
 mod lists;
 mod loops;
+mod metered;
 mod on_pane;
 mod pane;
 mod places;

@@ -39,9 +39,16 @@ fn asked(name: &str, rest: &str, at: At, got: &mut Got) -> bool {
         "stream" => streams::asked(rest, at, got),
         "format" => formats::shown(rest, got),
         "--size" => got.optional(bytes_said(rest)),
-        "columns" | "width" | "parameter" | "wrapped" | "range" | "pieces" | "plain" | "clock" => {
-            columns::measured(name, rest, at, got)
-        }
+        "columns"
+        | "width"
+        | "parameter"
+        | "wrapped"
+        | "range"
+        | "pieces"
+        | "plain"
+        | "cut"
+        | "made_plain"
+        | "clock" => columns::measured(name, rest, at, got),
         "parse" => templates::parsed(rest, at, got),
         "painted" | "unpainted" | "opened" | "same_style" | "no_style" => {
             templates::styled(name, rest, at, got)

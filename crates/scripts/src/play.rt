@@ -14,7 +14,9 @@ pub trait World {
 /// How many rows agreed and differed.
 #[derive(Clone, Copy, Default, Drop)]
 pub struct Tally {
+    /// Rows that agreed.
     pub passed: u64,
+    /// Rows that differed.
     pub failed: u64,
 }
 

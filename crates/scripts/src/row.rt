@@ -10,6 +10,7 @@ use std::str::FromStr;
 pub struct Row<'a> {
     /// One step, or several, parted by `; `.
     pub steps: &'a str,
+    /// What the steps are to give.
     pub wanted: &'a str,
 }
 
@@ -32,7 +33,9 @@ impl<'a> Row<'a> {
 /// Where a step takes its memory, and when it is made.
 #[derive(Clone, Copy, Drop)]
 pub struct At {
+    /// Where the memory is taken.
     pub alloc: Global,
+    /// The moment of the step.
     pub now: Moment,
 }
 

@@ -56,7 +56,9 @@ pub struct Screen {
 /// What a look at a screen sees.
 #[derive(Drop)]
 pub struct Look {
+    /// How many bytes were written.
     pub bytes: u64,
+    /// What stands there.
     pub contents: Result<String, Refusal>,
 }
 

@@ -28,10 +28,10 @@ pub fn sized_at_first<K: ProgressTracker, W: Write + Drop>(
 
 /// A bar behind a writer, which was lent, gets another size once its rows were taken back.
 pub fn sized_behind_clear<K: ProgressTracker, W: Write + Drop>(
+    now: Moment,
     bar: &mut LoneBar<K, Term<W>>,
     rows: u16,
     cols: u16,
-    now: Moment,
 ) -> Result<(), Refusal>
     ensures { result ≢ Err Refusal.Memory }
 {

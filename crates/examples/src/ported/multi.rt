@@ -1,16 +1,11 @@
 //! Two bars at once, each moved by a thread, with lines that are logged above them.
 use anyhow::Result;
-use indicatif::machine::{Shares, StderrBar, StderrBoard, on_stderr, style_on_stderr};
+use indicatif::machine::{Shares, StderrBar, on_stderr, style_on_stderr};
 use indicatif::{Drawn, MultiProgress, Refusal};
 use std::thread::{join, sleep};
 use std::time::Duration;
 
 const TEMPLATE: &str = "[{elapsed_precise}] {bar:40.cyan/blue} {pos:>7}/{len:7} {msg}";
-
-fn bar_on<R: Shares>(host: &HostRuntime, board: &StderrBoard<R>, len: u64) -> Result<StderrBar<R>> {
-    let style = style_on_stderr(host, TEMPLATE)?.progress_chars("##-")?;
-    Ok(board.new_bar(len)?.with_style(style)?)
-}
 
 fn work<R: Shares>(rt: &R, bar: &StderrBar<R>, steps: u64) -> Result<Drawn, Refusal> {
     for _ in 0..steps {
@@ -22,8 +17,10 @@ fn work<R: Shares>(rt: &R, bar: &StderrBar<R>, steps: u64) -> Result<Drawn, Refu
 }
 
 pub fn main<R: Shares>(rt: R, host: &HostRuntime) -> Result<()> {
+    let style = style_on_stderr(host, TEMPLATE)?.progress_chars("##-")?;
     let board = MultiProgress::new(rt, rt.alloc(), on_stderr(host)?, 1)?;
-    let (first, second) = (bar_on(host, &board, 200)?, bar_on(host, &board, 400)?);
+    let first = board.new_bar(200)?.with_style(style.try_clone()?)?;
+    let second = board.new_bar(400)?.with_style(style)?;
     board.println("starting!")?;
     let (one, other) = join(&rt, || work(&rt, &first, 200), || work(&rt, &second, 400));
     one.and(other)?;

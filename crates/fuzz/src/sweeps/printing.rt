@@ -83,11 +83,24 @@ fn fails(
     Ok(())
 }
 
-/// Counts the runs where the output fails at each byte, at each call, and from each call on.
-fn fails_at_each(tally: &mut Tally, alloc: Global, (args, whole): (&[String], &Ran)) -> Result<()> {
+/// Counts the runs where the output fails at each byte.
+fn fails_at_bytes(
+    tally: &mut Tally,
+    alloc: Global,
+    (args, whole): (&[String], &Ran),
+) -> Result<()> {
     for byte in 0..whole.point.bytes {
         fails(tally, alloc, (args, whole), Plan::Byte(byte))?;
     }
+    Ok(())
+}
+
+/// Counts the runs where the output fails at each call, and from each call on.
+fn fails_at_calls(
+    tally: &mut Tally,
+    alloc: Global,
+    (args, whole): (&[String], &Ran),
+) -> Result<()> {
     for call in 1..=whole.point.calls {
         fails(tally, alloc, (args, whole), Plan::Call(call))?;
         fails(tally, alloc, (args, whole), Plan::From(call))?;
@@ -100,7 +113,8 @@ fn runs_at(tally: &mut Tally, alloc: Global, size: Size) -> Result<Ran> {
     let args = words(alloc, size)?;
     let whole = Ran::new(alloc, &args, Plan::Never)?;
     tally.count(whole.status == 0 && whole.point.failures == 0 && whole.said.is_empty());
-    fails_at_each(tally, alloc, (args.as_slice(), &whole))?;
+    fails_at_bytes(tally, alloc, (args.as_slice(), &whole))?;
+    fails_at_calls(tally, alloc, (args.as_slice(), &whole))?;
     Ok(whole)
 }
 

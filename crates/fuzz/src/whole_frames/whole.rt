@@ -237,11 +237,16 @@ impl<T: TermLike + Drop> WholeFrames<T> {
         if let Some((text, _)) = text {
             self.put_text(text)?;
         }
-        for _ in 0..blanks {
-            self.put_line("")?;
-        }
+        self.put_blanks(blanks)?;
         for line in lines {
             self.put_line(line)?;
+        }
+        Ok(())
+    }
+
+    fn put_blanks(&mut self, blanks: usize) -> Result<(), Refusal> {
+        for _ in 0..blanks {
+            self.put_line("")?;
         }
         Ok(())
     }

@@ -9,12 +9,11 @@
 //! - `rows`: what stands there, up to the last row that isn't empty. `wraps`: whether the wrap is on.
 //! - Any other step is a call of the board or of a bar.
 use crate::front::pane::{Pane, Wire};
-use indicatif::{Answer, Board, NoTracker, OwnRows, ProgressDrawTarget, Term};
+use indicatif::{Answer, Board, NoTracker, OwnRows, ProgressDrawTarget, Term, TermLike};
 use scripts::boards::{BOARD_ID, board_call, push_answer};
 use scripts::got::{Bad, Got};
-use scripts::row::{At, Words, headed};
-use scripts::screen::{push_filled, size};
-use scripts::spelling::{number, unescaped};
+use scripts::row::{At, headed};
+use scripts::screen::size;
 use std::alloc::Global;
 use std::rc::Rc;
 
@@ -33,13 +32,7 @@ pub struct OnPane {
 /// A board without bars.
 pub fn begin(alloc: Global, name: &str, rest: &str) -> Result<Box<OnPane>, Bad> {
     let at = At { alloc, now: 0 };
-    let mut words = Words::of(rest);
-    let told = (words.number(), words.number());
-    words.word();
-    let size = (words.number(), words.last());
-    let (rows, columns) = words.done(size)?;
-    let pane = Pane::new(alloc, rows, columns)?;
-    let term = Term::new(Wire(pane.clone()?), told.0, told.1);
+    let (pane, term) = Pane::told(alloc, rest)?;
     let term = match name {
         "trusted" => OwnRows::left_to_terminal(term),
         _ => OwnRows::new(term),
@@ -49,26 +42,43 @@ pub fn begin(alloc: Global, name: &str, rest: &str) -> Result<Box<OnPane>, Bad> 
     at.boxed(OnPane { at, board, pane })
 }
 
+/// Makes a call of a board, and appends what it answers.
+pub fn call<T: TermLike + Drop>(
+    board: &mut Board<NoTracker, T>,
+    at: At,
+    step: &str,
+    got: &mut Got,
+) {
+    match answers(board, at, step) {
+        Ok(answers) => {
+            for answer in answers {
+                push_answer(answer, got);
+            }
+        }
+        Err(bad) => got.bad(bad),
+    }
+}
+
+fn answers<T: TermLike + Drop>(
+    board: &mut Board<NoTracker, T>,
+    at: At,
+    step: &str,
+) -> Result<Vec<Answer>, Bad> {
+    let call = board_call(at, step)?;
+    let calls = vec![in at.alloc; (call, at.now)]?;
+    Ok(board.run(calls)?)
+}
+
 impl OnPane {
     /// Makes a step, or reads something.
     pub fn step(&mut self, step: &str, got: &mut Got) {
+        let at = self.at;
+        if self.pane.step(at.alloc, step, got) {
+            return;
+        }
         match headed(step) {
             ("size" | "target" | "pane", words) => self.resize(step, words, got),
-            ("others", text) => match unescaped(self.at.alloc, text) {
-                Ok(text) => {
-                    if self.pane.show(text.as_str()).is_err() {
-                        got.bad(Bad::Step);
-                    }
-                }
-                Err(bad) => got.bad(bad),
-            },
-            ("fails", writes) => match number(writes) {
-                Ok(number) => self.pane.fails.set(number),
-                Err(bad) => got.bad(bad),
-            },
-            ("wraps", "") => got.flag(self.pane.wraps.get()),
-            ("rows", "") => push_filled(self.pane.screen.picture(), got),
-            _ => self.call(step, got),
+            _ => call(&mut self.board.0, at, step, got),
         }
     }
 
@@ -96,24 +106,5 @@ impl OnPane {
             }
             Err(error) => got.bad(error.into()),
         }
-    }
-
-    /// Makes a call, and appends what it answers.
-    fn call(&mut self, step: &str, got: &mut Got) {
-        match self.run(step) {
-            Ok(answers) => {
-                for answer in answers {
-                    push_answer(answer, got);
-                }
-            }
-            Err(bad) => got.bad(bad),
-        }
-    }
-
-    fn run(&mut self, step: &str) -> Result<Vec<Answer>, Bad> {
-        let at = self.at;
-        let call = board_call(at, step)?;
-        let calls = vec![in at.alloc; (call, at.now)]?;
-        Ok(self.board.0.run(calls)?)
     }
 }

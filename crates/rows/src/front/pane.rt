@@ -2,8 +2,11 @@
 //!
 //! With the wrap off a character on the last column leaves the cursor there, so that the next one takes its place; one of two columns
 //! that would begin there is passed over. So does tmux.
-use indicatif::{Refusal, width};
-use scripts::screen::Screen;
+use indicatif::{Refusal, Term, width};
+use scripts::got::{Bad, Got};
+use scripts::row::{Words, headed};
+use scripts::screen::{Screen, push_filled};
+use scripts::spelling::{number, unescaped};
 use std::alloc::Global;
 use std::cell::Cell;
 use std::io::{self, Error, ErrorKind, Write};
@@ -30,6 +33,40 @@ impl Pane {
             fails: Cell::new(0),
         };
         Ok(Rc::new(alloc, pane)?)
+    }
+
+    /// A terminal that is told a size, on a pane of another one: `ROWS COLS on ROWS COLS`.
+    pub fn told(alloc: Global, rest: &str) -> Result<(Rc<Pane>, Term<Wire>), Bad> {
+        let mut words = Words::of(rest);
+        let told = (words.number(), words.number());
+        words.word();
+        let size = (words.number(), words.last());
+        let (rows, columns) = words.done(size)?;
+        let pane = Pane::new(alloc, rows, columns)?;
+        let term = Term::new(Wire(pane.clone()?), told.0, told.1);
+        Ok((pane, term))
+    }
+
+    /// Makes a step of the pane, or reads something of it: `others TEXT`, `fails N`, `wraps`, `rows`. Whether the step is one.
+    pub fn step(&self, alloc: Global, step: &str, got: &mut Got) -> bool {
+        match headed(step) {
+            ("others", text) => match unescaped(alloc, text) {
+                Ok(text) => {
+                    if self.show(text.as_str()).is_err() {
+                        got.bad(Bad::Step);
+                    }
+                }
+                Err(bad) => got.bad(bad),
+            },
+            ("fails", writes) => match number(writes) {
+                Ok(number) => self.fails.set(number),
+                Err(bad) => got.bad(bad),
+            },
+            ("wraps", "") => got.flag(self.wraps.get()),
+            ("rows", "") => push_filled(self.screen.picture(), got),
+            _ => return false,
+        }
+        true
     }
 
     /// Gets another size.

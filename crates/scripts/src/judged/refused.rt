@@ -190,10 +190,15 @@ impl Seen {
 /// A script that was played, on a terminal of this size behind this record, and what its calls did.
 #[derive(Drop)]
 pub struct Run<'a, M> {
+    /// Where its memory was taken.
     pub alloc: Global,
+    /// The size of the terminal.
     pub size: Size,
+    /// What the script says.
     pub stages: &'a M,
+    /// What was written.
     pub record: &'a Record,
+    /// What its calls did.
     pub notes: &'a Notes,
 }
 
