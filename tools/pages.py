@@ -11,6 +11,8 @@ usage: tools/pages.py [--write]   (at the root of the repository)
   of wrong bodies.
 - The same of docs/REFUSALS.md, which names each public call of the libraries: those of public types and traits, and free ones that a
   public path has. Of a trait's calls that a type makes it names those that answer a Result or an Option, with the trait or the type.
+- Each public type, trait, free function and constant of a library stands between backquotes in its README.md or CALLING.md, laws and
+  worked cases aside. What a library passes on from another one needn't.
 - The table of refusals in docs/USING.md has the numbers and texts of crates/rows/data/refusals.txt, and all of them. Other pages that
   name a refusal with its number name it so.
 - docs/DIFFERENCES.md: each value of the table of formatters, each text of that of templates and each list of commands of `bars run` in
@@ -237,7 +239,7 @@ def faults_of_bodies():
             yield f"{PROVED}: no such caller or clause in crates/uses: {named}"
 
 
-# What is left out of docs/REFUSALS.md: facts without a body of their own, and what prints (one sentence there is for all of it).
+# What is left out: facts without a body of their own, and of docs/REFUSALS.md what prints (one sentence there is for all of it).
 FACTS = {"laws", "cases"}
 PRINTED = {"Display", "Debug"}
 
@@ -350,6 +352,30 @@ def faults_of_refused():
             is_named = {(crate, owner, name), (crate, owner, "") if trait else None} & named
             if not is_named and (not trait or (trait, name) not in of_any):
                 yield f"{REFUSALS}: lacks {owner}::{name} of {crate}"
+
+
+# crates/*/README.md and CALLING.md
+
+
+def public_names(crate):
+    """The types, traits, free functions and constants of a library that a public path has."""
+    texts = modules(crate)
+    is_open, names = open_modules(texts), set(passed_on(texts))
+    for module in sorted(texts.keys() - FACTS):
+        for name in re.findall(r"^pub (?:const )?(?:struct|enum|trait|type|fn|const) (\w+)", texts[module], re.M):
+            if module in is_open or name in names:
+                yield name
+
+
+def faults_of_readmes():
+    for crate in LIBRARIES:
+        page = "\n".join(without_blocks(read(f"crates/{crate}/{name}.md")) for name in ("README", "CALLING"))
+        spans = "\n".join(re.findall(r"`([^`\n]+)`", page))
+        for name in public_names(crate):
+            # a function itself, not a module of its name
+            wanted = rf"\b{name}\b(?!::)" if name.islower() else rf"\b{name}\b"
+            if not re.search(wanted, spans):
+                yield f"crates/{crate}/README.md: lacks {name}"
 
 
 # docs/USING.md
@@ -868,6 +894,7 @@ def main():
     faults += faults_of_proved()
     faults += faults_of_bodies()
     faults += faults_of_refused()
+    faults += faults_of_readmes()
     faults += faults_of_refusals()
     faults += faults_of_differences()
     faults += faults_of_meter()

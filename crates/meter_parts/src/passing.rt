@@ -1,8 +1,8 @@
 //! Bytes handed on.
-ghost use Rattle.std.specs.Prelude.{◌≡◌, ◌<◌, ◌≤◌, length, IfOk};
+ghost use Rattle.std.specs.Prelude.{◌≡◌, ◌<◌, ◌≤◌, length, IfOk, IfErr};
 ghost use Rattle.std.specs.Io.KnownBytes.{WriteAppends};
 ghost use Rattle.indicatif_term.specs.Writers.{AppendsAllOrFront};
-ghost use Rattle.meter_parts.specs.Passing.{PassedAll};
+ghost use Rattle.meter_parts.specs.Passing.{PassedAll, IsFinal, EndsAt};
 ghost use Rattle.meter_parts.specs.Inside.Reads.{PassedSome};
 
 use std::io::{Error, ErrorKind, Read, Result as IoResult, Write};
@@ -39,7 +39,8 @@ pub fn pass_on<R: Read, W: Write, G: Gauge>(
     gauge: &mut G,
     buffer: &mut [u8],
 ) -> Result<(), Broken>
-    ensures { PassedAll (R.remaining input.old) (R.remaining input.new) (W.contents output.old) (W.contents output.new) result }
+    ensures passed { PassedAll (R.remaining input.old) (R.remaining input.new) (W.contents output.old) (W.contents output.new) result }
+    ensures ends { IfErr result (λ broken. EndsAt broken) }
 {
     if buffer.is_empty() {
         return Err(Broken::Input(Error::from(ErrorKind::InvalidInput)));
@@ -63,6 +64,7 @@ fn pass_some<R: Read, W: Write, G: Gauge>(
 ) -> Result<bool, Broken>
     requires { 0 < length buffer.old }
     ensures passed { PassedSome (R.remaining input.old) (R.remaining input.new) (W.contents output.old) (W.contents output.new) result }
+    ensures ends { IfErr result (λ broken. EndsAt broken) }
     ensures buffer { length buffer.new ≡ length buffer.old }
 {
     match input.read(buffer) {
@@ -84,7 +86,8 @@ fn pass_some<R: Read, W: Write, G: Gauge>(
 
 /// Writes all of these bytes, piece by piece, or a beginning of them where the output fails or takes no more.
 fn write_all<W: Write, G: Gauge>(output: &mut W, gauge: &mut G, bytes: &[u8]) -> IoResult<()>
-    ensures { AppendsAllOrFront (W.contents output.old) (W.contents output.new) bytes.now result }
+    ensures went { AppendsAllOrFront (W.contents output.old) (W.contents output.new) bytes.now result }
+    ensures ends { IfErr result (λ error. IsFinal error) }
 {
     let mut rest = bytes;
     for _ in 0..u64::MAX {
@@ -104,6 +107,7 @@ fn write_some<W: Write, G: Gauge>(output: &mut W, gauge: &mut G, bytes: &[u8]) -
     requires { 0 < length bytes.now }
     ensures bound { IfOk result (λ n. n ≤ length bytes.now) }
     ensures went { WriteAppends (W.contents output.old) (W.contents output.new) result bytes.now }
+    ensures ends { IfErr result (λ error. IsFinal error) }
 {
     let piece = gauge.piece(bytes.len()).clamp(1, bytes.len());
     match output.write(&bytes[..piece]) {

@@ -2,13 +2,13 @@ use Rattle.std.proofs.Common.{◌≡◌, Ok, Err, true, false, arith}
 use Rattle.meter_parts.proofs.PassingLemmas.{passed_last, passed_more, passed_or}
 use Rattle.meter_parts.proofs.passing.pass_on.Goals as goal
 
-pub returns-in-Ok-true : goal.returns-in-Ok-true
-returns-in-Ok-true g c =
+pub returns-in-Ok-true-clause-passed : goal.returns-in-Ok-true-clause-passed
+returns-in-Ok-true-clause-passed g c =
     let is : c.pass_some.result ≡ Ok true = cc (c.in-Ok-true.is, c.in-Ok-true.field-0-test) in
     passed_last _ _ _ _ _ _ c.loop.invariant.0 c.pass_some.result c.pass_some.ensures.passed is
 
-pub returns-in-Err : goal.returns-in-Err
-returns-in-Err g c =
+pub returns-in-Err-clause-passed : goal.returns-in-Err-clause-passed
+returns-in-Err-clause-passed g c =
     let is : c.pass_some.result ≡ Err c.in-Err.broken = cc (c.in-Err.is) in
     passed_or _ _ _ _ _ _ c.loop.invariant.0 c.in-Err.broken c.pass_some.result c.pass_some.ensures.passed is
 
