@@ -4,7 +4,7 @@ use crate::checks::Granted;
 use crate::fronts::{Bar, Shared, bar_on, recorded};
 use crate::recordings::{Kind, counted, is_one_run};
 use crate::ticking::{tick_off, ticks_on, waits};
-use indicatif::{Drawn, ProgressFinish, Refusal};
+use indicatif::{Drawn, ProgressDrawTarget, ProgressFinish, Refusal};
 use std::alloc::Global;
 use std::process::Abort;
 use std::sync::Wait;
@@ -122,5 +122,7 @@ fn a_bar_that_its_board_has_lost(rt: HostRuntime) {
     same!(rt; board.remove(&other), Ok(()));
     is_lost(rt, &bar);
     same!(rt; bar.enable_steady_tick(1_000_000_000).err(), LOST);
+    let target = ProgressDrawTarget::hidden();
+    same!(rt; bar.set_draw_target(target).err(), LOST);
     same!(rt; board.add(bar).err(), Some(Refusal::ForeignBar));
 }

@@ -89,5 +89,8 @@ fn a_log_on_the_last_row_scrolls(rt: HostRuntime) {
     same!(rt; contents.as_str(), "u2\nl\nx");
     let picture = term.picture().granted(rt);
     same!(rt; picture.len(), 4);
-    same!(rt; picture[0].as_str(), "u1");
+    let Some(first) = picture.first() else {
+        panic!(rt; "there are four rows")
+    };
+    same!(rt; first.as_str(), "u1");
 }

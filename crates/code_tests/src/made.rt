@@ -2,10 +2,12 @@
 use crate::checks::Granted;
 use crate::fronts::{Led, setup};
 use indicatif::{
-    InMemoryTerm, NoTracker, OwnedBar, ProgressBar, ProgressBarIter, ProgressIterator,
+    InMemoryTerm, Moves, NoTracker, OwnedBar, ProgressBar, ProgressBarIter, ProgressIterator,
     ProgressStyle, StepClock,
 };
+use std::alloc::Global;
 use std::process::Abort;
+use std::vec::IntoIter;
 
 /// What is wrapped by a bar of its own.
 type Shown<I> = ProgressBarIter<I, OwnedBar<NoTracker, InMemoryTerm, StepClock>>;
@@ -58,7 +60,7 @@ fn no_length_no_bar(rt: HostRuntime) {
 }
 
 /// Doubles what a list of 1, 2 and 3 gives, each by a closure.
-fn doubles<R: Abort, I: Iterator<Item = u32>>(rt: &R, items: I) {
+fn doubles<R: Abort, P: Moves + Drop>(rt: &R, items: ProgressBarIter<IntoIter<u32>, P>) {
     let mut doubled = items.map(|x: u32| x.wrapping_mul(2));
     same!(rt; doubled.next(), Some(2));
     same!(rt; doubled.next(), Some(4));
@@ -66,27 +68,25 @@ fn doubles<R: Abort, I: Iterator<Item = u32>>(rt: &R, items: I) {
     same!(rt; doubled.next(), None);
 }
 
+/// The list.
+fn list<R: Abort>(rt: &R, alloc: Global) -> IntoIter<u32> {
+    let items = vec![in alloc; 1u32, 2, 3].granted(rt);
+    items.into_iter()
+}
+
 /// A test of the crate `indicatif` 0.18.6 with its own values.
 #[test]
 fn it_can_wrap_an_iterator(rt: HostRuntime) {
     let rt = &rt;
     let alloc = rt.alloc();
-    let items = [1u32, 2, 3];
-    let items = items.as_slice();
-    let wrapped = items.iter().copied().progress(alloc, setup(rt, alloc, 20));
+    let wrapped = list(rt, alloc).progress(alloc, setup(rt, alloc, 20));
     doubles(rt, wrapped.expect(rt, "granted"));
-    let wrapped = items
-        .iter()
-        .copied()
-        .progress_count(alloc, 3, setup(rt, alloc, 20));
+    let wrapped = list(rt, alloc).progress_count(alloc, 3, setup(rt, alloc, 20));
     doubles(rt, wrapped.expect(rt, "granted"));
     let bar = ProgressBar::new(*rt, alloc, 3, setup(rt, alloc, 20)).expect(rt, "granted");
-    doubles(rt, items.iter().copied().progress_with(Led { bar }));
+    doubles(rt, list(rt, alloc).progress_with(Led { bar }));
     let style: ProgressStyle<NoTracker> = ProgressStyle::default_bar(alloc).granted(rt);
     let style = style.template("{wide_bar:.red} {percent}/100%").granted(rt);
-    let wrapped = items
-        .iter()
-        .copied()
-        .progress_with_style(alloc, style, setup(rt, alloc, 20));
+    let wrapped = list(rt, alloc).progress_with_style(alloc, style, setup(rt, alloc, 20));
     doubles(rt, wrapped.expect(rt, "granted"));
 }
