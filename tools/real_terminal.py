@@ -14,8 +14,8 @@ usage: tools/real_terminal.py [FILE ..]
 A row that tells what stands on the screen at last (`shows`, or `contents` of `cells`) is a case: the bytes that led there are
 written to a pane of its size, and what the pane shows is compared with what the row says, up to the last written row, without
 the blanks at the ends of rows. The bytes of bars and boards are asked of the program `rows` (`written`), which it builds first.
-Rows are passed over whose terminal fails, is written to by others, or changes on the way. A program that stands in the folder
-$PROGRAMS is taken from there.
+Rows are passed over whose terminal fails, is written to by others, or changes on the way, and those with a sequence that isn't a
+colour's: what it does to a terminal isn't claimed. A program that stands in the folder $PROGRAMS is taken from there.
 
 The exit status is 1 if a case differs. It wants Debian's package tmux.
 """
@@ -32,6 +32,7 @@ TOP = os.path.dirname(os.path.dirname(os.path.abspath(__file__)))
 CRATE = os.path.join(TOP, "crates", "rows")
 FILES = ["real_terminals.txt", "lone.txt", "finishes.txt", "boards.txt", "render_lone.txt"]
 LEFT_OUT = re.compile(r"^(feed|takes|halts|fails_call|fail_after|target|suspend|hidden|lone hidden|board hidden|size)\b")
+OTHER_SEQUENCE = re.compile(r"\\e\[[0-9;]*[A-Za-ln-z]")
 ESCAPES = {"n": "\n", "t": "\t", "r": "\r", "0": "\0", "e": "\x1b", "s": " ", "\\": "\\"}
 
 
@@ -110,6 +111,8 @@ def case_of(place, script, wanted):
     if begun[0] not in ("lone", "board", "term") or script[-1] != "shows" or any(LEFT_OUT.match(step) for step in script):
         return None
     if int(begun[1]) == 0 or int(begun[2]) == 0 or re.match(r"E\d+$", contents):
+        return None
+    if any(OTHER_SEQUENCE.search(step) for step in script):
         return None
     return Case(place, begun[1:3], contents, steps="; ".join(script))
 

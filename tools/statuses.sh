@@ -59,9 +59,9 @@ wants 1 'bars: line 1: E9' bars run 2 10 <<< 'tick 1'
 wants 2 'bars: line 2: bad command' bars run 2 10 bottom <<< $'add x\n'
 wants 2 'bars: input failed' bars run 2 10 < .
 wants 1 '' rows
-wants 1 '' rows empty
-wants 1 '' rows heading
-wants 1 '' rows other
+wants 1 'empty: 0 passed, 0 failed' rows empty
+wants 1 'heading: 0 passed, 0 failed' rows heading
+wants 1 'other: 0 passed, 1 failed' rows other
 wants 2 'rows: missing: No such file or directory (os error 2)' rows missing
 wants 2 'rows: front/missing: No such file or directory (os error 2)' rows front/missing
 
