@@ -1,8 +1,9 @@
 #!/usr/bin/env bash
-# Compares the pictures of docs/GALLERY.md and docs/METER.md with what tmux shows. Each block `gallery COLSxROWS WHEN ..` begins with a
+# Compares the pictures of docs/GALLERY.md and crates/meter/README.md with what tmux shows. Each block `gallery COLSxROWS WHEN ..` begins with a
 # prompt and a command, which is typed into a pane of that size. WHEN is `end`, where the picture is taken once the prompt is back, or a
 # number of seconds. Behind several of them the block has what stands below the command at each, behind a line that says when. A block
-# `gallery ~ COLSxROWS WHEN ..` has a run's own numbers: its digits, and how far its bars are, aren't compared.
+# `gallery ~ COLSxROWS WHEN ..` has a run's own numbers: its digits, and how far its bars are, aren't compared. The shell exports COLUMNS and
+# LINES, unless `untold` stands before the size.
 #
 # usage: tools/gallery.sh [--write] [PAGE ..]
 #
@@ -13,7 +14,7 @@ set -u
 root=$(cd "$(dirname "$0")/.." && pwd) || exit 2
 write=no
 [ "${1:-}" = --write ] && { write=yes; shift; }
-[ $# -gt 0 ] || set -- "$root/docs/GALLERY.md" "$root/docs/METER.md"
+[ $# -gt 0 ] || set -- "$root/docs/GALLERY.md" "$root/crates/meter/README.md"
 command -v tmux > /dev/null || { echo "no tmux" >&2; exit 2; }
 folder=$(mktemp -d) || exit 2
 socket=$folder/tmux
@@ -47,9 +48,13 @@ built() {
   ln -s "$home/crates/$name/out/$name" "$folder/$name"
 }
 
-# the README's program, as `readme` of a repository with copies of the libraries
+# the README's program, if a page names it, as `readme` of a repository with copies of the libraries
 built_readme() {
   local copy=$folder/repository program=$folder/repository/crates/readme/src
+  if [ -x "${PROGRAMS:-}/readme" ] || ! grep -q '^\$ readme$' "${pages[@]}"; then
+    built readme
+    return
+  fi
   mkdir -p "$program"
   cp "$root/HANDLES" "$copy"
   cp -r "$root"/crates/indicatif* "$copy/crates"
@@ -76,15 +81,15 @@ until_when() {
   done
 }
 
-# picture: what the pane shows, without blanks at the ends
-picture() { mux capture-pane -p -t shown | sed -e 's/ *$//' -e ':a' -e '/^\n*$/{$d;N;ba' -e '}'; }
+# picture: what the pane shows and what has scrolled away, without blanks at the ends
+picture() { mux capture-pane -p -S - -t shown | sed -e 's/ *$//' -e ':a' -e '/^\n*$/{$d;N;ba' -e '}'; }
 
-# shown COLSxROWS COMMAND WHEN ..: what a pane of this size shows
+# shown TOLD COLSxROWS COMMAND WHEN ..: what a pane of this size shows, with these words in the environment
 shown() {
-  local size=$1 command=$2 when since first
-  shift 2
+  local told=$1 size=$2 command=$3 when since first
+  shift 3
   mux new-session -d -s shown -x "${size%x*}" -y "${size#*x}" -c "$folder" \
-    "PATH=$folder:\$PATH COLUMNS=${size%x*} LINES=${size#*x} PS1='\$ ' exec bash --norc --noprofile" || exit 2
+    "PATH=$folder:\$PATH PS1='\$ ' exec env -u COLUMNS -u LINES $told bash --norc --noprofile" || exit 2
   sleep 0.5
   mux send-keys -t shown -l "$command"
   mux send-keys -t shown Enter
@@ -106,10 +111,11 @@ shown() {
 # alike: a picture without digits, and without how far bars are
 alike() { sed -E 's/[0-9]/0/g; s/\[[=> █░]*\]/[bar]/g'; }
 
-# block [~] SIZE WHEN ..: the block that follows on standard input, as it is now, or as it was where it counts as the same
+# block [~] [untold] SIZE WHEN ..: the block that follows on standard input, as it is now, or as it was where it counts as the same
 block() {
-  local about=no size line command
+  local about=no told='' size line command
   [ "$1" = '~' ] && { about=yes; shift; }
+  if [ "$1" = untold ]; then shift; else told="COLUMNS=${1%x*} LINES=${1#*x}"; fi
   size=$1
   shift
   IFS= read -r line
@@ -120,7 +126,7 @@ block() {
     echo "no pv for: $command" >&2
     cat "$folder/old"
   else
-    shown "$size" "$command" "$@" > "$folder/new"
+    shown "$told" "$size" "$command" "$@" > "$folder/new"
     if [ $about = yes ] && [ "$(alike < "$folder/old")" = "$(alike < "$folder/new")" ]; then
       cat "$folder/old"
     else

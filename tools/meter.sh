@@ -1,11 +1,13 @@
 #!/usr/bin/env bash
 # Shows what `meter` looks like in tmux at 80 and at 20 columns beside `pv`, and how fast it is beside `cat` and `pv`.
 #
-# usage: tools/meter.sh [look | rows | wrong | race | shown]
+# usage: tools/meter.sh [look | rows | wrong | others | race | shown]
 #   look    the bytes of a slow producer that stops for two seconds, on their way, in the pause and at their end: in a pane of 80
 #           columns, and in one of 20 with `--columns 20`; then the same with `pv`
 #   rows    three meters in one pipeline, each on its row
 #   wrong   a pane of 200 columns and one of 40 where 80 are told, with a row above that is to stay
+#   others  what another program writes meanwhile has a row of its own, in panes of 80, 40 and 20 columns, where none are told: a line,
+#           and a number of the consumer; and so has the prompt after ^C, also with `--row`. The exit status is 1 where that isn't so
 #   race    2 GiB of zeros through `meter`, `pv` and `cat`, in turn, nine times each (or $TURNS times): how long they took and how much
 #           time of a processor each took itself, in milliseconds, the median and the least, and the speed of `meter` by these, where
 #           that of the other is 1. Its bar is hidden: standard error is no terminal
@@ -75,6 +77,36 @@ wrong() {
   mux kill-session -t look
 }
 
+# on_own_row WHAT ROW: whether a row of the pane is this one alone
+on_own_row() {
+  if mux capture-pane -p -t look | sed 's/ *$//' | grep -qx -- "$2"; then
+    echo "$1: on a row of its own"
+  else
+    echo "$1: NOT on a row of its own"
+    crossed=1
+  fi
+}
+
+# others COLS: other programs write while a bar goes on
+others() {
+  mux new-session -d -s look -x "$1" -y 12 "PS1='\$ ' exec bash --norc --noprofile" || exit 2
+  mux send-keys -t look "clear; { (sleep 1.3; echo warning: slow >&2) & bash $folder/slow; } | meter -s 10M | { cat > /dev/null; echo 524288000; }" Enter
+  sleep 2
+  pane "$1 columns, another program has written a line"
+  on_own_row "a line" "warning: slow"
+  sleep 6
+  pane "at the end"
+  on_own_row "a number of the consumer" 524288000
+  on_own_row "the prompt" '\$'
+  mux send-keys -t look "clear; bash $folder/slow | meter --row 1/2 -N in | meter --row 2/2 -N out > /dev/null" Enter
+  sleep 1.5
+  mux send-keys -t look C-c
+  sleep 0.5
+  pane "^C, two rows"
+  on_own_row "the prompt after ^C" '\$'
+  mux kill-session -t look
+}
+
 # race FILE PROGRAM: appends to the file the milliseconds that 2 GiB of zeros take through a program, and those of a processor
 race() {
   local from=$EPOCHREALTIME to
@@ -131,6 +163,10 @@ if [ "$wanted" = wrong ] || [ "$wanted" = all ]; then
   wrong 200
   wrong 40
 fi
+crossed=0
+if [ "$wanted" = others ] || [ "$wanted" = all ]; then
+  for columns in 80 40 20; do others $columns; done
+fi
 turns=$(seq "${TURNS:-9}")
 uptime
 if [ "$wanted" = race ] || [ "$wanted" = all ]; then
@@ -154,3 +190,4 @@ if [ "$wanted" = shown ] || [ "$wanted" = all ]; then
   for name in pv-shown cat-shown; do compared meter-shown $name; done
 fi
 uptime
+exit $crossed

@@ -1,6 +1,6 @@
 #!/usr/bin/env bash
 # Runs `meter` where inputs and outputs go wrong, and with each option, and compares its status, what it says and what it hands on
-# with what docs/METER.md says; beside each row stands what `pv` answers, where Debian's package is installed. The page has each of pv's
+# with what crates/meter/README.md says; beside each row stands what `pv` answers, where Debian's package is installed. The page has each of pv's
 # options.
 #
 # usage: tools/meter_pv.sh
@@ -9,7 +9,7 @@
 # row is otherwise.
 set -u
 meter=${METER:-$(cd "$(dirname "$0")/../crates/meter" && pwd)/out/meter}
-page=$(cd "$(dirname "$0")/../docs" && pwd)/METER.md
+page=$(cd "$(dirname "$0")/../crates/meter" && pwd)/README.md
 [ -x "$meter" ] || { echo "no meter: (cd crates/meter && rt run < /dev/null)" >&2; exit 2; }
 folder=$(mktemp -d) || exit 2
 trap 'rm -rf "$folder"' EXIT
@@ -78,6 +78,28 @@ row '--lines --size' 0 '60' '$P -n -i 100 -l -s 5 lines > handed 2> said; echo $
 row '--quiet' 0 '' 'cp lines wanted; $P -q -f lines > handed 2> said; echo $? > status'
 row '--rate-limit' 0 'slow' 'cp bytes wanted; from=$(date +%s%N); $P -q -L 500K bytes > handed; echo $? > status
   took=$((($(date +%s%N) - from) / 1000000)); [ $took -ge 1700 ] && [ $took -lt 4000 ] && echo slow > said || echo "$took ms" > said'
+row 'the input is the output' 1 'meter: lines: input file is output file' 'cp both wanted; cp lines kept; cp bytes grown; $P lines grown 2> said >> lines; echo $? > status
+  cat bytes > wanted; tail -c 1000000 lines > handed; cp kept lines'
+row 'standard input is the output' 1 'meter: standard input: input file is output file' 'cp lines wanted; cp lines grown; $P < grown 2> said >> grown; echo $? > status; cp grown handed'
+row 'an empty file among others' 0 '100' 'cp lines wanted; $P -n -i 100 empty lines > handed 2> said; echo $? > status'
+row 'an empty file' 0 '100' '$P -n -i 100 empty > handed 2> said; echo $? > status'
+row 'a file of /proc' 0 'a count' '$P -n -i 100 /proc/self/status > handed 2> counted; echo $? > status; [ "$(cat counted)" = "$(stat -c %s handed)" ] && echo a count > said'
+row '--stop-at-size' 0 '' 'head -c 700000 bytes > wanted; $P -S -s 700000 bytes lines > handed 2> said; echo $? > status'
+row '--stop-at-size, standard input' 0 '' 'head -c 10 lines > wanted; { $P -S -s 10 > handed 2> said; echo $? > status; } < lines'
+row '--stop-at-size --lines' 2 'meter: -S counts bytes, and -l lines: head -n ends after some' '$P -S -l -s 2 lines > handed 2> said; echo $? > status'
+row '--null' 0 '2' 'printf "a\0b\0c" > wanted; cat wanted | $P -0 -n -i 100 > handed 2> said; echo $? > status'
+row '--buffer-size' 0 '' 'cp bytes wanted; $P -B 7 bytes > handed 2> said; echo $? > status'
+row '--buffer-size 0' 2 'meter: a buffer of 0 bytes lets nothing go' '$P -B 0 lines > handed 2> said; echo $? > status'
+row '--version' 0 '' '$P -V > handed 2> said; echo $? > status; printf "meter 0.18.6\n" > wanted'
+row '--cursor' 2 "meter: -c (--cursor) isn't there: --row K/N gives each meter of a pipeline its row" '$P -c lines > handed 2> said; echo $? > status'
+row '--watchfd' 2 "meter: -d (--watchfd) isn't there: name the file, as meter FILE > COPY" '$P -d 1 lines > handed 2> said; echo $? > status'
+row 'a name that is not UTF-8' 2 "meter: an argument isn't UTF-8: write meter < FILE for a file of such a name" '$P $(printf "\377") > handed 2> said; echo $? > status'
+row 'only the count and the time' 0 '14 B 00:00:00' 'COLUMNS=80 TERM=xterm $P -bt -f -i 100 lines > handed 2> shown; echo $? > status
+  sed "s/\x1b\[?*[0-9]*[A-Za-z]//g" shown | tr "\r" "\n" | grep . | tail -1 | sed "s/ *$//" > said'
+row 'the time of the end in a zone' 0 'as in Tokyo' 'COLUMNS=80 TERM=xterm TZ=Asia/Tokyo $P -e -f -i 100 lines > handed 2> shown; echo $? > status
+  now=$(TZ=Asia/Tokyo date +%H:); grep -q "$now" shown && echo as in Tokyo > said || echo "not at $now" > said'
+row '--lines --rate-limit' 0 'slow' 'yes | head -n 200 > wanted; from=$(date +%s%N); $P -q -l -L 100 wanted > handed; echo $? > status
+  took=$((($(date +%s%N) - from) / 1000000)); [ $took -ge 1700 ] && [ $took -lt 4000 ] && echo slow > said || echo "$took ms" > said'
 row '--rate-limit 0' 2 'meter: a rate of 0 lets nothing go' '$P -L 0 lines > handed 2> said; echo $? > status'
 row '--interval 0' 2 'meter: an interval is a number of seconds as 2 or 0.5' '$P -i 0 lines > handed 2> said; echo $? > status'
 row '--row 3/2' 2 'meter: a row is one of several, as 2/3' '$P --row 3/2 lines > handed 2> said; echo $? > status'
@@ -95,7 +117,7 @@ done
 # each option of pv stands on the page
 if command -v pv > /dev/null; then
   for option in $(pv --help | sed -n 's/^ *-\(.\),.*/\1/p'); do
-    grep -q -- "[\` ]-$option\b" "$page" || { echo "docs/METER.md has nothing of pv -$option"; failed=$((failed + 1)); }
+    grep -q -- "[\` ]-$option\b" "$page" || { echo "crates/meter/README.md has nothing of pv -$option"; failed=$((failed + 1)); }
   done
 fi
 echo "$passed as wanted, $failed otherwise"

@@ -16,9 +16,9 @@ usage: tools/pages.py [--write]   (at the root of the repository)
 - The table of refusals in docs/USING.md has the numbers and texts of crates/rows/data/refusals.txt, and all of them. Other pages that
   name a refusal with its number name it so.
 - docs/DIFFERENCES.md: each value of the table of formatters, each text of that of templates and each list of commands of `bars run` in
-  the table of boards is a row of crates/rows/data. Each test of the Rust crate stands where the table says, and the numbers of tests
-  above it are those of its rows.
-- The options and statuses of docs/METER.md are those of crates/meter/src.
+  the table of boards is a row of crates/rows/data. Each test of the Rust crate stands where the table of docs/TESTING.md says, and the
+  numbers of tests above it are those of its rows.
+- The options and statuses of crates/meter/README.md are those of crates/meter/src.
 - docs/MAP.md names each crate of crates.txt and each tool. Each link leads to a file, and each path that a page names is there. Each
   name between backquotes that has an underscore, or a capital behind a small letter, is a word of the sources, the data or the tools.
 - Each call on the right side of docs/PORTING.md's table stands in code that the gate runs. README.md has at most 90 lines.
@@ -33,14 +33,16 @@ usage: tools/pages.py [--write]   (at the root of the repository)
   `assert!(a == b)` also as `same!(rt; a, b)`, a `?` as that, as `.granted(rt)` or as `.expect(rt, "granted")`; `{ .. }` stands for any
   block.
   The runtime may stand there by value or by reference, and `rt.alloc()` under a name.
-- What isn't compared here: blocks of `rust` (the Rust crate's code) and of `diagram`, other commands, and those of `gallery`, which
-  have a picture that tools/gallery.sh compares.
+- What isn't compared here: blocks of `rust` (the Rust crate's code) and of `diagram`, other commands, what tools/recipes.py runs, and blocks
+  of `gallery`, which have a picture that tools/gallery.sh compares.
 
 With --write those rows and contracts are written anew. The exit status is 1 where something differs.
 """
 import pathlib
 import re
 import sys
+
+import recipes
 
 PAGE = pathlib.Path("docs/TEMPLATES.md")
 ROWS = pathlib.Path("crates/rows/data/templates_page.txt")
@@ -64,14 +66,14 @@ def read(path):
 
 
 def tables(text):
-    """The sections' names and their rows with a template."""
+    """The rows with a template: their section's name, their first cell, the template, and what it shows."""
     section = ""
     for line in text.splitlines():
         if line.startswith("## "):
             section = line[3:]
-        cells = re.fullmatch(r"\| .* \| `(.*)` \| `(.*)` \|", line)
+        cells = re.fullmatch(r"\| (.*) \| `(.*)` \| `(.*)` \|", line)
         if cells:
-            yield section, cells[1].replace("\\|", "|"), cells[2].replace("\\|", "|")
+            yield section, cells[1], cells[2].replace("\\|", "|"), cells[3].replace("\\|", "|")
 
 
 def spelled(text):
@@ -83,7 +85,7 @@ def spelled(text):
     return text
 
 
-def row(section, template, shown):
+def row(section, what, template, shown):
     error = re.fullmatch(r"TemplateError: unexpected character '(.)' in state (\w+)", shown)
     if error:
         return f"parse {template} -> E6 {error[1]} {error[2]}"
@@ -94,12 +96,14 @@ def row(section, template, shown):
     fields[3] = "1" if section.startswith("Styles") else "0"
     if section == "Without a length":
         fields[6] = "-"
+    if section == "At the ends":
+        fields[5:7] = re.match(r"(\d+) of (\d+)", what).groups()
     return "laid " + "\t".join(fields) + " -> " + spelled(shown + "\\n")
 
 
 def faults_of_templates():
     page = read(PAGE)
-    shown = "\n".join(template for _, template, _ in tables(page))
+    shown = "\n".join(template for _, _, template, _ in tables(page))
     for key in re.findall(r'\(codes "(\w+)", key\.', read("crates/indicatif_bar/specs/Keys.antt")):
         if not re.search(rf"\{{{key}[:}}]", shown):
             yield f"{PAGE} has no row with the key {key}"
@@ -468,12 +472,13 @@ def faults_of_carried(page):
 
 
 def faults_of_differences():
-    page = read("docs/DIFFERENCES.md")
-    for fault in [*faults_of_values(page, rows_of_data()), *faults_of_carried(page)]:
+    for fault in faults_of_values(read("docs/DIFFERENCES.md"), rows_of_data()):
         yield f"docs/DIFFERENCES.md: {fault}"
+    for fault in faults_of_carried(read("docs/TESTING.md")):
+        yield f"docs/TESTING.md: {fault}"
 
 
-# docs/METER.md
+# crates/meter/README.md
 
 
 def said_options(page):
@@ -493,13 +498,13 @@ def known_options(source):
 
 
 def faults_of_meter():
-    page, crate = read("docs/METER.md"), "crates/meter/src"
+    page, crate = read("crates/meter/README.md"), "crates/meter/src"
     said, known = set(said_options(page)), set(known_options(read(f"{crate}/arguments.rt")))
     for short, name, _ in sorted(said ^ known):
-        yield f"docs/METER.md and {crate}/arguments.rt: only one of them has -{short} --{name} so"
+        yield f"crates/meter/README.md and {crate}/arguments.rt: only one of them has -{short} --{name} so"
     statuses = set(re.findall(r"^\| (\d+) \|", page, re.M))
     if statuses != {"0", *re.findall(r"\b(?:ExitCode::from\(|if error\.use_stderr\(\) \{ )(\d+)", read(f"{crate}/main.rt"))}:
-        yield f"docs/METER.md and {crate}/main.rt have other statuses"
+        yield f"crates/meter/README.md and {crate}/main.rt have other statuses"
 
 
 # docs/MAP.md, links and paths
@@ -721,6 +726,7 @@ class Sources:
         self.code = sources(["*/src/**/*.rt"], True)
         # the README's program stands alone on the pages
         self.code.append(bare(["#![tactic(auto)]", *program(read(README), README_HEAD)], True))
+        self.run = [bare(it, False) for it in recipes.played()]
         self.spaceless = [without_space("\n".join(it)) for it in self.code]
         self.specs = sources(["*/specs/**/*.antt"], False)
         self.shown = sources(["*/stdout", "rows/data/**/*.txt"], False)
@@ -740,6 +746,8 @@ class Sources:
 
     def has(self, language, lines):
         """Whether a block stands where its language says."""
+        if bare(lines, False) in self.run:
+            return True
         row = played(lines) if language in ("indented", "text") or language.startswith("gallery") else None
         if row is not None:
             return row in self.program
@@ -772,7 +780,6 @@ def faults_of_blocks():
 # Those that can't stand in code as they are.
 UNRUN = {
     "fn add_all(done: &Done, mut worker: BarWorker) -> BarWorker // adds 1 a thousand times": "a contract: its body needs an invariant",
-    "let drawn = record.apply(Call::Clear, 5); // on a terminal of 4 rows and 10 columns": "an index, which has to be proved",
     "let (answer, none) = record.apply(Call::Clear, 5);": "an index, which has to be proved",
 }
 

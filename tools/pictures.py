@@ -3,14 +3,15 @@
 
 usage: tools/pictures.py   (by .ci/run, behind `rt ci`)
 
-A picture's command is run in a shell behind a pseudo terminal of the picture's size. The program `rows` tells what cells show of the bytes
+A picture's command is run in a shell behind a pseudo terminal of the picture's size, which the shell exports, unless the block says `untold`.
+The program `rows` tells what cells show of the bytes
 that come from there. All rows have to be the picture's, with the shell's `$` where the cursor is at the end; and what a program writes before
 it sleeps has to come before what it writes behind that. So a wrong call of a type that hands calls on to standard error, whose bytes no
 contract tells, is noticed, but for calls that no bar makes. A program with coloured bars is also run in four environments: colours have to
 come unless these say no. tools/gallery.sh compares all pictures in tmux, by hand, and at each moment.
 
-The programs are those that `rt ci` has built, or those in the folder $PROGRAMS. Four pictures are passed over: two that have a `~`, one that
-is taken before the end, and that of `readme`, which isn't a program of this repository. The exit status is 1 if a picture differs, if
+The programs are those that `rt ci` has built, or those in the folder $PROGRAMS. Sixteen pictures are passed over: fourteen that have a `~`, one
+that is taken before the end, and that of `readme`, which isn't a program of this repository. The exit status is 1 if a picture differs, if
 colours come or don't against the environment, or if a command is stopped or crashes. A machine without pseudo terminals says so, and the status is 0.
 """
 import concurrent.futures
@@ -31,18 +32,19 @@ from real_terminal import trimmed, unescaped
 
 TOP = pathlib.Path(__file__).resolve().parent.parent
 PAGE = TOP / "docs" / "GALLERY.md"
-BLOCK = re.compile(r"^```gallery (~ )?(\d+)x(\d+) ([^\n]*)\n\$ ([^\n]*)\n(.*?)^```$", re.M | re.S)
-PASSED_OVER = 4
+BLOCK = re.compile(r"^```gallery (~ )?(untold )?(\d+)x(\d+) ([^\n]*)\n\$ ([^\n]*)\n(.*?)^```$", re.M | re.S)
+PASSED_OVER = 16
 PROGRAMS = ["bars", "examples", "meter"]
 # a program that sleeps between its draws
 SLEEPS = "examples log_bridge"
 # seconds that a command may take, and bytes that it may write
 PATIENCE = 60
 MOST = 1 << 20
+# what the environment of a run has only where it is told
+TOLD_NAMES = {"NO_COLOR", "CLICOLOR", "CLICOLOR_FORCE", "COLUMNS", "LINES"}
 # a program with coloured bars on standard error; by what the environment says beside `TERM=xterm`, whether they are coloured
 COLOURED = "examples ported"
 ASKED = [({}, True), ({"NO_COLOR": "1"}, False), ({"CLICOLOR": "0"}, False), ({"NO_COLOR": "1", "CLICOLOR_FORCE": "1"}, True)]
-COLOUR_NAMES = {"NO_COLOR", "CLICOLOR", "CLICOLOR_FORCE"}
 CYAN, ANY_COLOUR = b"\x1b[36m", re.compile(rb"\x1b\[[\d;]*m")
 # what its bars show in any case
 IN_ANY_COLOUR = b"22.05 MiB"
@@ -51,12 +53,13 @@ MODES = re.compile(rb"\x1b\[\?\d+[hl]")
 
 
 class Picture:
-    """A picture: where it stands, its terminal's size, its command, what is shown, and whether each run shows the same at its end."""
+    """A picture: where it stands, its terminal's size, whether the shell exports that, its command, what is shown, and whether each run shows
+    the same at its end."""
 
     def __init__(self, number, block):
-        about, columns, rows, moment, self.command, shown = block
+        about, untold, columns, rows, moment, self.command, shown = block
         self.place = f"{PAGE.name}, picture {number}"
-        self.columns, self.rows = int(columns), int(rows)
+        self.columns, self.rows, self.is_told = int(columns), int(rows), not untold
         self.shown = trimmed(shown)
         self.is_compared = not about and moment == "end" and self.command != "readme"
 
@@ -67,9 +70,10 @@ class Run:
     def __init__(self, picture, folder, asked=()):
         ours, theirs = os.openpty()
         fcntl.ioctl(theirs, termios.TIOCSWINSZ, struct.pack("HHHH", picture.rows, picture.columns, 0, 0))
-        told = {"COLUMNS": str(picture.columns), "LINES": str(picture.rows), "LC_ALL": "C.UTF-8", "TERM": "xterm", **dict(asked)}
-        others = {name: value for name, value in os.environ.items() if name not in COLOUR_NAMES}
-        environment = {**others, **told, "PATH": f"{folder}:{os.environ['PATH']}"}
+        size = {"COLUMNS": str(picture.columns), "LINES": str(picture.rows)} if picture.is_told else {}
+        others = {name: value for name, value in os.environ.items() if name not in TOLD_NAMES}
+        told = {"LC_ALL": "C.UTF-8", "TERM": "xterm", "PATH": f"{folder}:{os.environ['PATH']}"}
+        environment = {**others, **size, **told, **dict(asked)}
         ends = {"stdin": theirs, "stdout": theirs, "stderr": theirs, "start_new_session": True}
         child = subprocess.Popen(["bash", "-c", picture.command], cwd=folder, env=environment, **ends)
         os.close(theirs)

@@ -19,6 +19,7 @@ built() {
 built bars demo
 built rows data/limiters.txt
 built meter --help
+built examples fine
 folder=$(mktemp -d) || exit 2
 trap 'rm -rf "$folder"' EXIT
 : > "$folder/empty"
@@ -46,6 +47,7 @@ wants() {
 }
 
 usage='usage: bars demo | bars run ROWS COLS [bottom]'
+wants 1 'Error: no example is called nosuch' examples nosuch
 wants 0 '' bars demo
 wants 2 "$usage" bars
 wants 2 "$usage" bars run 2
@@ -68,14 +70,14 @@ wants 2 'rows: front/missing: No such file or directory (os error 2)' rows front
 # the pipe viewer: its standard error is no terminal here, so that its bar is hidden
 wants 0 '' meter < /dev/null
 wants 2 'meter: a size is a number as 700, 10M, 10MB or 1GiB' meter --size 10X
-wants 2 "error: unexpected argument '--bytes' found
+wants 2 "error: unexpected argument '--jobs' found
 
-  tip: to pass '--bytes' as a value, use '-- --bytes'
+  tip: to pass '--jobs' as a value, use '-- --jobs'
 
 Usage: meter [OPTIONS] [FILE]...
 
-For more information, try '--help'." meter --bytes
-wants 2 "meter: the arguments can't be read" meter --name $'\xff'
+For more information, try '--help'." meter --jobs
+wants 2 "meter: an argument isn't UTF-8: write meter < FILE for a file of such a name" meter --name $'\xff'
 wants 1 'meter: standard input: Is a directory (os error 21)' meter < .
 out=handed
 head -c 1000000 /dev/urandom > bytes
@@ -87,7 +89,7 @@ head -c 1 < gone > /dev/null &
 out=gone
 wants 141 '' meter < <(yes)
 head -c 1 < gone > /dev/null &
-wants 141 '' bars run 2 30 < <(seq -f 'log %019.0f' 10000)
+wants 2 'bars: output failed' bars run 2 30 < <(seq -f 'log %019.0f' 10000)
 out=/dev/full
 wants 3 'meter: standard output: No space left on device (os error 28)' meter <<< abc
 wants 2 'bars: output failed' bars demo

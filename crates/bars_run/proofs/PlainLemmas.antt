@@ -11,9 +11,8 @@ use Rattle.unicode_width.proofs.Computing.{unicode_width}
 use Rattle.log.specs.declared.level.Level.TheVariants.{Warn as WarnLevel}
 use Rattle.indicatif_text.specs.Columns.{is_plain, visible}
 use Rattle.indicatif_bar.specs.declared.style.builders.TheConstants.{TICKS}
-use Rattle.indicatif_bar.specs.declared.tracker.NoTracker.{NoTracker}
 use Rattle.indicatif_bar.specs.Builders.{characters_of}
-use Rattle.indicatif_bar.specs.PlainLaws.{ArePlainTrackers, HasPlainLiteral, IsPlainBar, IsPlainWithTabs}
+use Rattle.indicatif_bar.specs.PlainLaws.{HasPlainLiteral, IsPlainBar, IsPlainTracker, IsPlainWithTabs}
 use Rattle.indicatif_bar.specs.Scripts as script
 use Rattle.indicatif_bar.specs.Scripts.{Called}
 use Rattle.indicatif_bar.specs.StyleLaws.{IsPlainText}
@@ -50,14 +49,12 @@ nothing_plain = (plain_by ([] ∷ []) nothing_tested).0
 none_with_tabs : IsPlainWithTabs []
 none_with_tabs tab = nothing_plain
 
-pub no_trackers : ArePlainTrackers (writes_nothing {K = NoTracker})
-no_trackers k p now tab = nothing_plain
-
-saying_plain : (text : List ℕ) → IsPlainWithTabs text → IsPlainBar (bar_saying text)
+saying_plain : (text : List ℕ) → IsPlainWithTabs text → IsPlainBar writes_nothing (bar_saying text)
 saying_plain text h = record {
   style = record {
     literals = All-from_recursion HasPlainLiteral (bar_saying text).style.parts (tt, tt);
     ticks = All-from_recursion IsPlainText (characters_of TICKS.now) (plain_by (characters_of TICKS.now) ticks_tested);
+    trackers = All-from_recursion (λ entry. IsPlainTracker writes_nothing entry.1) (bar_saying text).style.keys tt;
     clusters = first_are_taken;
   };
   message = h;
@@ -65,7 +62,7 @@ saying_plain text h = record {
   on_finish = tt;
 }
 
-plain_action : (id : Id) (action : Action) → IsPlainAction action → IsPlainCall (call_on id action)
+plain_action : (id : Id) (action : Action) → IsPlainAction action → IsPlainCall writes_nothing (call_on id action)
 plain_action id (Message text) h = h
 plain_action id Tick h = tt
 plain_action id Finish h = tt
@@ -76,7 +73,7 @@ plain_action id Remove h = tt
 
 -- the texts of one step
 abbrev IsPlainStep : Step → Type 0
-IsPlainStep step = ArePlainParts writes_nothing no_trackers 0 (step ∷ [])
+IsPlainStep step = ArePlainParts writes_nothing 0 (step ∷ [])
 
 plain_step : (command : Spelled) (step : Step) → step_of command ≡ Some step → IsPlain command → IsPlainStep step
 plain_step (Add text) step e h = let q : calling (on.Insert on.End (on.New (bar_saying text))) ≡ step = cc in subst IsPlainStep q ((saying_plain text h, tt), tt)
@@ -88,24 +85,24 @@ plain_step (OfBar None action) step e h = absurd (cc)
 plain_step (OfBar (Some zero) action) step e h = absurd (cc)
 plain_step (OfBar (Some (suc n)) action) step e h = let q : calling (call_on (bar_at n) action) ≡ step = cc in subst IsPlainStep q ((plain_action (bar_at n) action h, tt), tt)
 
-plain_more : (step : Step) (steps : List Step) → IsPlainStep step → ArePlainParts writes_nothing no_trackers 0 steps → ArePlainParts writes_nothing no_trackers 0 (step ∷ steps)
+plain_more : (step : Step) (steps : List Step) → IsPlainStep step → ArePlainParts writes_nothing 0 steps → ArePlainParts writes_nothing 0 (step ∷ steps)
 plain_more (Called calls answers) steps one others = (one.0, others)
 plain_more (script.Size w h) steps one others = others
 
-plain_steps : (commands : List Spelled) (steps : List Step) → each step_of commands ≡ Some steps → AllByRecursion IsPlain commands → ArePlainParts writes_nothing no_trackers 0 steps
-plain_steps [] steps e all = let n : [] ≡ steps = cc in subst (ArePlainParts writes_nothing no_trackers 0) n tt
+plain_steps : (commands : List Spelled) (steps : List Step) → each step_of commands ≡ Some steps → AllByRecursion IsPlain commands → ArePlainParts writes_nothing 0 steps
+plain_steps [] steps e all = let n : [] ≡ steps = cc in subst (ArePlainParts writes_nothing 0) n tt
 plain_steps (command ∷ commands) steps e all =
     let p = both (step_of command) (each step_of commands) steps e in
-    subst (ArePlainParts writes_nothing no_trackers 0) (sym p.4) (plain_more p.0 p.1 (plain_step command p.0 p.2 all.0) (plain_steps commands p.1 p.3 all.1))
+    subst (ArePlainParts writes_nothing 0) (sym p.4) (plain_more p.0 p.1 (plain_step command p.0 p.2 all.0) (plain_steps commands p.1 p.3 all.1))
 
 -- answers count for nothing
-answers_apart : (made : List Step) → ArePlainParts writes_nothing no_trackers 0 (map unanswered made) → ArePlainParts writes_nothing no_trackers 0 made
+answers_apart : (made : List Step) → ArePlainParts writes_nothing 0 (map unanswered made) → ArePlainParts writes_nothing 0 made
 answers_apart [] all = tt
 answers_apart (Called calls answers ∷ made) all = (all.0, answers_apart made all.1)
 answers_apart (script.Size w h ∷ made) all = answers_apart made all
 
 -- a script whose first call has no text
 pub plain_made : (commands : List Spelled) (steps made : List Step) (bottom : Bool) → each step_of commands ≡ Some steps → map unanswered made ≡ calling (on.Align bottom) ∷ steps →
-    AllByRecursion IsPlain commands → ArePlainParts writes_nothing no_trackers 0 made
+    AllByRecursion IsPlain commands → ArePlainParts writes_nothing 0 made
 plain_made commands steps made bottom e is all =
-    answers_apart made (subst (ArePlainParts writes_nothing no_trackers 0) (sym is) ((tt, tt), plain_steps commands steps e all))
+    answers_apart made (subst (ArePlainParts writes_nothing 0) (sym is) ((tt, tt), plain_steps commands steps e all))

@@ -7,14 +7,13 @@ use Rattle.indicatif_bar.specs.Machines.{Machine, target_of}
 use Rattle.indicatif_bar.specs.Scripts.{Part, Called, Size, Sizing, sized, Plays, AllRunsPlain}
 use Rattle.indicatif_bar.specs.Trackers.{Tracking}
 use Rattle.indicatif_bar.specs.Commands.{BarRecord, Command}
-use Rattle.indicatif_bar.specs.PlainLaws.{ArePlainTrackers}
 use Rattle.indicatif_board.specs.Boards.{BoardState, Call, Answer, board}
 use Rattle.indicatif_board.specs.BoardBars.{board_bars}
 use Rattle.indicatif_board.specs.Multi.{board_sizing}
 use Rattle.indicatif_board.specs.PlainBoardLaws.{IsPlainCall, IsPlainBoard}
 use Rattle.indicatif_board.proofs.PlainBoardLemmas.{board_runs_are_plain}
 
-module _ {K : Type 0} (m : Tracking K) (trackers : ArePlainTrackers m) (board_id : ℕ) where
+module _ {K : Type 0} (m : Tracking K) (board_id : ℕ) where
   abbrev Bar : Type 0
   Bar = BarRecord K
 
@@ -30,13 +29,13 @@ module _ {K : Type 0} (m : Tracking K) (trackers : ArePlainTrackers m) (board_id
   -- the texts of a script's calls
   abbrev pub ArePlainParts : List (Part BarCall Answer) → Type 0
   ArePlainParts [] = Unit {0}
-  ArePlainParts (Called calls answers ∷ parts) = AllByRecursion (λ call. IsPlainCall call.0) calls × ArePlainParts parts
+  ArePlainParts (Called calls answers ∷ parts) = AllByRecursion (λ call. IsPlainCall m call.0) calls × ArePlainParts parts
   ArePlainParts (Size w h ∷ parts) = ArePlainParts parts
 
   pub scripts_plain : (parts : List (Part BarCall Answer)) (old : Option TermView) (s : BoardState Bar) (new : Option TermView) (next : BoardState Bar)
-      (plays : Plays machine sizing parts old s new next) → IsPlainBoard s → ArePlainParts parts → AllRunsPlain machine sizing parts old s new next plays
+      (plays : Plays machine sizing parts old s new next) → IsPlainBoard m s → ArePlainParts parts → AllRunsPlain machine sizing parts old s new next plays
   scripts_plain [] old s new next plays is all = tt
   scripts_plain (Called calls answers ∷ parts) old s new next plays is all =
-      let run = board_runs_are_plain m trackers board_id calls answers old s plays.0 plays.1 plays.2 is (All-from_recursion (λ call. IsPlainCall call.0) calls all.0) in
+      let run = board_runs_are_plain m board_id calls answers old s plays.0 plays.1 plays.2 is (All-from_recursion (λ call. IsPlainCall m call.0) calls all.0) in
       (run.0, scripts_plain parts plays.0 plays.1 new next plays.3 run.1 all.1)
   scripts_plain (Size w h ∷ parts) old s new next plays is all = scripts_plain parts plays.0 (sized machine sizing w h (target_of old) s) new next plays.4 is all

@@ -36,7 +36,7 @@ use Rattle.bars_run.specs.Inside.Players.{Played, empty_memory, unanswered, HasP
 use Rattle.bars_run.specs.Plays as plays
 use Rattle.bars_run.specs.Plays.{Bar, Step, machine, sizing, script_of, played, rows_after, columns_after, is_refused, any_refused, SizesHaveCells, IsPlain}
 use Rattle.bars_run.specs.Printing.{Prints, EndsOn, EndsBy, printed}
-use Rattle.bars_run.proofs.PlainLemmas.{no_trackers, plain_made}
+use Rattle.bars_run.proofs.PlainLemmas.{plain_made}
 use Rattle.bars_run.proofs.PlainScriptLemmas.{scripts_plain}
 use Rattle.bars_run.proofs.PrintLemmas.{ended, none_behind}
 
@@ -163,7 +163,7 @@ module _ (asked : Asked) (lines : List (List ℕ)) (b : Played) (p : HasPlayed a
       let there = blank_terminal asked.size.rows asked.size.columns in
       let begins = shows asked.size.rows asked.size.columns p.some_rows in
       let texts = plain_made p.commands p.steps p.made _ p.steps_are p.made_are all in
-      let plain = scripts_plain writes_nothing no_trackers 0 p.made (Some v) start new p.next p.plays (All-from_recursion IsPlainMember start.members tt) texts in
+      let plain = scripts_plain writes_nothing 0 p.made (Some v) start new p.next p.plays (All-from_recursion (IsPlainMember writes_nothing) start.members tt) texts in
       let goes = board_goes (board_bars writes_nothing) 0 in
       let r = unbroken_read machine sizing goes p.made v start new p.next p.plays p.some_columns refl (fine_steps p.made p.done).1 plain screen (there, refl, begins) in
       let u = shown_after p.made v start new p.next p.plays in

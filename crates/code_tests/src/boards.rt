@@ -124,5 +124,5 @@ fn a_bar_that_its_board_has_lost(rt: HostRuntime) {
     same!(rt; bar.enable_steady_tick(1_000_000_000).err(), LOST);
     let target = ProgressDrawTarget::hidden();
     same!(rt; bar.set_draw_target(target).err(), LOST);
-    same!(rt; board.add(bar).err(), Some(Refusal::ForeignBar));
+    same!(rt; board.add(bar).err(), LOST);
 }

@@ -7,6 +7,7 @@ use indicatif::{
     BarCommand, BarId, BarState, Board, Candidate, Cells, Drawn, InMemoryTerm, MultiProgress,
     NoTracker, ProgressDrawTarget, ProgressStyle, Refusal, StepClock, Term,
 };
+use log::sink::Memory;
 use log::{Level, LevelFilter, Log, Logged, debug, error, info, trace, warn};
 use std::alloc::Global;
 use std::io::{self, ErrorKind, Write};
@@ -80,7 +81,7 @@ fn filtered<R: Wait + Copy + Clone + Drop + Abort>(rt: R, board: &Shared<R>) -> 
 /// The level may stand before each line of a text.
 fn on_each_line<R: Wait + Copy + Clone + Drop + Abort>(rt: R, board: &Shared<R>) {
     let rt = &rt;
-    let bridge = LogBridge::with_form(board.clone().expect(rt, "granted"), LevelOnEachLine);
+    let bridge = LogBridge::new(board.clone().expect(rt, "granted")).with_form(LevelOnEachLine);
     log_each_level(&Logged::new(*rt, Level::Trace, bridge));
 }
 
@@ -96,7 +97,7 @@ impl LineForm for TextAlone {
 
 fn in_own_form<R: Wait + Copy + Clone + Drop + Abort>(rt: R, board: &Shared<R>) {
     let rt = &rt;
-    let bridge = LogBridge::with_form(board.clone().expect(rt, "granted"), TextAlone);
+    let bridge = LogBridge::new(board.clone().expect(rt, "granted")).with_form(TextAlone);
     log_each_level(&Logged::new(*rt, Level::Trace, bridge));
 }
 
@@ -113,7 +114,7 @@ impl LineForm for NoRoom {
 /// How many of five records were missed, whose lines were refused.
 fn without_room<R: Wait + Copy + Clone + Drop + Abort>(rt: R, board: &Shared<R>) -> u64 {
     let rt = &rt;
-    let bridge = LogBridge::with_form(board.clone().expect(rt, "granted"), NoRoom);
+    let bridge = LogBridge::new(board.clone().expect(rt, "granted")).with_form(NoRoom);
     let log = Logged::new(*rt, Level::Trace, bridge);
     log_each_level(&log);
     log.sink().missed()
@@ -139,6 +140,61 @@ fn filters_and_forms(rt: HostRuntime) {
     same!(rt; without_room(*rt, &board), 5);
     same!(rt; counted(&board, Kind::Any), 12);
     is_one_run(*rt, &board, rt.alloc());
+}
+
+// ---- spans and pairs, and a hidden board
+
+/// A record in a span, and one with a pair and two lines.
+fn log_two<L: Log>(rt: &L) {
+    let span = rt.span("copy").with("id", 7u32);
+    info!(span; target: "db", rows = 3u32; "started");
+    warn!(rt; target: "db", left = 2u32; "a\nb");
+}
+
+/// Spans stand before the message and pairs behind it, above the bars. Once the board is hidden, records go whole to the other sink, which
+/// has none of those that stand above bars; none is missed.
+#[test]
+fn a_hidden_board_hands_records_on(rt: HostRuntime) {
+    let rt = &rt;
+    let alloc = rt.alloc();
+    let board = recorded(*rt, alloc);
+    let others = Memory::new(alloc);
+    let bridge = LogBridge::over(board.clone().expect(rt, "granted"), &others);
+    let log = Logged::new(*rt, Level::Info, bridge);
+    log_two(&log);
+    same!(rt; counted(&board, Kind::Log("INFO  copy{id=7}: started rows=3")), 1);
+    same!(rt; counted(&board, Kind::Log("WARN  a\nb left=2")), 1);
+    same!(rt; log.sink().missed(), 0);
+    drop(log);
+    same!(rt; others.into_lines().len(), 0);
+    logs_when_hidden(rt, alloc);
+}
+
+/// The same on a hidden board.
+fn logs_when_hidden<R: Wait + Copy + Clone + Drop + Abort>(rt: &R, alloc: Global) {
+    let clock = StepClock { next: 0, step: 1 };
+    let target: ProgressDrawTarget<InMemoryTerm> = ProgressDrawTarget::hidden();
+    let board = MultiProgress::with_draw_target(*rt, alloc, target, clock, 1);
+    let others = Memory::new(alloc);
+    let bridge = LogBridge::over(board.expect(rt, "granted"), &others);
+    let log = Logged::new(*rt, Level::Info, bridge.with_filter(LevelFilter::Info));
+    log_two(&log);
+    debug!(log; "not logged");
+    same!(rt; log.sink().missed(), 0);
+    drop(log);
+    let lines = others.into_lines();
+    same!(rt; lines.len(), 2);
+    let texts = lines.as_slice();
+    is_line(rt, texts.first(), "[INFO  db] copy{id=7}: started rows=3");
+    is_line(rt, texts.last(), "[WARN  db] a\nb left=2");
+}
+
+/// There is a line, of this text.
+fn is_line<R: Abort>(rt: &R, line: Option<&String>, wanted: &str) {
+    match line {
+        Some(text) => same!(rt; text.as_str(), wanted),
+        None => same!(rt; "no line", wanted),
+    }
 }
 
 // ---- a terminal that fails

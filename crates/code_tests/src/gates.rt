@@ -15,19 +15,36 @@ impl Gate for Open {
     fn pass(&self, piece: usize) {}
 }
 
-/// Counts who passes, and who of the pieces behind the first 256 comes before all of these have passed.
+/// Counts who passes, who is at work, and how many were so at the same time at most.
 #[derive(Drop)]
-pub struct Waves {
+pub struct AtWork {
     pub passed: AtomicU64,
-    pub early: AtomicU64,
+    now: AtomicU64,
+    pub most: AtomicU64,
 }
 
-impl Gate for Waves {
-    fn pass(&self, piece: usize) {
-        let before = self.passed.fetch_add(1, Ordering::SeqCst);
-        if piece >= 256 && before < 256 {
-            self.early.fetch_add(1, Ordering::SeqCst);
+impl AtWork {
+    /// Before the first piece.
+    pub fn new() -> AtWork {
+        AtWork {
+            passed: AtomicU64::new(0),
+            now: AtomicU64::new(0),
+            most: AtomicU64::new(0),
         }
+    }
+
+    /// A piece is at its last item.
+    pub fn leave(&self) {
+        self.now.fetch_sub(1, Ordering::SeqCst);
+    }
+}
+
+impl Gate for AtWork {
+    fn pass(&self, piece: usize) {
+        self.passed.fetch_add(1, Ordering::SeqCst);
+        let others = self.now.fetch_add(1, Ordering::SeqCst);
+        self.most
+            .fetch_max(others.wrapping_add(1), Ordering::SeqCst);
     }
 }
 
@@ -70,36 +87,43 @@ impl Gate for Roll {
     }
 }
 
-/// For how many milliseconds piece 0 waits for piece 1.
+/// For how many milliseconds a piece waits for the others.
 const PATIENCE: u32 = 10_000;
 
-/// Holds piece 0 until piece 1 has come, or for so long.
+/// Holds each piece until so many have come, or for so long.
 #[derive(Drop)]
-pub struct Together<C> {
-    pub clock: C,
-    pub second_came: AtomicU64,
-    pub first_saw_it: AtomicU64,
+pub struct Meeting<C> {
+    clock: C,
+    all: u64,
+    come: AtomicU64,
+    pub saw_all: AtomicU64,
 }
 
-impl<C: Clock + Sync> Gate for Together<C> {
-    fn pass(&self, piece: usize) {
-        if piece == 1 {
-            self.second_came.store(1, Ordering::SeqCst);
-        }
-        if piece == 0 {
-            self.wait();
+impl<C: Clock> Meeting<C> {
+    /// Of so many pieces.
+    pub fn of(clock: C, all: u64) -> Meeting<C> {
+        Meeting {
+            clock,
+            all,
+            come: AtomicU64::new(0),
+            saw_all: AtomicU64::new(0),
         }
     }
 }
 
-impl<C: Clock> Together<C> {
-    fn wait(&self) {
+impl<C: Clock + Sync> Gate for Meeting<C> {
+    fn pass(&self, piece: usize) {
+        self.come.fetch_add(1, Ordering::SeqCst);
         for _ in 0..PATIENCE {
-            if self.second_came.load(Ordering::SeqCst) == 1 {
-                self.first_saw_it.store(1, Ordering::SeqCst);
+            if self.come.load(Ordering::SeqCst) == self.all {
+                self.saw_all.fetch_add(1, Ordering::SeqCst);
                 return;
             }
             sleep(&self.clock, Duration::from_millis(1));
         }
+    }
+
+    fn needs_all_at_once(&self) -> bool {
+        true
     }
 }

@@ -3,7 +3,7 @@ use crate::checks::Granted;
 use indicatif_bar::state::{BarCommand, BarState};
 use indicatif_bar::style::{NoTracker, ProgressStyle};
 use indicatif_board::multi::{
-    Answer, BarId, Call, Candidate, Entry, InsertLocation, Opening, Recorded, Size,
+    Answer, BarId, Call, Candidate, InsertLocation, Opening, Recorded, Size,
 };
 use indicatif_term::draw_target::ProgressDrawTarget;
 use indicatif_term::in_memory::InMemoryTerm;
@@ -20,16 +20,13 @@ fn terminal(rt: &impl Abort, alloc: Global) -> InMemoryTerm {
 
 // ---- entries
 
-/// All that is kept is that the board was cleared at the moment 5, with this answer, at this size.
-fn is_clear(
-    rt: &impl Abort,
-    entries: &[Entry<NoTracker>],
-    (answer, size): (&Answer, Option<Size>),
-) {
+/// All that is kept is that the board was cleared at the moment 5, with this answer, on a target of this size.
+fn is_clear(rt: &impl Abort, record: &Recording, (answer, size): (&Answer, Option<Size>)) {
+    let entries = record.entries();
     same!(rt; entries.len(), 1);
     let entry = entries.first().granted(rt);
     holds!(rt; matches!(entry.call, Call::Clear));
-    same!(rt; (entry.now, entry.size), (5, size));
+    same!(rt; (entry.now, record.opening().size), (5, size));
     same!(rt; &entry.answer, answer);
 }
 
@@ -43,11 +40,12 @@ fn entry_of_a_call(rt: HostRuntime) {
     let (answer, none) = record.apply(Call::Clear, now);
     same!(rt; &answer, &Answer::Drawn(Drawn::Yes));
     let recorded = record.entries();
+    same!(rt; recorded.len(), 1);
     let size = Size {
         columns: 10,
         rows: 4,
     };
-    is_clear(rt, recorded, (&answer, Some(size)));
+    is_clear(rt, &record, (&answer, Some(size)));
     holds!(rt; record.opening().limiter.is_none());
 }
 
@@ -58,7 +56,7 @@ fn entry_where_nothing_is_shown(rt: HostRuntime) {
     let mut record: Recording = Recorded::new(rt.alloc(), ProgressDrawTarget::hidden(), 1);
     let (answer, _) = record.apply(Call::Clear, 5);
     same!(rt; &answer, &Answer::Drawn(Drawn::Hidden));
-    is_clear(rt, record.entries(), (&answer, None));
+    is_clear(rt, &record, (&answer, None));
 }
 
 // ---- openings
@@ -108,6 +106,7 @@ fn beginning_of_a_history(rt: HostRuntime) {
     let term = terminal(rt, alloc);
     let target = ProgressDrawTarget::term_like_with_hz(term, 20, 0).granted(rt);
     let record: Recorded<NoTracker, _> = Recorded::new(alloc, target, 7);
+    same!(rt; record.opening().size, Some(Size { columns: 10, rows: 4 }));
     let mut record = Box::new(alloc, record).granted(rt);
     takes_in_and_draws(rt, alloc, &mut record);
     let opening = record.opening();

@@ -7,7 +7,7 @@
 //! - `writers`: boxed terminals, and buffers. `lone_shown`: a bar on a terminal.
 //! - `histories`: boards that keep their history. `sums`: workers that add to one sum.
 //! - `played`: which lines of a file are rows, and which of them agree.
-//! - `styles`, `term`, `text`: keys of a template, what targets hand out, numbers and formatters. `words`: those of a command line.
+//! - `rates`: keys of the last seconds. `styles`, `term`, `text`: keys of a template, what targets hand out, numbers and formatters. `words`: those of a command line.
 //! - `documented`: the examples of these libraries' documentation that say what comes.
 //!
 //! Of `indicatif`:
@@ -20,13 +20,13 @@
 //! - `closures`: what is done under a lock. `given_up`: what threads of tickers give up, also in two tests of the crate `indicatif`, and
 //!   calls that find no memory, over a runtime that is counted (`lent`).
 //! - `machines`: what is asked of the machine. `made`: iterators that get a bar when they are wrapped.
-//! - `bridges`: lines of a log above a board's bars.
+//! - `bridges`: lines of a log above a board's bars. `beside`: a program's own lines, above bars or beside hidden ones.
 //! - `carried_trackers`: tests of the crate `indicatif` that need code, of trackers.
 //! - `counted`: threads that count for a bar. `documented_shared`: the examples of the documentation comments. `readme`: the README's
 //!   program.
 //! - `ticking`: a bar's ticker, looked at from outside. `intervals`: how often it ticks. `keyed`: shared bars with a key of the tests' own.
 //!   `odd_keys`: keys that write what no line holds.
-//! - `lists`: lists, block by block. `own_bars`: lists with a bar of their own. `pieces`: pieces in threads of their own. `stepped`,
+//! - `lists`: lists, block by block. `own_bars`: lists with a bar of their own. `pieces`: pieces that threads work on. `stepped`,
 //!   `gates`: a bar and gates for them, and what is done with an item.
 //!
 //! `checks`: what `same!`, `holds!` and `granted` do.
@@ -50,6 +50,8 @@ macro_rules! holds {
 
 #[cfg(test)]
 mod bars;
+#[cfg(test)]
+mod beside;
 #[cfg(test)]
 mod boards;
 #[cfg(test)]
@@ -95,9 +97,12 @@ mod own_bars;
 #[cfg(test)]
 mod owners;
 #[cfg(test)]
+#[cfg(test)]
 mod pieces;
 #[cfg(test)]
 mod played;
+#[cfg(test)]
+mod rates;
 #[cfg(test)]
 mod readers;
 #[cfg(test)]

@@ -6,12 +6,12 @@ use indicatif::machine::{
     style_on_stderr, told_setup, wants_colors,
 };
 use indicatif::{
-    BarState, Clock, Drawn, Facts, LoneBar, Moment, NoTracker, ProgressStyle, Refusal, Setup,
-    TermLike,
+    BarState, Clock, Drawn, Facts, LoneBar, Moment, NoTracker, ProgressDrawTarget, ProgressStyle,
+    Refusal, Setup, Term, TermLike,
 };
 use std::alloc::Global;
 use std::cell::Cell;
-use std::io::{self, ErrorKind, Stdout};
+use std::io::{self, ErrorKind, Stdout, Write};
 use std::process::Abort;
 use std::time::{self, Duration};
 
@@ -75,6 +75,64 @@ fn a_terminal_that_is_hidden(rt: HostRuntime) {
         let setup = setup_of(rt, *attended, *term).granted(rt);
         holds!(rt; setup.target.is_hidden());
     }
+}
+
+/// Fails each call, with this number of the system's.
+#[derive(Drop)]
+struct Broken(i32);
+
+impl Write for Broken {
+    fn write(&mut self, _buf: &[u8]) -> io::Result<usize> {
+        Err(io::Error::from_raw_os_error(self.0))
+    }
+
+    fn flush(&mut self) -> io::Result<()> {
+        Ok(())
+    }
+}
+
+/// What two logs of a bar answer behind such a writer, and whether the terminal has gone then.
+fn logged_twice(rt: &HostRuntime, number: i32) -> Result<(Drawn, Drawn, bool), Refusal> {
+    let term = String::from_str(rt.alloc(), "xterm")?;
+    let setup = told_setup(rt, Broken(number), facts(true, Some(term)))?;
+    let state = BarState::<NoTracker>::new(rt.alloc(), None, 0)?;
+    let mut bar = LoneBar::new(state, setup.target);
+    let first = bar.println("a", 0)?;
+    let second = bar.println("b", 0)?;
+    let Some(term) = bar.term() else {
+        return Err(Refusal::NoColumns);
+    };
+    let is_gone = term.writer().get_ref().is_gone();
+    Ok((first, second, is_gone))
+}
+
+/// An input or output error, as of a closed terminal; a call that would block; a closed pipe; a closed connection.
+const GONE: &[i32] = &[5, 11, 32, 104];
+
+/// A full disk.
+const FULL: i32 = 28;
+
+/// Work goes on where nobody reads any more; another failure is a refusal.
+#[test]
+fn a_terminal_that_goes_away(rt: HostRuntime) {
+    let rt = &rt;
+    for number in GONE {
+        let wanted = Ok((Drawn::Yes, Drawn::Yes, true));
+        same!(rt; logged_twice(rt, *number), wanted);
+    }
+    let wanted = Err(Refusal::Terminal(ErrorKind::StorageFull));
+    same!(rt; logged_twice(rt, FULL), wanted);
+}
+
+/// A plain `Term` refuses the draw.
+#[test]
+fn a_plain_terminal_that_goes_away(rt: HostRuntime) {
+    let rt = &rt;
+    let state = BarState::<NoTracker>::new(rt.alloc(), None, 0).granted(rt);
+    let target = ProgressDrawTarget::term_like(Term::new(Broken(32), 7, 40));
+    let mut bar = LoneBar::new(state, target);
+    let wanted = Err(Refusal::Terminal(ErrorKind::BrokenPipe));
+    same!(rt; bar.tick(0), wanted);
 }
 
 /// Whether a bar is hidden by these facts: its stream is no terminal, or one without moves.

@@ -1,6 +1,7 @@
 //! Iterators that get a bar when they are wrapped, or are handed one.
 use crate::checks::Granted;
 use crate::fronts::{Led, setup};
+use crate::stepped::bar_at;
 use indicatif::{
     InMemoryTerm, Moves, NoTracker, OwnedBar, ProgressBar, ProgressBarIter, ProgressIterator,
     ProgressStyle, StepClock,
@@ -72,6 +73,21 @@ fn doubles<R: Abort, P: Moves + Drop>(rt: &R, items: ProgressBarIter<IntoIter<u3
 fn list<R: Abort>(rt: &R, alloc: Global) -> IntoIter<u32> {
     let items = vec![in alloc; 1u32, 2, 3].granted(rt);
     items.into_iter()
+}
+
+/// Behind the end of a list nothing comes, however often it is asked. The bar stands at three, and is finished.
+#[test]
+fn behind_the_end(rt: HostRuntime) {
+    let rt = &rt;
+    let alloc = rt.alloc();
+    let mut wrapped = list(rt, alloc).progress_with(bar_at(alloc, 0));
+    for wanted in [1, 2, 3] {
+        same!(rt; wrapped.next(), Some(wanted));
+    }
+    for _ in 0..3u32 {
+        same!(rt; wrapped.next(), None);
+    }
+    same!(rt; (wrapped.progress.position, wrapped.progress.finished), (3, true));
 }
 
 /// A test of the crate `indicatif` 0.18.6 with its own values.

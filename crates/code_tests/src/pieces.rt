@@ -1,12 +1,14 @@
-//! Pieces in threads of their own.
+//! Pieces that threads work on.
 use crate::checks::Granted;
-use crate::gates::{Open, Roll, Together, Waves};
+use crate::gates::{AtWork, Meeting, Open, Roll};
 use crate::stepped::{Stepped, bar_at, twice};
 use indicatif::{Gate, Refusal, run_workers_with};
 use std::alloc::Global;
 use std::process::Abort;
-use std::sync::atomic::{AtomicU64, Ordering};
-use std::thread::Threads;
+use std::sync::Wait;
+use std::sync::atomic::Ordering;
+use std::thread::{Threads, available_parallelism, sleep};
+use std::time::{Clock, Duration};
 
 /// `count` pieces, in each of which the number 1 stands `items` times.
 fn pieces_of_ones<R: Abort>(rt: &R, alloc: Global, count: u32, items: u32) -> Vec<Vec<u32>> {
@@ -27,7 +29,7 @@ fn ones<R: Abort>(rt: &R, alloc: Global, items: u32) -> Vec<u32> {
 }
 
 /// The items of these pieces doubled in threads, behind a gate, while a bar goes along.
-fn doubled<R: Threads + Sync + Abort, G: Gate>(
+fn doubled<R: Threads + Wait + Sync + Abort, G: Gate>(
     rt: &R,
     alloc: Global,
     pieces: &[Vec<u32>],
@@ -49,10 +51,7 @@ fn answers_stand_in_the_order_of_the_pieces(rt: HostRuntime) {
     ]
     .expect(rt, "granted");
     let mut bar = bar_at(alloc, 0);
-    let gate = Waves {
-        passed: AtomicU64::new(0),
-        early: AtomicU64::new(0),
-    };
+    let gate = AtWork::new();
     // (not by `doubled`: that an answer stands at each index is what the contract of the call tells)
     let made = run_workers_with(rt, alloc, pieces.as_slice(), twice, &gate, &mut bar);
     let made = made.expect(rt, "granted");
@@ -78,21 +77,23 @@ fn no_piece_is_refused(rt: HostRuntime) {
     holds!(rt; bar.steps.is_empty());
 }
 
-#[test]
-fn pieces_run_at_the_same_time(rt: HostRuntime) {
+/// So many pieces of one item, each of which waits for all others: all see them come.
+fn all_meet<R: Copy + Threads + Wait + Sync + Abort + Clock>(rt: R, alloc: Global, count: u32) {
     let rt = &rt;
-    let alloc = rt.alloc();
-    let pieces = pieces_of_ones(rt, alloc, 2, 1);
+    let pieces = pieces_of_ones(rt, alloc, count, 1);
     let mut bar = bar_at(alloc, 0);
-    let gate = Together {
-        clock: *rt,
-        second_came: AtomicU64::new(0),
-        first_saw_it: AtomicU64::new(0),
-    };
+    let gate = Meeting::of(*rt, u64::from(count));
     let made = doubled(rt, alloc, pieces.as_slice(), &gate, &mut bar);
-    same!(rt; gate.first_saw_it.load(Ordering::SeqCst), 1);
-    same!(rt; made.len(), 2);
-    same!(rt; bar.position, 2);
+    same!(rt; gate.saw_all.load(Ordering::SeqCst), u64::from(count));
+    same!(rt; made.len() as u64, u64::from(count));
+    same!(rt; bar.steps.as_slice(), [u64::from(count)].as_slice());
+}
+
+#[test]
+fn pieces_that_wait_for_one_another_run_at_the_same_time(rt: HostRuntime) {
+    for count in [1, 2, 300] {
+        all_meet(rt, rt.alloc(), count);
+    }
 }
 
 /// How many answers there are.
@@ -105,7 +106,7 @@ fn answers_in(made: &[Vec<u32>]) -> usize {
 }
 
 /// So many pieces of so many items each, over a bar at 5: the bar is advanced once, by all of them.
-fn all_are_answered<R: Copy + Threads + Sync + Abort>(
+fn all_are_answered<R: Copy + Threads + Wait + Sync + Abort>(
     rt: R,
     alloc: Global,
     (count, items): (u32, u32),
@@ -138,25 +139,29 @@ fn pieces_of_many_sizes(rt: HostRuntime) {
     }
 }
 
-/// Of six hundred pieces each runs once, and none of those behind the first 256 begins before these have begun.
+/// Of six hundred pieces each runs once, and no more are at work at the same time than there are processors.
 #[test]
 fn six_hundred_pieces(rt: HostRuntime) {
     let rt = &rt;
     let alloc = rt.alloc();
-    let pieces = pieces_of_ones(rt, alloc, 600, 2);
+    let pieces = pieces_of_ones(rt, alloc, 600, 1);
     let mut bar = bar_at(alloc, 0);
-    let gate = Waves {
-        passed: AtomicU64::new(0),
-        early: AtomicU64::new(0),
+    let gate = AtWork::new();
+    let double_last = |x: &u32| {
+        sleep(rt, Duration::from_millis(1));
+        gate.leave();
+        x.wrapping_mul(2)
     };
-    let made = doubled(rt, alloc, pieces.as_slice(), &gate, &mut bar);
+    let made = run_workers_with(rt, alloc, pieces.as_slice(), double_last, &gate, &mut bar);
+    let made = made.granted(rt);
     same!(rt; made.len(), 600);
     for answers in made.iter() {
-        same!(rt; answers.as_slice(), [2, 2].as_slice());
+        same!(rt; answers.as_slice(), [2].as_slice());
     }
-    same!(rt; bar.steps.as_slice(), [1200].as_slice());
+    same!(rt; bar.steps.as_slice(), [600].as_slice());
     same!(rt; gate.passed.load(Ordering::SeqCst), 600);
-    same!(rt; gate.early.load(Ordering::SeqCst), 0);
+    let processors = available_parallelism(rt).granted(rt).get();
+    holds!(rt; gate.most.load(Ordering::SeqCst) <= processors as u64);
 }
 
 /// So many pieces, each with its own number, twice.

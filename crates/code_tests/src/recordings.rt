@@ -21,7 +21,7 @@ const SIZE: Option<Size> = Some(Size {
 #[derive(Clone, Copy, Drop)]
 pub enum Kind<'a> {
     Any,
-    /// This text, logged above all bars of a terminal of 4 rows and 10 columns.
+    /// This text, logged above all bars.
     Log(&'a str),
     /// A bar whose owner is gone.
     Gone,
@@ -33,7 +33,7 @@ pub enum Kind<'a> {
 fn is_of(entry: &Entry<NoTracker>, kind: Kind<'_>) -> bool {
     match (&entry.call, kind) {
         (_, Kind::Any) | (Call::Drop(_), Kind::Gone) => true,
-        (Call::Log(found), Kind::Log(text)) => found.as_str() == text && entry.size == SIZE,
+        (Call::Log(found), Kind::Log(text)) => found.as_str() == text,
         (Call::Bar(_, command), kind) => is_ticker(command, kind),
         _ => false,
     }
@@ -52,8 +52,8 @@ impl<'a> RecordReader<InMemoryTerm, NoTracker> for Kind<'a> {
 
     fn read(self, record: Option<&Recorded<NoTracker, InMemoryTerm>>) -> u64 {
         match record {
-            Some(recorded) => count(recorded.entries(), self),
-            None => 0,
+            Some(recorded) if recorded.opening().size == SIZE => count(recorded.entries(), self),
+            _ => 0,
         }
     }
 }
@@ -68,7 +68,7 @@ fn count(entries: &[Entry<NoTracker>], kind: Kind<'_>) -> u64 {
     found
 }
 
-/// How many calls of this kind a board has kept.
+/// How many calls of this kind a board has kept, on a terminal of 4 rows and 10 columns.
 pub fn counted<R: Wait + Copy + Clone + Drop>(board: &Shared<R>, kind: Kind<'_>) -> u64 {
     board.with_record(kind)
 }

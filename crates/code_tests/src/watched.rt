@@ -21,7 +21,7 @@ pub fn board_on<R: Wait + Copy + Clone + Drop + Abort>(
 }
 
 /// A bar of the board whose one line is this text; it isn't drawn yet.
-fn bar_of<R: Wait + Copy + Clone + Drop + Abort>(
+pub fn bar_of<R: Wait + Copy + Clone + Drop + Abort>(
     board: &Board<R>,
     rt: R,
     alloc: Global,

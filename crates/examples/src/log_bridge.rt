@@ -1,21 +1,19 @@
 //! Logs above two bars: the macros of `log` write through a bridge, while a thread ticks one of the bars. On standard error; where
-//! that is no terminal, the bars are hidden and the lines are dropped.
+//! that is no terminal, the bars are hidden, and the kit's console writes the lines.
 use anyhow::Result;
 use indicatif::MultiProgress;
-use indicatif::bridge::LogBridge;
-use indicatif::machine::{MachineClock, Shares, StderrBar, StderrTerm, on_stderr};
-use log::{Level, Logged, info, warn};
+use indicatif::bridge::{StderrLogger, logger_above};
+use indicatif::machine::{Shares, StderrBar, on_stderr};
+use log::{Level, info, warn};
 use std::thread::sleep;
 use std::time::Duration;
 
 /// What is copied.
 const NAMES: &[&str] = &["a.txt", "b.txt", "c.txt"];
 
-type Logger<R> = Logged<R, LogBridge<StderrTerm, MachineClock<HostRuntime>, R>>;
-
 fn copy<R: Shares>(
     rt: &R,
-    log: &Logger<R>,
+    log: &StderrLogger<R>,
     files: &StderrBar<R>,
     work: &StderrBar<R>,
 ) -> Result<()> {
@@ -37,6 +35,6 @@ pub fn main<R: Shares>(rt: R, host: &HostRuntime) -> Result<()> {
     let board = MultiProgress::new(rt, rt.alloc(), on_stderr(host)?, 1)?;
     let files = board.new_bar(4)?;
     let work = board.new_spinner()?;
-    let log = Logged::new(rt, Level::Info, LogBridge::new(board.clone()?));
+    let log = logger_above(rt, host, &board, Level::Info)?;
     copy(&rt, &log, &files, &work)
 }

@@ -5,8 +5,11 @@
 //! - `formatters`: numbers as texts. `template`: the parts of a template. `terminal`: a bar on standard error. `sizes`: new sizes of a
 //!   terminal, passed on.
 //! - `key`: a key of one's own in a template, on standard error. `still`: ten bars there, of which one goes on.
-//! - With threads: `spinner`, which a thread ticks. `several`: three bars, each moved by a thread. `log_bridge`: lines of the crate `log` above
-//!   two bars, on standard error. `ported`: three programs of the Rust crate's documentation, carried over.
+//! - With threads, on standard error: `spinner`, which a thread ticks. `several`: three bars, each moved by a thread. `five`: five bars, as
+//!   plain lines where that is no terminal. `log_bridge`: lines of the crate `log` above two bars. `ported`: three programs of the Rust
+//!   crate's documentation, carried over.
+//! - `pieces`: pieces of work that threads do, also such as wait for one another.
+//! - `lost_terminal`: work that goes on when its terminal goes away. `storm`: 64 threads that log, pause and change targets. Not in turn.
 //! - `reader`: standard input through a reader with a bar.
 //! - `guide`: the programs of the guide at the head of crate `indicatif`. `guide_key`: the one with a key of one's own.
 //! - `shown`: the terminal in memory that some of these have, and how they print it.
@@ -15,12 +18,15 @@
 mod download;
 mod fine;
 mod first;
+mod five;
 mod formatters;
 mod guide;
 mod guide_key;
 mod key;
 mod log_bridge;
 mod logging;
+mod lost_terminal;
+mod pieces;
 mod ported;
 mod reader;
 mod refusal;
@@ -29,11 +35,12 @@ mod shown;
 mod sizes;
 mod spinner;
 mod still;
+mod storm;
 mod template;
 mod terminal;
 mod wrapped;
 
-use anyhow::Result;
+use anyhow::{Result, anyhow};
 use indicatif::machine::Shares;
 use std::env;
 
@@ -53,7 +60,9 @@ const NAMES: &[&str] = &[
     "still",
     "spinner",
     "several",
+    "five",
     "log_bridge",
+    "pieces",
     "ported",
     "reader",
     "guide",
@@ -74,7 +83,7 @@ fn run_all<R: Shares + Print>(rt: R, host: &HostRuntime) -> Result<()> {
     Ok(())
 }
 
-/// Runs the program of this name; nothing where there is none.
+/// Runs the program of this name. Failed: there is none.
 fn run<R: Shares + Print>(rt: R, host: &HostRuntime, name: &str) -> Result<()> {
     match name {
         "first" => first::main(rt),
@@ -89,12 +98,16 @@ fn run<R: Shares + Print>(rt: R, host: &HostRuntime, name: &str) -> Result<()> {
         "sizes" => sizes::main(host),
         "key" => key::main(rt, host),
         "still" => still::main(rt, host),
-        "spinner" => spinner::main(rt),
-        "several" => several::main(rt),
+        "spinner" => spinner::main(rt, host),
+        "several" => several::main(rt, host),
+        "five" => five::main(rt, host),
         "log_bridge" => log_bridge::main(rt, host),
+        "pieces" => pieces::main(rt, host),
+        "lost_terminal" => lost_terminal::main(rt, host),
+        "storm" => storm::main(rt, host),
         "ported" => ported::main(rt, host),
         "reader" => reader::main(rt, host),
         "guide" => guide::main(rt),
-        _ => Ok(()),
+        _ => Err(anyhow!("no example is called {name}")),
     }
 }

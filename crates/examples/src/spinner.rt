@@ -1,33 +1,20 @@
-//! Shows a spinner that a thread ticks, until five ticks are seen, or for 10,000 turns of a millisecond.
-use crate::shown::{print, setup};
+//! A spinner on standard error that a thread ticks.
 use anyhow::Result;
-use indicatif::machine::Shares;
-use indicatif::{InMemoryTerm, ProgressBar, ProgressStyle, StepClock};
+use indicatif::ProgressBar;
+use indicatif::machine::{Shares, StderrBar, on_stderr, style_on_stderr};
 use std::thread::sleep;
 use std::time::Duration;
 
-fn spin<R: Shares + Print>(
-    rt: &R,
-    spinner: &ProgressBar<InMemoryTerm, StepClock, R>,
-) -> Result<()> {
-    spinner.enable_steady_tick(1_000_000)?;
-    for _ in 0..10_000u32 {
-        if spinner.ticks() < 5 {
-            sleep(rt, Duration::from_millis(1));
-        }
-    }
-    println!(rt; "five ticks: {}", spinner.ticks() >= 5)?;
-    spinner.disable_steady_tick()?;
-    spinner.finish_with_message("copied")?;
-    spinner.with_term(|term| print(rt, term))
-}
+/// One after another; the last one once it is finished.
+const TICKS: [&str; 5] = ["-", "\\", "|", "/", "ok"];
 
-pub fn main<R: Shares + Print>(rt: R) -> Result<()> {
-    let style = ProgressStyle::with_template(rt.alloc(), "{spinner} {msg}")?;
-    let style = style.tick_strings(&["-", "\\", "|", "/", "ok"])?;
-    let setup = setup(rt.alloc(), 2, 20)?;
-    spin(
-        &rt,
-        &ProgressBar::styled(rt, rt.alloc(), style, None, setup)?,
-    )
+pub fn main<R: Shares>(rt: R, host: &HostRuntime) -> Result<()> {
+    let style = style_on_stderr(host, "{spinner:.blue} {msg}")?.tick_strings(&TICKS)?;
+    let setup = on_stderr(host)?;
+    let spinner: StderrBar<R> = ProgressBar::styled(rt, rt.alloc(), style, None, setup)?;
+    spinner.enable_steady_tick(100_000_000)?;
+    spinner.set_message("copying")?;
+    sleep(&rt, Duration::from_millis(500));
+    spinner.finish_with_message("copied")?;
+    Ok(())
 }

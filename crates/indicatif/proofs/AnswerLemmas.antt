@@ -12,11 +12,11 @@ use Rattle.indicatif_term.specs.Calls.{TermView}
 use Rattle.indicatif_term.specs.Frames.{some_wide}
 use Rattle.indicatif_term.specs.Limiters.{Limiter}
 use Rattle.indicatif_bar.specs.Trackers.{Tracking}
-use Rattle.indicatif_bar.specs.Commands.{BarRecord, Command, SetTicker, SetStyle, PutPosition, PutMessage, PutPrefix, PutFinish, PutTabWidth, SetElapsed, ResetEta, ResetElapsed, SetTabWidth, FinishBy, FinishUsingStyle, ForceDraw, obeyed, is_beyond_clock}
+use Rattle.indicatif_bar.specs.Commands.{BarRecord, Command, Tick, TickerTick, SetTicker, Inc, Dec, SetPosition, Update, SetLength, UnsetLength, IncLength, DecLength, SetMessage, SetPrefix, SetStyle, PutPosition, PutMessage, PutPrefix, PutFinish, PutTabWidth, SetElapsed, ResetEta, ResetElapsed, SetTabWidth, Reset, FinishBy, FinishUsingStyle, ForceDraw, obeyed, is_beyond_clock}
 use Rattle.indicatif_bar.specs.Bars.{bar_kind}
 use Rattle.indicatif_bar.specs.Kinds.{asked_of, Frame, NoFrame}
 use Rattle.indicatif_bar.specs.Machines.{Target, target_of, Machine, Draw, Deed, AtOnce, Draws, Leads, is_no, drawn_by}
-use Rattle.indicatif_bar.specs.Runs.{CallMade, Runs}
+use Rattle.indicatif_bar.specs.Runs.{CallMade}
 use Rattle.indicatif_bar.specs.Lone.{LoneState, LoneCall, Obey, Log, Clear, deed_unless, draw_of_call}
 use Rattle.indicatif_bar.specs.LoneBars.{lone_bar}
 use Rattle.indicatif_bar.specs.declared.ask.Ask.{Ask}
@@ -133,6 +133,19 @@ AsksAs Unforced ask = Unit {0}
 AsksAs Forced ask = ask ≡ Forced
 
 command_asks : {K : Type 0} (m : Tracking K) (command : Command K) (bar : BarRecord K) (now : ℕ) → AsksAs (asked_by command) (obeyed m command bar now).1
+command_asks m Tick bar now = tt
+command_asks m TickerTick bar now = tt
+command_asks m (Inc n) bar now = tt
+command_asks m (Dec n) bar now = tt
+command_asks m (SetPosition position) bar now = tt
+command_asks m (Update position len) bar now = tt
+command_asks m (SetLength n) bar now = tt
+command_asks m UnsetLength bar now = tt
+command_asks m (IncLength n) bar now = tt
+command_asks m (DecLength n) bar now = tt
+command_asks m (SetMessage text) bar now = tt
+command_asks m (SetPrefix text) bar now = tt
+command_asks m Reset bar now = tt
 command_asks m (SetTicker installed) bar now = refl
 command_asks m (SetStyle style) bar now = refl
 command_asks m (PutPosition position) bar now = refl
@@ -147,7 +160,6 @@ command_asks m (SetTabWidth tab) bar now = refl
 command_asks m (FinishBy by) bar now = refl
 command_asks m FinishUsingStyle bar now = refl
 command_asks m ForceDraw bar now = refl
-command_asks m _ bar now = tt
 
 -- the limiter isn't asked for a draw by force
 limiter_asked : (asked ask : Ask) (now : ℕ) (limiter : Option Limiter) → AsksAs asked ask → ComesAs asked ask (asked_of ask now limiter).0
@@ -195,7 +207,7 @@ module _ {K : Type 0} (m : Tracking K) (target : Target) (now : ℕ) (s : LoneSt
   call_answers Clear led = clear_leads (lone_bar m) target s (draw_of_call (bar_kind m) target Clear now s) (λ x. x) (λ x. x) answer next refl refl refl led
 
 -- a clear's answers are a draw's
-clear_is_draw : (answer : Result Drawn Refusal) → of_a_clear answer ≡ true → of_a_draw answer ≡ true
+pub clear_is_draw : (answer : Result Drawn Refusal) → of_a_clear answer ≡ true → of_a_draw answer ≡ true
 clear_is_draw (Err TooWide) can = refl
 clear_is_draw _ can = can
 
@@ -203,14 +215,9 @@ module _ {K : Type 0} (m : Tracking K) (old new : Option TermView) (s next : Lon
   pub made_alone : (call : LoneCall (Command K)) (now : ℕ) (answer : Result Drawn Refusal) → CallMade (lone_bar m) old new (call, now) s answer next → lone_answers call answer ≡ true
   made_alone call now answer made = call_answers m (target_of old) now s answer next call made.leads
 
-  -- a bar that was suspended: it was cleared and drawn again by force, or the clear was refused
-  pub suspended_alone : (now : ℕ) (answer : Result Drawn Refusal) →
-      ((cleared : Drawn) × Runs (lone_bar m) ((Clear, now) ∷ (Obey ForceDraw, now) ∷ []) (Ok cleared ∷ answer ∷ []) old s new next)
-      ⊎ ((e : Refusal) × (answer ≡ Err e) × Runs (lone_bar m) ((Clear, now) ∷ []) (Err e ∷ []) old s new next) → of_a_draw answer ≡ true
-  suspended_alone now answer (inl run) = let second = run.1.3 in
-      or-none (of_a_draw answer) (call_answers m (target_of run.1.0) now run.1.1 answer second.1 (Obey ForceDraw) second.2.leads)
-  suspended_alone now answer (inr run) =
-      subst (λ r. of_a_draw r ≡ true) (sym run.1) (clear_is_draw (Err run.0) (call_answers m (target_of old) now s (Err run.0) run.2.1 Clear run.2.2.leads))
+  -- a bar that was drawn by force
+  pub redrawn_alone : (now : ℕ) (answer : Result Drawn Refusal) → CallMade (lone_bar m) old new (Obey ForceDraw, now) s answer next → of_a_draw answer ≡ true
+  redrawn_alone now answer made = or-none (of_a_draw answer) (made_alone (Obey ForceDraw) now answer made)
 
 -- ---- a board
 
@@ -347,15 +354,6 @@ unfolding SharedDraws CanAnswer
 seated id (Obey command) answer can = can
 seated id (Log text) answer can = can
 seated id Clear answer can = can
-
--- a board that was drawn anew by force, or cleared
-pub redrawn_so : (K : Type 0) (answer : Result Drawn Refusal) → SharedDraws K Redraw answer → CanDraw answer
-unfolding SharedDraws
-redrawn_so K answer can = can
-
-pub cleared_so : (K : Type 0) (answer : Result Drawn Refusal) → SharedDraws K ClearBoard answer → CanDraw answer
-unfolding SharedDraws
-cleared_so K answer can = clear_is_draw answer can
 
 -- an insertion is refused for want of memory, or where the board hasn't the bar; a removal for want of memory, or of another board's bar; and another
 -- alignment for want of memory

@@ -1,22 +1,27 @@
 -- What is said of a shared bar is an answer that its call can have; and want of memory is one.
-use Rattle.std.proofs.Common.{◌≡◌, ◌⊎◌, ◌||◌, ℕ, inl, inr, refl, sym, subst, Option, Some, None, IfSome, Result, Ok, Err, MatchResult}
+use Rattle.std.proofs.Common.{◌≡◌, ◌⊎◌, ◌||◌, ℕ, inl, inr, refl, sym, subst, Option, Some, None, IfSome, List, Result, Ok, Err, MatchResult}
 use Rattle.indicatif_text.specs.declared.refusal.Refusal.{Refusal}
-use Rattle.indicatif_text.specs.declared.refusal.Refusal.TheVariants.{Memory, ForeignBar}
+use Rattle.indicatif_text.specs.declared.refusal.Refusal.TheVariants.{Memory}
 use Rattle.indicatif_text.specs.declared.refusal.Drawn.{Drawn}
 use Rattle.indicatif_term.specs.Calls.{TermView}
-use Rattle.indicatif_bar.specs.Commands.{Command}
+use Rattle.indicatif_bar.specs.Commands.{Command, ForceDraw, Update}
 use Rattle.indicatif_bar.specs.Trackers.{Tracking}
-use Rattle.indicatif_bar.specs.Lone.{LoneCall}
+use Rattle.indicatif_bar.specs.Lone.{LoneCall, Obey, Log, Clear}
 use Rattle.indicatif_bar.specs.LoneBars.{record_of, lone_known}
 use Rattle.indicatif_bar.specs.Progress.{Progress, new_progress, eta, per_sec, duration, elapsed}
 use Rattle.indicatif_bar.specs.declared.state.commands.Change.{Change as Changed}
 use Rattle.indicatif_bar.specs.declared.lone.LoneBar.{LoneBar}
 use Rattle.indicatif_board.specs.BoardValues.{id_of}
-use Rattle.indicatif.specs.Fronts.{of_no_draw, of_a_draw, has_no_bar, CanAnswer, CanDraw, CanTurn, IsMissing, MemoryOrForeign, unchanged}
-use Rattle.indicatif.specs.Inside.AnyBar.{SuspendedBy, MadeBy, BarMakes, BarSuspends, BarTurns, IsUntold, IsOf}
-use Rattle.indicatif.proofs.AnswerLemmas.{or-left, or-right, anywhere, made_alone, suspended_alone, seated}
+use Rattle.indicatif.specs.Fronts.{of_no_draw, of_a_draw, has_no_bar, CanAnswer, CanClear, CanDraw, CanMove, CanTurn, IsMissing, unchanged}
+use Rattle.indicatif.specs.Inside.AnyBar.{MadeBy, BarMakes, BarTurns, IsUntold, IsOf}
+use Rattle.indicatif.specs.Inside.Requests.{MatchTried, IfMade, BarTries, BarRedraws, BarMovesTo}
+use Rattle.indicatif.specs.Inside.SharedBoards.{SharedDraws, on_board}
+use Rattle.indicatif.proofs.AnswerLemmas.{or-left, or-right, anywhere, clear_is_draw, made_alone, redrawn_alone, seated}
 use Rattle.indicatif.specs.declared.progress_bar.any_bar.AnyBar.{AnyBar}
 use Rattle.indicatif.specs.declared.progress_bar.any_bar.AnyBar.TheVariants.{Alone, Member}
+use Rattle.indicatif.specs.declared.progress_bar.member_bar.MemberBar.{MemberBar}
+use Rattle.indicatif.specs.declared.progress_bar.request.Tried.{Tried}
+use Rattle.indicatif.specs.declared.progress_bar.request.Tried.TheVariants.{Made, ComeAgain}
 
 module _ {K T : Type 0} (m : Tracking K) (view : T → TermView) where
   -- what a bar answered that made a call or was suspended: its call can have that answer
@@ -25,19 +30,51 @@ module _ {K T : Type 0} (m : Tracking K) (view : T → TermView) where
     made_answers call made = let led = made.leads made.was.0 made.was.1 in
         anywhere call answer (made_alone m (lone_known view old) (lone_known view new) made.was.0 led.0 call now answer led.2)
 
-    pub suspended_answers : SuspendedBy m view old new now answer → CanDraw answer
-    suspended_answers made = let led = made.leads made.was.0 made.was.1 in
-        suspended_alone m (lone_known view old) (lone_known view new) made.was.0 led.0 now answer led.2
+    pub cleared_answers : MadeBy m view old new Clear now answer → CanClear answer
+    cleared_answers made = let led = made.leads made.was.0 made.was.1 in
+        made_alone m (lone_known view old) (lone_known view new) made.was.0 led.0 Clear now answer led.2
+
+    pub redrawn_answers : MadeBy m view old new (Obey ForceDraw) now answer → CanDraw answer
+    redrawn_answers made = let led = made.leads made.was.0 made.was.1 in
+        redrawn_alone m (lone_known view old) (lone_known view new) made.was.0 led.0 now answer led.2
 
 pub place_answers : {K T C : Type 0} (m : Tracking K) (view : T → TermView) (old new : AnyBar K T C) (call : LoneCall (Command K)) (answer : Result Drawn Refusal) →
     BarMakes m view old call answer new → CanAnswer K call answer
 place_answers m view (Alone old) new call answer made = made_answers m view old made.0 made.2.0 answer call made.2.1
 place_answers m view (Member member) new call answer made = seated (id_of member.id) call answer made.1
 
-pub place_suspends : {K T C : Type 0} (m : Tracking K) (view : T → TermView) (old new : AnyBar K T C) (answer : Result Drawn Refusal) →
-    BarSuspends m view old answer new → CanDraw answer
-place_suspends m view (Alone old) new answer made = suspended_answers m view old made.0 made.2 answer made.3
-place_suspends m view (Member member) new answer made = made.1
+-- ---- requests, which are made or handed back
+
+-- what holds of what became of one, if each part of it follows
+pub tried_as : {A Q : Type 0} {P P' : A → Type 0} {B B' : Q → Type 0} (tried : Tried A Q) → ((a : A) → P a → P' a) → ((q : Q) → B q → B' q) → MatchTried tried P B → MatchTried tried P' B'
+tried_as (Made answer) made back holds = made answer holds
+tried_as (ComeAgain again) made back holds = back again holds
+
+-- the same of an answer alone
+pub made_as : {A Q : Type 0} {P P' : A → Type 0} (tried : Tried A Q) → ((a : A) → P a → P' a) → IfMade tried P → IfMade tried P'
+made_as (Made answer) made holds = made answer holds
+made_as (ComeAgain again) made holds = tt
+
+-- and of one that says nothing where it is handed back
+pub made_or : {A Q : Type 0} {P P' : A → Type 0} {B : Q → Type 0} (tried : Tried A Q) → ((a : A) → P a → P' a) → ((q : Q) → B q) → IfMade tried P → MatchTried tried P' B
+made_or (Made answer) made back holds = made answer holds
+made_or (ComeAgain again) made back holds = back again
+
+-- what a bar on a board was asked
+pub seat_tries : {K T C Q : Type 0} (m : Tracking K) (view : T → TermView) (member : MemberBar K T C) (call : LoneCall (Command K)) (tried : Tried (Result Drawn Refusal) Q) (asked : Q) →
+    MatchTried tried (λ answer. SharedDraws K (on_board (id_of member.id) call) answer) (λ again. again ≡ asked) → BarTries m view (Member member) call tried asked (Member member)
+seat_tries m view member call tried asked made = tried_as tried (λ answer can. (refl, can)) (λ again same. (same, refl)) made
+
+pub place_redraws : {K T C : Type 0} (m : Tracking K) (view : T → TermView) (old new : AnyBar K T C) (answer : Result Drawn Refusal) →
+    BarRedraws m view old answer new → CanDraw answer
+place_redraws m view (Alone old) new answer made = redrawn_answers m view old made.0 made.2.0 answer made.2.1
+place_redraws m view (Member member) new answer made = made.1
+
+-- what the end of a pause answers, by what its clear answered
+pub resumed_draws : {K T C : Type 0} (m : Tracking K) (view : T → TermView) (old new : AnyBar K T C) (cleared answer : Result Drawn Refusal) → CanClear cleared →
+    MatchResult cleared (λ _. BarRedraws m view old answer new) (λ e. (answer ≡ Err e) × (new ≡ old)) → CanDraw answer
+resumed_draws m view old new (Ok drawn) answer can made = place_redraws m view old new answer made
+resumed_draws m view old new (Err e) answer can made = subst CanDraw (sym made.0) (clear_is_draw (Err e) can)
 
 can_stay : (e : Refusal) → IsMissing e → CanTurn (Err e)
 unfolding CanTurn
@@ -52,6 +89,20 @@ place_turns (Alone old) new term answer made = rw made.4 refl
 place_turns (Member member) new term answer (inl made) = or-right (of_no_draw answer) (of_a_draw answer || has_no_bar answer) (or-left (of_a_draw answer) (has_no_bar answer) made.3)
 place_turns (Member member) new term answer (inr made) = subst CanTurn (sym made.1) (can_stay made.0 made.3)
 
+missing_moves : (e : Refusal) → IsMissing e → CanMove (Err e)
+unfolding CanMove
+missing_moves e (inl memory) = rw memory refl
+missing_moves e (inr (inl foreign)) = rw foreign refl
+missing_moves e (inr (inr gone)) = rw gone refl
+
+pub place_moves : {K T C : Type 0} (m : Tracking K) (view : T → TermView) (old new : AnyBar K T C) (term : Option T) (answer : Result Drawn Refusal) →
+    BarMovesTo m view old term answer new → CanMove answer
+unfolding CanMove
+place_moves m view (Alone old) new term answer made =
+    or-left (of_a_draw answer) (has_no_bar answer) (clear_is_draw answer (cleared_answers m view old made.0 made.3.0 answer made.3.1))
+place_moves m view (Member member) new term answer (inl made) = or-left (of_a_draw answer) (has_no_bar answer) made.3
+place_moves m view (Member member) new term answer (inr made) = subst CanMove (sym made.1) (missing_moves made.0 made.3)
+
 pub place_untold : {K T C : Type 0} (place : AnyBar K T C) (e : Refusal) → IsUntold place e → IsMissing e
 place_untold (Alone bar) e untold = inl untold
 place_untold (Member member) e untold = untold
@@ -59,12 +110,6 @@ place_untold (Member member) e untold = untold
 -- memory is one of the reasons
 pub memory_missing : IsMissing Memory
 memory_missing = inl refl
-
-pub memory_or_foreign : MemoryOrForeign Memory
-memory_or_foreign = inl refl
-
-pub foreign_or_memory : MemoryOrForeign ForeignBar
-foreign_or_memory = inr refl
 
 -- what was found of a bar on a board, if it is there
 pub seat_reads : {X A : Type 0} (R : Progress → A → Type 0) (state : X → Progress) (bar : Result X Refusal) (found : Option A) →
@@ -89,3 +134,22 @@ no_elapsed = (new_progress None 0, 0, refl)
 pub is_of : {K T C : Type 0} (R : Progress → Changed → Type 0) (place : AnyBar K T C) (change : Changed) → IsOf R place change → ((shown : Progress) × R shown change) ⊎ (change ≡ unchanged)
 is_of R (Alone bar) change is = inl ((record_of bar).progress, is)
 is_of R (Member member) change is = is
+
+-- what an update can answer, and what its closure answered
+pub update_answers : {K T C : Type 0} (m : Tracking K) (view : T → TermView) (R : Progress → Changed → Type 0) (old new : AnyBar K T C) (answer : Result Drawn Refusal) →
+    (change : Changed) × BarMakes m view old (Obey (Update change.pos change.len)) answer new × IsOf R old change →
+    (change : Changed) × CanAnswer K (Obey (Update change.pos change.len)) answer × (((shown : Progress) × R shown change) ⊎ (change ≡ unchanged))
+update_answers m view R old new answer made =
+    (made.0, place_answers m view old new (Obey (Update made.0.pos made.0.len)) answer made.1, is_of R old made.0 made.2)
+
+-- ---- lines that are written elsewhere where bars are hidden: the log's answer, or one that a draw can have
+
+pub line_drawn : (drawn answer : Result Drawn Refusal) → CanDraw drawn → (answer ≡ drawn) ⊎ CanDraw answer → CanDraw answer
+line_drawn drawn answer can (inl same) = subst CanDraw (sym same) can
+line_drawn drawn answer can (inr other) = other
+
+pub line_answers : (K : Type 0) (text : List ℕ) (drawn answer : Result Drawn Refusal) → CanAnswer K (Log text) drawn → (answer ≡ drawn) ⊎ CanDraw answer →
+    CanAnswer K (Log text) answer
+unfolding CanAnswer
+line_answers K text drawn answer can (inl same) = subst (CanAnswer K (Log text)) (sym same) can
+line_answers K text drawn answer can (inr other) = or-left (of_a_draw answer) (has_no_bar answer) other

@@ -8,9 +8,7 @@ mod BlockLemmas
 mod PieceLemmas
 mod SumLemmas
 mod WorkerLemmas
-mod WaveLemmas
 mod PlacedLemmas
 mod SharedLemmas
 mod AnswerLemmas
 mod FrontLemmas
-mod OwnRowsLemmas

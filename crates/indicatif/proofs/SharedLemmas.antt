@@ -2,18 +2,17 @@
 use Rattle.std.proofs.Common.{◌≡◌, ℕ, ◌⊎◌, inl, inr, refl, sym, subst, ap, Option, Some, None, Result, Ok, Err, IfErr, MatchResult}
 use Rattle.indicatif_text.specs.declared.refusal.Refusal.{Refusal}
 use Rattle.indicatif_text.specs.declared.refusal.Refusal.TheVariants.{Memory}
-use Rattle.indicatif_text.specs.declared.refusal.Drawn.{Drawn}
 use Rattle.indicatif_term.specs.Calls.{TermView}
 use Rattle.indicatif_bar.specs.Trackers.{Tracking}
 use Rattle.indicatif_bar.specs.Commands.{BarRecord}
-use Rattle.indicatif_board.specs.Boards.{Id, Remove, Clear, Redraw, Answer, Done, Refused}
+use Rattle.indicatif_board.specs.Boards.{Id, Remove, Answer, Done, Refused}
 use Rattle.indicatif_board.specs.Calls.{answer_of, removal}
 use Rattle.indicatif_board.specs.declared.calls.Answer.{Answer as AnswerValue}
 use Rattle.indicatif_board.specs.declared.calls.Answer.TheVariants as answer
 use Rattle.indicatif_board.specs.Multi.{IsIn, LeadsBy, known}
 use Rattle.indicatif_board.specs.Recorded.{Record, IsOneRun, AddsCall}
 use Rattle.indicatif_board.specs.declared.multi.Board.{Board}
-use Rattle.indicatif.specs.Inside.AnyBoard.{BoardDraws, BoardRemoves, BoardSuspends, refused_with}
+use Rattle.indicatif.specs.Inside.AnyBoard.{BoardRemoves, refused_with}
 use Rattle.indicatif.specs.declared.progress_bar.any_board.AnyBoard.{AnyBoard}
 use Rattle.indicatif.specs.declared.progress_bar.any_board.AnyBoard.TheVariants as kind
 use Rattle.indicatif.specs.Inside.SharedBoards.{SharedCall, SharedState, SharedAnswers}
@@ -28,7 +27,7 @@ module _ {K T : Type 0} (m : Tracking K) (view : T → TermView) where
   -- the same of a board with its history
   pub record_answers : (old new : Record K T) (call : SharedCall K) (now : ℕ) (answer : Answer) →
       IsOneRun m old → AddsCall m view old call now answer new ⊎ ((new ≡ old) × (answer ≡ Refused Memory)) → SharedAnswers K call answer
-  record_answers old new call now answer run (inl grows) = can_answer old.board new.board call now answer old.board_id run.0 run.2 grows.leads
+  record_answers old new call now answer run (inl grows) = can_answer old.board new.board call now answer old.board_id run.2.state run.2.holds grows.leads
   record_answers old new call now answer run (inr same) = subst (SharedAnswers K call) (sym same.1) (no_memory call)
 
   -- what a history says of its growth, of the answer as its definition
@@ -63,8 +62,3 @@ module _ {K T : Type 0} (m : Tracking K) (view : T → TermView) where
       MatchResult r (λ bar. BoardRemoves m view (kind.Recorded old) id now None (kind.Recorded new)) (λ e. BoardRemoves m view (kind.Recorded old) id now (Some e) (kind.Recorded new))
   removed_recorded old new id now (Ok bar) told is grows = (answer_of told, sym is, (new, refl, grows))
   removed_recorded old new id now (Err e) told is grows = (answer_of told, sym (ap (λ t. refused_with (answer_of t)) is), (new, refl, grows))
-
-  -- what a suspension made of a board whose clear was not refused
-  pub cleared_and_drawn : (old between new : AnyBoard K T) (now : ℕ) (cleared : Drawn) (drawn : Result Drawn Refusal) →
-      BoardDraws m view old Clear now (Ok cleared) between → BoardDraws m view between Redraw now drawn new → BoardSuspends m view old now drawn new
-  cleared_and_drawn old between new now cleared drawn first second = inl (cleared, between, first, second)

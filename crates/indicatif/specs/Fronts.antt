@@ -7,7 +7,7 @@ use Rattle.indicatif_text.specs.declared.refusal.Drawn.{Drawn}
 use Rattle.indicatif_text.specs.declared.refusal.Drawn.TheVariants.{Yes, Limited, Hidden}
 use Rattle.indicatif_bar.specs.declared.ask.Ask.{Ask}
 use Rattle.indicatif_bar.specs.declared.ask.Ask.TheVariants.{No, Unforced, Forced}
-use Rattle.indicatif_bar.specs.Commands.{Command, SetTicker, SetStyle, PutPosition, PutMessage, PutPrefix, PutFinish, PutTabWidth, SetTabWidth, SetElapsed, ResetEta, ResetElapsed, FinishBy, FinishUsingStyle, ForceDraw}
+use Rattle.indicatif_bar.specs.Commands.{Command, Tick, TickerTick, SetTicker, Inc, Dec, SetPosition, Update, SetLength, UnsetLength, IncLength, DecLength, SetMessage, SetPrefix, SetStyle, PutPosition, PutMessage, PutPrefix, PutFinish, PutTabWidth, SetTabWidth, SetElapsed, ResetEta, ResetElapsed, Reset, FinishBy, FinishUsingStyle, ForceDraw}
 use Rattle.indicatif_bar.specs.Lone.{LoneCall, Obey, Log, Clear}
 use Rattle.indicatif_bar.specs.declared.state.commands.Change.{Change}
 
@@ -56,8 +56,21 @@ of_draw Forced answer = of_a_draw answer
 
 -- ---- bars
 
--- the draw that a command asks for: none, or one by force; all that aren't named ask for one that the limiter may put off
+-- the draw that a command asks for: one that the limiter may put off, none, or one by force
 abbrev pub asked_by : {K : Type 0} → Command K → Ask
+asked_by Tick = Unforced
+asked_by TickerTick = Unforced
+asked_by (Inc n) = Unforced
+asked_by (Dec n) = Unforced
+asked_by (SetPosition position) = Unforced
+asked_by (Update position len) = Unforced
+asked_by (SetLength n) = Unforced
+asked_by UnsetLength = Unforced
+asked_by (IncLength n) = Unforced
+asked_by (DecLength n) = Unforced
+asked_by (SetMessage text) = Unforced
+asked_by (SetPrefix text) = Unforced
+asked_by Reset = Unforced
 asked_by (SetTicker installed) = No
 asked_by (SetStyle style) = No
 asked_by (PutPosition position) = No
@@ -72,7 +85,6 @@ asked_by (SetTabWidth tab) = Forced
 asked_by (FinishBy by) = Forced
 asked_by FinishUsingStyle = Forced
 asked_by ForceDraw = Forced
-asked_by _ = Unforced
 
 -- a command's own refusal: an elapsed time beyond the clock, which 0 never is
 abbrev pub is_late : {K : Type 0} → Command K → Result Drawn Refusal → Bool
@@ -99,6 +111,11 @@ CanAnswer K call answer = IsTrue (bar_answers call answer)
 -- force; or it stays there
 unfoldable pub CanTurn : Result Drawn Refusal → Type 0
 CanTurn answer = IsTrue (of_no_draw answer || (of_a_draw answer || has_no_bar answer))
+
+-- a bar that is to be taken from its target to another one can answer so: it was cleared, or the others of its board were drawn by force;
+-- or it stays there
+unfoldable pub CanMove : Result Drawn Refusal → Type 0
+CanMove answer = IsTrue (of_a_draw answer || has_no_bar answer)
 
 -- why a bar's text isn't told, or a bar isn't taken in: there is no memory, or the board that is asked hasn't the bar
 abbrev pub IsMissing : Refusal → Type 0

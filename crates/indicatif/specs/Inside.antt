@@ -6,5 +6,6 @@ pub mod ListPieces
 pub mod LockedBar
 pub mod Pieces
 pub mod PositionChange
+pub mod Requests
 pub mod SharedBoards
 pub mod TextCommand

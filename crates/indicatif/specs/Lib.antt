@@ -1,12 +1,13 @@
 pub mod Fronts
 pub mod Machine
 pub mod Moves
-pub mod OwnRows
 pub mod Owned
 pub mod Parallel
+pub mod PlainLines
 pub mod Ring
 pub mod Seek
 pub mod StderrTerm
+pub mod UntilGone
 pub mod Workers
 pub mod Wrap
 pub mod Inside

@@ -1,5 +1,5 @@
 -- Targets on the machine's terminals.
-use Rattle.std.specs.Prelude.{◌≡◌, ℕ, Option, Some, None, if◌then◌else◌}
+use Rattle.std.specs.Prelude.{◌≡◌, ℕ, ◌-◌, max, Option, Some, None, if◌then◌else◌}
 use Rattle.std.specs.declared.alloc.Global.{Global}
 use Rattle.std.specs.declared.io.Stderr.{Stderr}
 use Rattle.std.specs.declared.io.buffered.BufWriter.{BufWriter}
@@ -7,33 +7,50 @@ use Rattle.indicatif_term.specs.Limiters.{Limiter, draw_limiter}
 use Rattle.indicatif_term.specs.DrawTargets.{hides, term_behind}
 use Rattle.indicatif_term.specs.Writers.{WriterTerm}
 use Rattle.indicatif_term.specs.declared.draw_target.Facts.{Facts}
-use Rattle.indicatif.specs.OwnRows.{new_rows}
+use Rattle.indicatif_term.specs.OwnRows.{own_rows, left_rows}
+use Rattle.indicatif_term.specs.declared.own_row.OwnRow.{OwnRow}
+use Rattle.indicatif_term.specs.declared.own_rows.OwnRows.{OwnRows}
 use Rattle.indicatif.specs.StderrTerm.{stderr_target}
-use Rattle.indicatif.specs.declared.own_rows.OwnRows.{OwnRows}
-use Rattle.indicatif.specs.declared.own_rows.RowEnds.{RowEnds}
 use Rattle.indicatif.specs.declared.machine.stderr_term.StderrTerm.{StderrTerm}
-use Rattle.indicatif.specs.declared.own_rows.RowEnds.TheVariants.{ByProgram, ByTerminal}
+use Rattle.indicatif.specs.declared.machine.until_gone.UntilGone.{UntilGone}
 
 -- a target on the terminal behind some writer, which may be drawn 20 times a second; a hidden one where the facts say so
 abbrev pub IsBehind : {W : Type 0} → Option (WriterTerm W × Option Limiter) → Facts → Type 0
 IsBehind {W} target facts = (w : W) × (now : ℕ) × (target ≡ (if hides facts then None else Some (term_behind w facts, Some (draw_limiter 20 now))))
 
--- the columns that were told; 79 where none were
-abbrev pub columns_by : Option ℕ → ℕ
-columns_by (Some columns) = columns
-columns_by None = 79
+-- a new terminal of the size that is told, behind some writer
+abbrev pub IsTermBehind : {W : Type 0} → WriterTerm W → Facts → Type 0
+IsTermBehind {W} term facts = (w : W) × (term ≡ term_behind w facts)
 
--- who ends a full row: the terminal where its columns were told, else the program
-abbrev pub ends_by : Option ℕ → RowEnds
-ends_by (Some columns) = ByTerminal
-ends_by None = ByProgram
+-- the columns of rows that the program ends: one less than were told, and at least one
+abbrev pub own_columns : ℕ → ℕ
+own_columns told = max (told - 1) 1
 
--- the same on a terminal of which these columns were told, or none: it has so many, and full rows are ended so
-abbrev pub IsOnStream : {W : Type 0} → Option (OwnRows (WriterTerm W) × Option Limiter) → Option ℕ → Facts → Type 0
-IsOnStream {W} target told facts = (facts.cols ≡ columns_by told) × (w : W) × (now : ℕ)
-    × (target ≡ (if hides facts then None else Some (new_rows (term_behind w facts) (ends_by told), Some (draw_limiter 20 now))))
+-- a target on the terminal behind some writer, whose full rows are ended by the program, on all of it or on one row
+abbrev pub IsOwn : {W : Type 0} → Option (OwnRows (WriterTerm W) × Option Limiter) → Option OwnRow → Facts → Type 0
+IsOwn {W} target row facts = (w : W) × (now : ℕ)
+    × (target ≡ (if hides facts then None else Some (own_rows (term_behind w facts) row, Some (draw_limiter 20 now))))
 
--- the same on standard error
-abbrev pub IsOnStderr : Option (StderrTerm × Option Limiter) → Option ℕ → Facts → Type 0
-IsOnStderr target told facts = (on : Option (OwnRows (WriterTerm (BufWriter Stderr Global)) × Option Limiter))
+-- the same on all of a terminal of which so many columns were told: rows have one less
+abbrev pub IsOnStream : {W : Type 0} → Option (OwnRows (WriterTerm W) × Option Limiter) → ℕ → Facts → Type 0
+IsOnStream target told facts = (facts.cols ≡ own_columns told) × IsOwn target None facts
+
+-- the same where the size is known: full rows are left to the terminal
+abbrev pub IsSized : {W : Type 0} → Option (OwnRows (WriterTerm W) × Option Limiter) → Facts → Type 0
+IsSized {W} target facts = (w : W) × (now : ℕ)
+    × (target ≡ (if hides facts then None else Some (left_rows (term_behind w facts), Some (draw_limiter 20 now))))
+
+-- rows on standard error that the program ends
+abbrev pub IsOwnStderr : Option (StderrTerm × Option Limiter) → Option OwnRow → Facts → Type 0
+IsOwnStderr target row facts = (on : Option (OwnRows (WriterTerm (BufWriter (UntilGone Stderr) Global)) × Option Limiter))
+    × IsOwn on row facts × (target ≡ stderr_target on)
+
+-- the same where so many columns were told
+abbrev pub IsOnStderr : Option (StderrTerm × Option Limiter) → ℕ → Facts → Type 0
+IsOnStderr target told facts = (on : Option (OwnRows (WriterTerm (BufWriter (UntilGone Stderr) Global)) × Option Limiter))
     × IsOnStream on told facts × (target ≡ stderr_target on)
+
+-- where the size is known
+abbrev pub IsSizedStderr : Option (StderrTerm × Option Limiter) → Facts → Type 0
+IsSizedStderr target facts = (on : Option (OwnRows (WriterTerm (BufWriter (UntilGone Stderr) Global)) × Option Limiter))
+    × IsSized on facts × (target ≡ stderr_target on)

@@ -92,3 +92,9 @@ abbrev pub SeekMovesBar : SeekFrom → Type 0 → Type 0 → Type 0
 SeekMovesBar (Start k) same moved = moved
 SeekMovesBar (End k) same moved = moved
 SeekMovesBar (Current k) same moved = (k ≡ pos 0 → same) × (k ≢ pos 0 → moved)
+
+-- ---- the end
+
+-- where it has come to its end, nothing comes behind it
+abbrev pub StaysAtItsEnd : {I A : Type 0} → (I → Option A → I → Type 0) → Type 0
+StaysAtItsEnd {I} {A} gives = (s m t : I) (item : Option A) → gives s None m → gives m item t → item ≡ None

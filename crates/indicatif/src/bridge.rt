@@ -1,19 +1,23 @@
 //! Lines of a log above the bars of a board: a sink of the crate `log`.
 ghost use Rattle.std.specs.Prelude.{◌≡◌, ℕ, true, Some, []};
 
+use crate::machine::{MachineClock, Shares, StderrBoard, StderrTerm};
 use crate::progress_bar::MultiProgress;
 use indicatif_bar::style::{NoTracker, Tracks};
 pub use indicatif_board::bridge::{bridge_line, emit};
 use indicatif_term::term_like::TermLike;
 use indicatif_text::columns::{Clock, Drawn, Refusal};
 use log::kv::Source;
+use log::sink::{Console, Discard};
 use log::span::Spans;
-use log::{Level, LevelFilter, Log, Metadata, Record};
+use log::{Level, LevelFilter, Line, Log, Logged, Metadata, Record};
+use std::alloc::Global;
 use std::fmt::Display;
 use std::sync::Wait;
 use std::sync::atomic::{AtomicU64, Ordering};
 
-/// How a record becomes the lines that are written.
+/// How a record becomes the lines that are written. Its text is its message, behind its spans and before its pairs:
+/// `request{id=7}: started rows=3`.
 ///
 /// ```
 /// struct TextAlone;
@@ -33,7 +37,7 @@ pub trait LineForm {
 /// The level once, before the text (`bridge_line`): further lines of the text stand as they are. `LogBridge::new` takes this form.
 ///
 /// ```
-/// let log = Logged::new(rt, Level::Info, LogBridge::new(board.clone()?)); // `e\nf` stands as `ERROR e` and `f`
+/// let bridge = LogBridge::new(board.clone()?); // `e\nf` stands as `ERROR e` and `f`
 /// ```
 #[derive(Clone, Copy, Debug, Default, Drop, PartialEq, Eq)]
 pub struct LevelOnce;
@@ -47,7 +51,7 @@ impl LineForm for LevelOnce {
 /// The level before each line of the text.
 ///
 /// ```
-/// let bridge = LogBridge::with_form(board.clone()?, LevelOnEachLine); // `e\nf` stands as `ERROR e` and `ERROR f`
+/// let bridge = LogBridge::new(board.clone()?).with_form(LevelOnEachLine); // `e\nf` stands as `ERROR e` and `ERROR f`
 /// ```
 #[derive(Clone, Copy, Debug, Default, Drop, PartialEq, Eq)]
 pub struct LevelOnEachLine;
@@ -66,17 +70,21 @@ impl LineForm for LevelOnEachLine {
     }
 }
 
-/// A sink of the crate `log` that writes each record above the bars of a board: one `MultiProgress::println` a record. It takes
-/// the level and the text; a record's keys and spans are left out.
+/// A sink of the crate `log` that writes each record above the bars of a board: one `MultiProgress::println` a record. Spans stand before
+/// the message and pairs behind it, as in the lines of the kit's console.
+///
+/// Where the board is hidden, as where standard error is no terminal, a record goes whole to another sink (`over`). Without one (`new`)
+/// it is dropped there.
 ///
 /// What is refused, as by a terminal that fails, can't be told to whoever logs: it is counted.
 ///
-/// A record that is logged while this thread holds the board's lock, as in the closure of `MultiProgress::suspend`, waits for ever.
+/// A record that is logged while a closure of `suspend` runs, of the board or of any bar of that board, waits until it has run. One that is
+/// logged in the closure itself, or in that of an `update`, a `with_term` or a `with_record`, waits for ever.
 ///
 /// ```
-/// let bridge = LogBridge::new(board.clone()?);
+/// let bridge = LogBridge::over(board.clone()?, Console(*host));
 /// let rt = Logged::new(rt, Level::Info, bridge);
-/// warn!(rt; "low disk"); // `WARN  low disk` stands above the bars
+/// warn!(rt; "low disk"); // `WARN  low disk` stands above the bars; where they are hidden, the console has the record
 /// ```
 #[derive(Drop)]
 pub struct LogBridge<
@@ -85,10 +93,12 @@ pub struct LogBridge<
     R: Wait + Clone + Drop,
     F = LevelOnce,
     K: Tracks = NoTracker,
+    L = Discard,
 > {
     board: MultiProgress<T, C, R, K>,
     most: LevelFilter,
     form: F,
+    inner: L,
     missed: AtomicU64,
 }
 
@@ -99,9 +109,33 @@ impl<T: TermLike + Drop, C: Clock + Drop, R: Wait + Clone + Drop, K: Tracks> Log
     LevelOnce,
     K,
 > {
-    /// A sink over this board, for records of each level, with the level once before the text.
+    /// A sink over this board, for records of each level, with the level once before the text. Where the board is hidden, records are
+    /// dropped.
     pub fn new(board: MultiProgress<T, C, R, K>) -> Self {
-        LogBridge::with_form(board, LevelOnce)
+        LogBridge::over(board, Discard)
+    }
+}
+
+impl<
+    T: TermLike + Drop,
+    C: Clock + Drop,
+    R: Wait + Clone + Drop,
+    K: Tracks,
+    L: Log + Drop,
+> LogBridge<T, C, R, LevelOnce, K, L> {
+    /// The same, but where the board is hidden `inner` gets the records: no record is lost.
+    ///
+    /// ```
+    /// let bridge = LogBridge::over(board.clone()?, Console(*host)); // where bars are hidden, `[WARN  app] low disk` on standard error
+    /// ```
+    pub fn over(board: MultiProgress<T, C, R, K>, inner: L) -> Self {
+        LogBridge {
+            board,
+            most: LevelFilter::Trace,
+            form: LevelOnce,
+            inner,
+            missed: AtomicU64::new(0),
+        }
     }
 }
 
@@ -111,18 +145,27 @@ impl<
     R: Wait + Clone + Drop,
     F: LineForm + Drop,
     K: Tracks,
-> LogBridge<T, C, R, F, K> {
-    /// The same, with lines of this form.
+    L: Log + Drop,
+> LogBridge<T, C, R, F, K, L> {
+    /// The same, with lines of this form above the bars.
     ///
     /// ```
-    /// let bridge = LogBridge::with_form(board.clone()?, LevelOnEachLine);
+    /// let bridge = LogBridge::new(board.clone()?).with_form(LevelOnEachLine);
     /// ```
-    pub fn with_form(board: MultiProgress<T, C, R, K>, form: F) -> Self {
+    pub fn with_form<G: LineForm + Drop>(self, form: G) -> LogBridge<T, C, R, G, K, L> {
+        let LogBridge {
+            board,
+            most,
+            form: _,
+            inner,
+            missed,
+        } = self;
         LogBridge {
             board,
-            most: LevelFilter::Trace,
+            most,
             form,
-            missed: AtomicU64::new(0),
+            inner,
+            missed,
         }
     }
 
@@ -135,6 +178,7 @@ impl<
         let LogBridge {
             board,
             form,
+            inner,
             missed,
             ..
         } = self;
@@ -142,6 +186,7 @@ impl<
             board,
             most,
             form,
+            inner,
             missed,
         }
     }
@@ -157,22 +202,76 @@ impl<
         record: &Record<'_, D, V, S>,
     ) -> Result<Drawn, Refusal> {
         let alloc = self.board.alloc();
-        let text = String::format(alloc, record.args())?;
+        let line = plain_line(alloc, record)?;
         let mut lines = String::new(alloc);
-        self.form
-            .push_line(record.level(), text.as_str(), &mut lines)?;
+        let text = behind_level(line.as_str());
+        self.form.push_line(record.level(), text, &mut lines)?;
         self.board.println(lines.as_str())
     }
 }
 
-impl<T: TermLike + Drop, C: Clock + Drop, R: Wait + Clone + Drop, F: LineForm + Drop, K: Tracks> Log
-    for LogBridge<T, C, R, F, K> {
-    ghost use Rattle.std.specs.Prelude.{Some, []};
+/// What a function that logs above the bars of standard error takes, as `logger_above` makes it.
+///
+/// ```
+/// fn copy<R: Shares>(log: &StderrLogger<R>) {
+///     info!(log; "copied a.txt");
+/// }
+/// ```
+pub type StderrLogger<R, K = NoTracker> = Logged<
+    R,
+    LogBridge<StderrTerm, MachineClock<HostRuntime>, R, LevelOnce, K, Console<HostRuntime>>,
+>;
+
+/// A logger up to this level, whose lines stand above the bars of a board on standard error. Where they are hidden, the kit's console writes
+/// the lines there.
+///
+/// ```
+/// let log = logger_above(rt, host, &board, Level::Info)?;
+/// ```
+///
+/// Refused: `Memory`.
+pub fn logger_above<R: Shares, K: Tracks>(
+    rt: R,
+    host: &HostRuntime,
+    board: &StderrBoard<R, K>,
+    level: Level,
+) -> Result<StderrLogger<R, K>, Refusal> {
+    let bridge = LogBridge::over(board.clone()?, Console(*host));
+    Ok(Logged::new(rt, level, bridge))
+}
+
+/// A record's line as the kit's console writes it, without its target: `[INFO ] request{id=7}: started rows=3`.
+fn plain_line<D: Display, V: Source, S: Spans>(
+    alloc: Global,
+    record: &Record<'_, D, V, S>,
+) -> Result<String, Refusal> {
+    let metadata = Metadata::new(record.level(), "");
+    let plain = Record::new(metadata, record.args(), record.key_values(), record.spans());
+    Ok(String::format(alloc, Line::new(&plain))?)
+}
+
+/// What stands in such a line behind its level.
+fn behind_level(line: &str) -> &str {
+    match line.split_once("] ") {
+        Some((_, text)) => text,
+        None => line,
+    }
+}
+
+impl<
+    T: TermLike + Drop,
+    C: Clock + Drop,
+    R: Wait + Clone + Drop,
+    F: LineForm + Drop,
+    K: Tracks,
+    L: Log + Drop,
+> Log for LogBridge<T, C, R, F, K, L> {
+    ghost use Rattle.std.specs.Prelude.{Some};
     ghost use Rattle.log.specs.Level.{allows};
 
     ghost enables = { λ bridge level _. Some (allows bridge.most level) };
 
-    ghost target_of = { λ _. Some [] };
+    ghost target_of = { λ bridge. L.target_of bridge.inner };
 
     fn enabled(&self, metadata: &Metadata<'_>) -> bool {
         self.most.allows(metadata.level())
@@ -182,14 +281,20 @@ impl<T: TermLike + Drop, C: Clock + Drop, R: Wait + Clone + Drop, F: LineForm + 
         if !self.most.allows(record.level()) {
             return;
         }
-        if self.print(record).is_err() {
-            self.missed.fetch_add(1, Ordering::SeqCst);
+        match self.print(record) {
+            Ok(Drawn::Hidden) => self.inner.log(record),
+            Ok(_) => {}
+            Err(_) => {
+                self.missed.fetch_add(1, Ordering::SeqCst);
+            }
         }
     }
 
-    fn flush(&self) {}
+    fn flush(&self) {
+        self.inner.flush();
+    }
 
     fn target(&self) -> &str {
-        ""
+        self.inner.target()
     }
 }

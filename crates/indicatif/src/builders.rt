@@ -13,7 +13,7 @@ use indicatif_text::columns::{Clock, Drawn, Refusal};
 
 /// Each of these asks no draw, and leaves `last_draw` as it is.
 impl<I, K: Tracks, W: TermLike + Drop, C: Clock + Drop> ProgressBarIter<I, OwnedBar<K, W, C>> {
-    /// Another position of the bar, which the rate doesn't count.
+    /// Another position of the bar. The rate counts it with the next step: `ProgressBar::with_position` says what to do about that.
     pub fn with_position(self, position: u64) -> Self
         ensures { Built K.means W.view self (PutPosition position) result }
     {

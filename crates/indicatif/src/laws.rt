@@ -10,7 +10,7 @@ ghost use Rattle.indicatif.specs.declared.moves.Move.TheVariants.{Advance, Finis
 ghost use Rattle.indicatif.specs.Owned.{Commanded, IsRun};
 ghost use Rattle.indicatif.specs.Parallel.{Blocks};
 ghost use Rattle.indicatif.specs.declared.owned.OwnedBar.{OwnedBar};
-ghost use Rattle.indicatif.specs.Wrap.{inner_of, last_draw_of};
+ghost use Rattle.indicatif.specs.Wrap.{inner_of, last_draw_of, StaysAtItsEnd};
 ghost use Rattle.indicatif.specs.Ring.{last_updates};
 ghost use Rattle.indicatif.specs.Seek.{Seeks, no_seeks, saturated, Forward, after_seek, after_steps};
 
@@ -59,6 +59,11 @@ pub fn a_whole_loop<I: Iterator, P: Moves + Drop>()
 pub fn the_moves_of_a_loop<I: Iterator, P: Moves + Drop>()
     ensures { (items : List I.Item) (start end : ProgressBarIter I P) → YieldsThen ⟦<ProgressBarIter<I, P> as Iterator>⟧.next_gives start items None end →
         (made : List (Move × Result Drawn Refusal)) × MovedAlong P.leads made start.progress end.progress × AreOfLoop (length items) (map (λ x. x.0) made) }
+{}
+
+/// A wrapper stays at its end if the iterator inside does: so a wrapped `FusedIterator` is one.
+pub fn a_wrapped_end_stays<I: Iterator, P: Moves + Drop>()
+    ensures { StaysAtItsEnd I.next_gives → StaysAtItsEnd ⟦<ProgressBarIter<I, P> as Iterator>⟧.next_gives }
 {}
 
 /// Any list of moves of a bar with its clock, as those of a loop, is a run of that bar, call by call with these answers; and the

@@ -14,7 +14,8 @@
 //! - Targets, where a bar draws: `machine::on_stderr` and `machine::on_stdout`; `machine::sized_stderr` for another size. You can also make
 //!   a `ProgressDrawTarget` over a `Term` behind any writer, over an `InMemoryTerm` in tests, or over your own `TermLike`.
 //! - Numbers as texts: `HumanBytes`, `DecimalBytes`, `BinaryBytes`, `HumanDuration`, `FormattedDuration`, `HumanCount`, `HumanFloatCount`.
-//! - Logs: `bridge::LogBridge`, a sink of the crate `log` that writes above the bars.
+//! - Logs: `bridge::logger_above`, a logger of the crate `log` that writes above the bars; `bridge::LogBridge`, its sink.
+//! - Where no terminal shows bars: `ProgressBar::println_or` and `MultiProgress::println_or` for lines, `PlainLines` for bars as plain lines.
 //! - `laws`: what follows from the definitions, each as a function whose contract is the law.
 //!
 //! # A first bar
@@ -105,6 +106,9 @@
 //! `message`, `prefix` and more (`crates/indicatif_bar/specs/Progress.antt`). Name the operators and functions of such a statement in a
 //! `ghost use`, where `◌` stands for an operand. Numbers are unbounded, and `-` stops at 0, as `saturating_sub` does. `decimal n` is a
 //! number's digits, `codes "left"` a text, and `++` joins two texts: `crates/examples/src/key.rt` writes `12 left` this way.
+//!
+//! The library has one tracker of its own, `Recent`: the rate of the last seconds, and the time left at that rate, for `with_key("per_sec", ..)`,
+//! `with_key("eta", ..)` and the like.
 //!
 //! If your type changes when the bar ticks, implement `style::ProgressTracker`. All keys of a style have one type: for several, use an
 //! enum. `MultiProgress::keyed` makes a board for bars with such keys: make each bar by `new_bar(len)?.with_style(style)?`. A function for
@@ -233,11 +237,13 @@
 //! ████████░░░░░░░░░░░░░░░░░░ 1/3
 //! ```
 //!
-//! On a hidden target `println` writes nothing: if `is_hidden()` returns true, print the line yourself. For other output there is
+//! On a hidden target `println` writes nothing. There `println_or` writes the line to a writer that you hand in. For other output there is
 //! `suspend`, which takes the rows back, calls a closure and draws again.
 //!
-//! **A call inside a closure.** `suspend`, `update` and `with_term` hold the lock while the closure runs. In it, a call of the same bar or
-//! of its board waits for ever.
+//! **A call inside a closure.** While the closure of `suspend` runs, readings answer, such as `bar.position()`, also in the closure. A call
+//! that draws or changes a bar waits until it has run: in the closure itself, a call of any bar of that board waits for ever. The
+//! closures of `update`, `with_term` and `with_record` run under the lock: any call of the same bar, or of any bar of its board, waits for
+//! ever in them.
 //!
 //! **A bar that was drawn before it joins a board.** Its old rows stay on its old target. Make it by `MultiProgress::new_bar`, or by
 //! `ProgressBar::hidden` and `MultiProgress::add`.
@@ -251,9 +257,9 @@ mod items;
 pub mod laws;
 pub mod machine;
 mod moves;
-mod own_rows;
 mod owned;
 mod parallel;
+mod plain_lines;
 mod polled;
 mod progress_bar;
 mod progress_iterator;
@@ -266,10 +272,12 @@ mod workers;
 mod wrap;
 
 pub use crate::moves::{Move, Moves, Reading};
-pub use crate::own_rows::OwnRows;
 pub use crate::owned::OwnedBar;
 pub use crate::parallel::ParallelProgressIterator;
-pub use crate::progress_bar::{MultiProgress, ProgressBar, RecordReader, WeakProgressBar};
+pub use crate::plain_lines::PlainLines;
+pub use crate::progress_bar::{
+    MultiProgress, ProgressBar, RecordReader, WeakProgressBar, written_if_hidden,
+};
 pub use crate::progress_iterator::ProgressIterator;
 pub use crate::ring::MaxRingBuf;
 pub use crate::seek::SeekMax;
@@ -279,7 +287,9 @@ pub use indicatif_bar::lone::{LoneBar, LoneCall};
 pub use indicatif_bar::state::{
     Ask, BarCommand, BarState, Change, Fraction, ProgressFinish, ProgressState, Rate, SpareLines,
 };
-pub use indicatif_bar::style::{FnTracker, NoTracker, ProgressStyle, TICKS, TellsText};
+pub use indicatif_bar::style::{
+    FnTracker, LastSeconds, NoTracker, ProgressStyle, Recent, RecentKey, Sample, TICKS, TellsText,
+};
 pub use indicatif_board::done::{Account, BarWorker, Done};
 pub use indicatif_board::multi::{
     Answer, BarId, Board, Call, Candidate, Entry, InsertLocation, MultiState, Opening, Recorded,
@@ -290,7 +300,7 @@ pub use indicatif_term::draw_target::{
     Segment, Setup,
 };
 pub use indicatif_term::in_memory::{Cells, InMemoryTerm};
-pub use indicatif_term::term_like::{Resize, Term, TermLike, write_whole};
+pub use indicatif_term::term_like::{OwnRow, OwnRows, Resize, Term, TermLike, write_whole};
 pub use indicatif_text::columns::{
     Clock, Drawn, Metrics, Moment, Piece, Pieces, Refusal, StepClock, Style, TemplateState,
     columns, pieces, width, wrapped,

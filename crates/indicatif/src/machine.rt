@@ -1,20 +1,23 @@
 //! What bars ask of the machine: the time, and whether and how wide a terminal stands behind a stream. Nothing else in this
 //! library asks it anything, so a program that finds these itself needs nothing of this module.
-ghost use Rattle.std.specs.Prelude.{◌≡◌, ◌⊎◌, ◌↔◌, ◌≤◌, ◌<◌, ℕ, Bool, Option, chars, IfOk, IfErr, IfSome};
+ghost use Rattle.std.specs.Prelude.{◌≡◌, ◌⊎◌, ◌↔◌, ◌≤◌, ◌<◌, ℕ, Bool, chars, IfOk, IfErr, IfSome};
 ghost use Rattle.indicatif_text.specs.declared.template.TemplateError.{TemplateError};
 ghost use Rattle.indicatif_text.specs.Template.{Parses, IsRefused, refusal_of};
+ghost use Rattle.indicatif_term.specs.OwnRows.{own_rows};
 ghost use Rattle.indicatif_bar.specs.Builders.{first_style};
-ghost use Rattle.indicatif.specs.Machine.{IsBehind, IsOnStream, IsOnStderr, columns_by, ends_by};
-ghost use Rattle.indicatif.specs.OwnRows.{new_rows};
+ghost use Rattle.indicatif.specs.Machine.{IsBehind, IsTermBehind, IsOwn, IsOnStream, IsSized, IsOwnStderr, IsOnStderr, IsSizedStderr, own_columns};
 
+mod made;
 mod stderr_term;
+mod until_gone;
 
+pub use crate::machine::made::{hidden_bar, styled_on_stderr};
 pub use crate::machine::stderr_term::StderrTerm;
-use crate::own_rows::OwnRows;
+pub use crate::machine::until_gone::UntilGone;
 use crate::progress_bar::{MultiProgress, ProgressBar};
 use indicatif_bar::style::{NoTracker, ProgressStyle, TICKS, Tracks};
 use indicatif_term::draw_target::{Facts, ProgressDrawTarget, Setup};
-use indicatif_term::term_like::Term;
+use indicatif_term::term_like::{OwnRow, OwnRows, Term};
 use indicatif_text::columns::{Clock, Moment, Refusal};
 use std::env::{self, Env, VarError};
 use std::io::{BufWriter, IsTerminal, Stderr, Stdout, Write};
@@ -188,7 +191,7 @@ pub fn style_on_stderr<K: Tracks>(
 /// let setup: TerminalSetup<Stderr> = told_setup(&rt, rt.stderr(), facts)?;
 /// let bar = LoneBar::new(bar, setup.target);
 /// ```
-pub type TerminalSetup<W> = Setup<Term<BufWriter<W>>, MachineClock<HostRuntime>>;
+pub type TerminalSetup<W> = Setup<Term<BufWriter<UntilGone<W>>>, MachineClock<HostRuntime>>;
 
 /// The terminal behind standard output or another stream, as `on_stdout` and `on_stream` make it. `on_stderr` makes a `StderrTerm`.
 ///
@@ -197,7 +200,7 @@ pub type TerminalSetup<W> = Setup<Term<BufWriter<W>>, MachineClock<HostRuntime>>
 ///     !bar.is_hidden()
 /// }
 /// ```
-pub type StreamTerm<W> = OwnRows<Term<BufWriter<W>>>;
+pub type StreamTerm<W> = OwnRows<Term<BufWriter<UntilGone<W>>>>;
 
 /// What a bar is made with there; `R` is the runtime that tells the time.
 ///
@@ -254,8 +257,8 @@ impl<R: AllocGlobal + Wait + Threads + time::Clock + Sync + Send + Copy + Drop +
 /// A bar's setup on standard error, where bars stand by custom, so that standard output is the program's own: 20 draws a second
 /// by the machine's clock, hidden where standard error is no terminal or one without moves (`facts_of`).
 ///
-/// Where nobody told the columns, no drawing erases a row that isn't the bars' own, however wide the terminal is (`OwnRows`): bars
-/// have 79 columns then, and logged lines are cut there too. A width that was told is believed.
+/// No drawing erases a row that isn't the bars' own, however wide the terminal is (`OwnRows`): bars have one column less than `COLUMNS`
+/// says, 79 where it says none, and logged lines are cut there too. A program that knows its terminal's size takes `sized_stderr`.
 ///
 /// ```
 /// let mut wrapped = list.into_iter().progress(rt.alloc(), on_stderr(&rt)?)?;
@@ -263,7 +266,7 @@ impl<R: AllocGlobal + Wait + Threads + time::Clock + Sync + Send + Copy + Drop +
 ///
 /// Refused: `Memory`.
 pub fn on_stderr(rt: &HostRuntime) -> Result<StderrSetup, Refusal>
-    ensures target { IfOk result (λ setup. (told : Option ℕ) × (facts : Facts) × IsOnStderr setup.target told facts) }
+    ensures target { IfOk result (λ setup. (told : ℕ) × (facts : Facts) × IsOnStderr setup.target told facts) }
     ensures memory { IfErr result (λ e. e ≡ Refusal.Memory) }
 {
     let Setup { target, clock } = on_stream(rt, rt.stderr())?;
@@ -277,7 +280,7 @@ pub fn on_stderr(rt: &HostRuntime) -> Result<StderrSetup, Refusal>
 ///
 /// Refused: `Memory`.
 pub fn on_stdout(rt: &HostRuntime) -> Result<StreamSetup<Stdout>, Refusal>
-    ensures target { IfOk result (λ setup. (told : Option ℕ) × (facts : Facts) × IsOnStream setup.target told facts) }
+    ensures target { IfOk result (λ setup. (told : ℕ) × (facts : Facts) × IsOnStream setup.target told facts) }
     ensures memory { IfErr result (λ e. e ≡ Refusal.Memory) }
 {
     on_stream(rt, rt.stdout())
@@ -296,26 +299,77 @@ pub fn on_stream<R: Env + AllocGlobal + time::Clock + Copy, W: Write + IsTermina
     rt: &R,
     stream: W,
 ) -> Result<StreamSetup<W, R>, Refusal>
-    ensures target { IfOk result (λ setup. (told : Option ℕ) × (facts : Facts) × IsOnStream setup.target told facts) }
+    ensures target { IfOk result (λ setup. (told : ℕ) × (facts : Facts) × IsOnStream setup.target told facts) }
     ensures memory { IfErr result (λ e. e ≡ Refusal.Memory) }
 {
-    let facts = facts_of(rt, &stream)?;
-    let told = number_said(rt, "COLUMNS")?;
-    let mut clock = MachineClock::new(*rt);
-    let target = target_on(rt, stream, told, facts, clock.now())?;
+    let told = facts_of(rt, &stream)?;
+    let facts = Facts {
+        cols: own_columns(told.cols),
+        ..told
+    };
+    let target = own_target(rt, stream, facts, None)?;
+    let clock = MachineClock::new(*rt);
     Ok(Setup { target, clock })
+}
+
+/// A target on standard error, of which the program found this: bars have all its columns, and no drawing erases a row that isn't theirs,
+/// whatever the terminal's width is (`OwnRows`). So tell it one column less than the terminal has. With a row it is one row of several
+/// (`OwnRow`), where other programs draw on the others.
+///
+/// ```
+/// let mut facts = facts_of(&rt, &rt.stderr())?;
+/// facts.cols = 59; // of 60
+/// let target = own_stderr(&rt, rt.stderr(), facts, None)?;
+/// ```
+///
+/// Refused: `Memory`.
+pub fn own_stderr<R: AllocGlobal + time::Clock + Copy>(
+    rt: &R,
+    errors: Stderr,
+    facts: Facts,
+    row: Option<OwnRow>,
+) -> Result<ProgressDrawTarget<StderrTerm>, Refusal>
+    ensures target { IfOk result (λ target. IsOwnStderr target row facts) }
+    ensures memory { IfErr result (λ e. e ≡ Refusal.Memory) }
+{
+    let target = own_target(rt, errors, facts, row)?;
+    Ok(StderrTerm::target(target))
+}
+
+/// The same of any stream.
+fn own_target<R: AllocGlobal + time::Clock + Copy, W: Write + Drop>(
+    rt: &R,
+    stream: W,
+    facts: Facts,
+    row: Option<OwnRow>,
+) -> Result<ProgressDrawTarget<StreamTerm<W>>, Refusal>
+    ensures target { IfOk result (λ target. IsOwn target row facts) }
+    ensures memory { IfErr result (λ e. e ≡ Refusal.Memory) }
+{
+    let mut clock = MachineClock::new(*rt);
+    let behind = term_on(rt, stream, &facts)?;
+    ProgressDrawTarget::term(rows_on(behind, row), facts, HZ, clock.now())
+}
+
+/// A terminal whose full rows the program ends, or one row of it.
+fn rows_on<T>(term: T, row: Option<OwnRow>) -> OwnRows<T>
+    ensures { result ≡ own_rows term row }
+{
+    match row {
+        None => OwnRows::new(term),
+        Some(row) => OwnRows::on_row(term, row),
+    }
 }
 
 /// A target on standard error that is told now which size its terminal has. So a program that hears of another size passes it on to a
 /// shared bar or board: nothing here asks the terminal, and `LINES` and `COLUMNS` say what they said when the program began.
 ///
 /// The size is believed: bars have all `cols` columns. The target is hidden where that of `on_stderr` is, and is drawn as often. Bars
-/// begin there with their next draw, and that has to be at the front of an empty row. If bars have rows, `clear` takes them back and leaves
-/// the cursor there. If only logged lines stand, or nothing is to be taken back, end the line instead.
+/// begin there with their next draw, and that has to be at the front of an empty row. If bars have rows, `move_to` takes them back and leaves
+/// the cursor there. If only logged lines stand, or nothing is to be taken back, end the line and call `set_draw_target`.
 ///
 /// ```
-/// board.clear()?; // its rows are taken back
-/// board.set_draw_target(sized_stderr(&rt, 50, 132)?)?; // and stand on 132 columns from the next draw on
+/// board.move_to(sized_stderr(&rt, 50, 132)?)?; // its rows are taken back, and stand on 132 columns from the next draw on
 /// ```
 ///
 /// Refused: `ZeroSize` where `rows` or `cols` is 0; `Memory`.
@@ -324,7 +378,7 @@ pub fn sized_stderr(
     rows: u16,
     cols: u16,
 ) -> Result<ProgressDrawTarget<StderrTerm>, Refusal>
-    ensures target { IfOk result (λ target. (facts : Facts) × (facts.rows ≡ rows) × IsOnStderr target (Some cols) facts) }
+    ensures target { IfOk result (λ target. (facts : Facts) × (facts.rows ≡ rows) × (facts.cols ≡ cols) × IsSizedStderr target facts) }
     ensures zero_size { (result ≡ Err Refusal.ZeroSize) ↔ ((rows ≡ 0) ⊎ (cols ≡ 0)) }
     ensures no_other { IfErr result (λ e. (e ≡ Refusal.ZeroSize) ⊎ (e ≡ Refusal.Memory)) }
 {
@@ -347,7 +401,7 @@ pub fn sized_target<R: Env + AllocGlobal + time::Clock + Copy, W: Write + IsTerm
     rows: u16,
     cols: u16,
 ) -> Result<ProgressDrawTarget<StreamTerm<W>>, Refusal>
-    ensures target { IfOk result (λ target. (facts : Facts) × (facts.rows ≡ rows) × IsOnStream target (Some cols) facts) }
+    ensures target { IfOk result (λ target. (facts : Facts) × (facts.rows ≡ rows) × (facts.cols ≡ cols) × IsSized target facts) }
     ensures zero_size { (result ≡ Err Refusal.ZeroSize) ↔ ((rows ≡ 0) ⊎ (cols ≡ 0)) }
     ensures no_other { IfErr result (λ e. (e ≡ Refusal.ZeroSize) ⊎ (e ≡ Refusal.Memory)) }
 {
@@ -356,27 +410,24 @@ pub fn sized_target<R: Env + AllocGlobal + time::Clock + Copy, W: Write + IsTerm
     }
     let facts = Facts {
         rows,
+        cols,
         ..facts_of(rt, &stream)?
     };
     let mut clock = MachineClock::new(*rt);
-    target_on(rt, stream, Some(cols), facts, clock.now())
+    let behind = term_on(rt, stream, &facts)?;
+    ProgressDrawTarget::term(OwnRows::left_to_terminal(behind), facts, HZ, clock.now())
 }
 
-/// A target on a stream of which this is told, but for its columns, which are told apart, if they are.
-fn target_on<R: AllocGlobal, W: Write + Drop>(
+/// The terminal behind a stream of which this is told.
+fn term_on<R: AllocGlobal, W: Write + Drop>(
     rt: &R,
     stream: W,
-    told: Option<u16>,
-    facts: Facts,
-    now: Moment,
-) -> Result<ProgressDrawTarget<StreamTerm<W>>, Refusal>
-    ensures target { IfOk result (λ target. IsOnStream target told (record facts { cols = columns_by told })) }
+    facts: &Facts,
+) -> Result<Term<BufWriter<UntilGone<W>>>, Refusal>
+    ensures term { IfOk result (λ term. IsTermBehind term facts.now) }
     ensures memory { IfErr result (λ e. e ≡ Refusal.Memory) }
 {
-    let cols = columns_by(told);
-    let term = Term::new(buffered(rt, stream)?, facts.rows, cols);
-    let facts = Facts { cols, ..facts };
-    ProgressDrawTarget::term(rows_by(told, term), facts, HZ, now)
+    Ok(Term::new(buffered(rt, stream)?, facts.rows, facts.cols))
 }
 
 /// What a bar is made with behind any writer, on a terminal of which this is told.
@@ -401,31 +452,21 @@ pub fn told_setup<W: Write + Drop>(
     Ok(Setup { target, clock })
 }
 
-/// The columns that were told, 79 where none were.
-fn columns_by(told: Option<u16>) -> u16
-    ensures { result ≡ columns_by told }
+/// The columns of rows that the program ends.
+fn own_columns(told: u16) -> u16
+    ensures { result ≡ own_columns told }
 {
-    match told {
-        Some(columns) => columns,
-        None => COLUMNS - 1,
-    }
+    told.saturating_sub(1).max(1)
 }
 
-/// A terminal that ends its full rows by itself, where its columns were told.
-fn rows_by<T>(told: Option<u16>, term: T) -> OwnRows<T>
-    ensures { result ≡ new_rows term (ends_by told) }
-{
-    match told {
-        Some(_) => OwnRows::left_to_terminal(term),
-        None => OwnRows::new(term),
-    }
-}
-
-/// A buffer before a writer.
-fn buffered<R: AllocGlobal, W: Write + Drop>(rt: &R, writer: W) -> Result<BufWriter<W>, Refusal>
+/// A buffer before a writer that may go away.
+fn buffered<R: AllocGlobal, W: Write + Drop>(
+    rt: &R,
+    writer: W,
+) -> Result<BufWriter<UntilGone<W>>, Refusal>
     ensures { IfErr result (λ e. e ≡ Refusal.Memory) }
 {
-    match BufWriter::new(rt.alloc(), writer) {
+    match BufWriter::new(rt.alloc(), UntilGone::new(writer)) {
         Ok(buffered) => Ok(buffered),
         Err(_) => Err(Refusal::Memory),
     }

@@ -1,7 +1,7 @@
 //! Lists that threads work on, with a bar.
 //!
-//! - `claims`: what threads take of a list, and how far they are; `course`: how far the bar is (private).
-//! - `piece`: answers at a part of a list; `answers`: what threads answer at all its items; `visits`: the same without answers (private).
+//! - `claims`: what threads take of a list, and how far they are; `course`: how far the bar is.
+//! - `piece`: answers at a part of a list; `answers`: what threads answer at all its items; `visits`: the same without answers.
 ghost use Rattle.std.specs.Prelude.{◌≡◌, ◌==◌, ◌<◌, ◌≤◌, ℕ, Some, Ok, Err, IfOk, IfErr, OnOk, IsFalse, length};
 ghost use Rattle.std.specs.List.{AllZip};
 ghost use Rattle.std.specs.Fn.{FnReturnsAt};
@@ -11,9 +11,9 @@ ghost use Rattle.indicatif.specs.Owned.{Begins, BeginsPlain};
 ghost use Rattle.indicatif.specs.Parallel.{Blocks};
 
 mod answers;
-mod claims;
+pub mod claims;
 mod course;
-mod piece;
+pub mod piece;
 mod visits;
 
 use self::answers::map_in_threads;

@@ -3,8 +3,10 @@
 //! Its calls that change it stand here. Beside them, all private:
 //!
 //! - `constructors`: how bars are made; `builders`: what is said of one before it moves; `readings`: what is read of it.
-//! - `weak`: a bar without an owner; `wrapped`: wrappers that move it.
+//! - `beside`: lines above bars, and beside hidden ones. `told`: hidden bars as plain lines. `weak`: a bar without an owner; `wrapped`: wrappers that move it.
+//! - `shared_bar`: its lock, its pauses, and what waits for them; `request`: what became of a call, which is made or has to come again.
 //! - `locked_bar`: what its lock keeps; `any_bar`: the bar there, alone or on a board; `member_bar`: a bar on a board.
+//! - `board_cell`: a board's lock, and its pauses (`pause`).
 //! - `locked_board`: what a board's lock keeps; `any_board`: the board there, with its history or without.
 //! - `text_command`: what a bar is told with a text; `position_change`: what moves its position.
 //! - `ticker`: which steady ticker it has; `steady`: the thread that ticks.
@@ -16,31 +18,39 @@ ghost use Rattle.indicatif_bar.specs.Finishes as Finish;
 ghost use Rattle.indicatif_bar.specs.Lone as Lone;
 ghost use Rattle.indicatif_bar.specs.Progress.{Progress};
 ghost use Rattle.indicatif_bar.specs.declared.state.commands.Change.{Change as Changed};
-ghost use Rattle.indicatif.specs.Fronts.{CanAnswer, CanDraw, CanTurn, IsMissing, MemoryOrForeign, unchanged};
+ghost use Rattle.indicatif.specs.Fronts.{CanAnswer, CanDraw, CanMove, CanTurn, IsMissing, MemoryOrForeign, unchanged};
 ghost use Rattle.indicatif.specs.Inside.LockedBar.{OwnerJoins};
 ghost use Rattle.indicatif.specs.Inside.PositionChange.{position_command};
 ghost use Rattle.indicatif.specs.Inside.TextCommand.{text_call};
 
 mod any_bar;
 mod any_board;
+mod beside;
+mod board_cell;
 mod builders;
 mod constructors;
 mod locked_bar;
 mod locked_board;
 mod member_bar;
 mod multi;
+mod pause;
 mod position_change;
 mod readings;
+mod request;
+mod shared_bar;
 mod steady;
 mod text_command;
 mod ticker;
+mod told;
 mod weak;
 mod wrapped;
 
-use self::locked_bar::SharedBar;
-use self::locked_board::{LockedBoard, SharedBoard};
+pub use self::beside::written_if_hidden;
+use self::board_cell::{BoardCell, SharedBoard};
 pub use self::multi::{MultiProgress, RecordReader};
 use self::position_change::PositionChange;
+use self::request::Tried;
+use self::shared_bar::SharedBar;
 use self::text_command::TextCommand;
 pub use self::weak::WeakProgressBar;
 use crate::moves::{Move, Moves, Reading};
@@ -53,13 +63,14 @@ use indicatif_term::term_like::TermLike;
 use indicatif_text::columns::{Clock, Drawn, Refusal};
 use std::alloc::{AllocError, Global};
 use std::fmt::{self, Debug, Formatter};
-use std::sync::{Arc, Mutex, Wait};
+use std::sync::{Arc, Wait};
 
 /// One owner of a bar that others may own too, in this thread or in others: a clone is another owner of the same bar.
 ///
 /// Each call takes the bar's lock, does what the `LoneBar` under it does, at the moment that the bar's clock tells, and answers
-/// what that answers; what a call does and refuses is said there. A call waits while another owner's is made; one that is
-/// made inside a closure that a call of the same bar was handed waits for ever.
+/// what that answers; what a call does and refuses is said there. A call waits while another owner's is made. In the closure of an
+/// `update` or a `with_term` each call of the same bar, or of any bar of its board, waits for ever; in that of a `suspend` readings answer,
+/// and a call that draws or changes one of these bars waits for ever.
 ///
 /// Once the last owner is gone, by `release` or by being dropped, a bar that isn't finished is finished by its stored finish.
 ///
@@ -93,33 +104,32 @@ impl<T: TermLike + Drop, C: Clock + Drop, R: Wait + Clone + Drop, K: Tracks> Pro
     K,
 > {
     /// A command of the bar.
-    #[tactic(auto, using(crate::proofs::FrontLemmas::place_answers))]
     fn tell(&self, command: BarCommand<K>) -> Result<Drawn, Refusal>
         ensures { CanAnswer K (Lone.Obey (command_of command)) result }
     {
-        self.state.lock.lock(&self.rt).tell(&self.rt, command)
+        self.state.tell(&self.rt, command)
     }
 
-    /// A change of the bar's position. The lock is mostly free, which one comparison tells.
+    /// A change of the bar's position. Mostly the lock is free, and no pause is on: two comparisons tell that.
     #[inline(always)]
     #[tactic(auto, using(crate::proofs::FrontLemmas::place_answers))]
     fn move_by(&self, change: PositionChange) -> Result<Drawn, Refusal>
         ensures { CanAnswer K (Lone.Obey (position_command change)) result }
     {
-        let mut locked = match self.state.lock.try_lock() {
-            Some(locked) => locked,
-            None => self.state.lock.lock(&self.rt),
-        };
-        locked.move_by(&self.rt, change)
+        if let Some(mut locked) = self.state.lock.try_lock() {
+            match locked.move_by(&self.rt, change) {
+                Tried::Made(answer) => return answer,
+                Tried::ComeAgain(()) => {}
+            }
+        }
+        self.tell(change.command())
     }
 
     /// A call of the bar with a text.
-    #[tactic(auto, using(crate::proofs::FrontLemmas::place_answers))]
     fn tell_text(&self, told: TextCommand, text: &str) -> Result<Drawn, Refusal>
         ensures { CanAnswer K (text_call told text.now) result }
     {
-        let mut locked = self.state.lock.lock(&self.rt);
-        locked.tell_text(&self.rt, told, text)
+        self.state.tell_text(&self.rt, told, text)
     }
 
     /// One more tick, up to 2^64 - 1, and a draw: a spinner shows its next text. While a steady ticker is on, nothing changes.
@@ -130,7 +140,7 @@ impl<T: TermLike + Drop, C: Clock + Drop, R: Wait + Clone + Drop, K: Tracks> Pro
     }
 
     /// Adds `delta` to the position, modulo 2^64. Also ticks, as often as the position's limiter allows: 10 times at once, and once more
-    /// each millisecond. So a loop may call it at each of its steps.
+    /// each millisecond. So a loop may call it at each of its steps. A position past the length is shown as it is, `8/5`, beside a full bar.
     #[inline(always)]
     pub fn inc(&self, delta: u64) -> Result<Drawn, Refusal>
         ensures { CanAnswer K (Lone.Obey (Command.Inc delta)) result }
@@ -138,7 +148,8 @@ impl<T: TermLike + Drop, C: Clock + Drop, R: Wait + Clone + Drop, K: Tracks> Pro
         self.move_by(PositionChange::Up(delta))
     }
 
-    /// Subtracts `delta` from the position, modulo 2^64; otherwise as `inc`.
+    /// Subtracts `delta` from the position, modulo 2^64; otherwise as `inc`. So 12 taken from 0 give 2^64 - 12, which is shown so: a program
+    /// that may go below 0 looks at `position` first. A lower position restarts the rate.
     #[inline(always)]
     pub fn dec(&self, delta: u64) -> Result<Drawn, Refusal>
         ensures { CanAnswer K (Lone.Obey (Command.Dec delta)) result }
@@ -183,7 +194,7 @@ impl<T: TermLike + Drop, C: Clock + Drop, R: Wait + Clone + Drop, K: Tracks> Pro
     }
 
     /// Sets the message, and asks for a draw. It shows only where the template has `{msg}` or `{wide_msg}`: the template of `new` has
-    /// neither.
+    /// neither. Once the bar is finished, its draws are forced: then no rate holds the message back.
     pub fn set_message(&self, text: &str) -> Result<Drawn, Refusal>
         ensures { CanAnswer K (Lone.Obey (Command.SetMessage text.now)) result }
     {
@@ -243,7 +254,8 @@ impl<T: TermLike + Drop, C: Clock + Drop, R: Wait + Clone + Drop, K: Tracks> Pro
         self.tell(BarCommand::Reset)
     }
 
-    /// Finishes the bar at its length, if it has one, and forces a draw. The bar stays on the screen.
+    /// Finishes the bar at its length, if it has one, and forces a draw. The bar stays on the screen. Each draw that it asks for from then
+    /// on is forced too, so no rate holds it back.
     pub fn finish(&self) -> Result<Drawn, Refusal>
         ensures { CanAnswer K (Lone.Obey (Command.FinishBy Finish.AndLeave)) result }
     {
@@ -293,13 +305,13 @@ impl<T: TermLike + Drop, C: Clock + Drop, R: Wait + Clone + Drop, K: Tracks> Pro
     }
 
     /// Calls the closure with the bar's state, under the lock, and sets what it returns; then as `tick`. If its board hasn't the bar, the
-    /// closure isn't called.
+    /// closure isn't called. A call of this bar in it, or of any bar of its board, waits for ever.
     pub fn update<F: FnOnce(&ProgressState) -> Change>(&self, f: F) -> Result<Drawn, Refusal>
         requires { F.IsAlwaysCallable f }
         ensures { (change : Changed) × CanAnswer K (Lone.Obey (Command.Update change.pos change.len)) result
             × (((shown : Progress) × FnOnceReturnsAt F.FnOnce f shown change) ⊎ (change ≡ unchanged)) }
     {
-        self.state.lock.lock(&self.rt).update(&self.rt, f)
+        self.state.update(&self.rt, f)
     }
 
     /// Writes the text's lines above the bar, whatever the rate says; the bar goes on below them. On a hidden target the text is dropped:
@@ -310,16 +322,19 @@ impl<T: TermLike + Drop, C: Clock + Drop, R: Wait + Clone + Drop, K: Tracks> Pro
         self.tell_text(TextCommand::Log, text)
     }
 
-    /// Takes the bar's rows back (on a board the rows of all bars), calls `f` once, and forces a draw. It holds the lock meanwhile. It returns
+    /// Takes the bar's rows back (on a board the rows of all bars), calls `f` once, and forces a draw, at the moment of the clear. It returns
     /// what `f` returned, and the answer of the draw. If the clear was refused, `f` is still called, no draw is made, and the answer is that
     /// refusal.
-    #[tactic(auto, using(crate::proofs::FrontLemmas::place_suspends))]
+    ///
+    /// It is a pause of the bar, or of its board (`MultiProgress::suspend`). Meanwhile readings answer, also in `f` itself. A call that draws,
+    /// or changes a bar, waits for the end of the pause: from another thread it goes on then, and one that `f` itself makes, of this bar or
+    /// of any bar of its board, waits for ever.
     pub fn suspend<F: FnOnce() -> A, A>(&self, f: F) -> (A, Result<Drawn, Refusal>)
         requires { F.pre f }
         ensures value { F.post f result.0 }
         ensures drawn { CanDraw result.1 }
     {
-        self.state.lock.lock(&self.rt).suspend(&self.rt, f)
+        self.state.suspend(&self.rt, f)
     }
 
     /// Sets the target. The bar begins there with its next draw, and the old target is given up. If the bar stands alone, nothing is written
@@ -327,12 +342,25 @@ impl<T: TermLike + Drop, C: Clock + Drop, R: Wait + Clone + Drop, K: Tracks> Pro
     /// are drawn, by force, and the answer is that of this draw.
     ///
     /// Refused: as a removal, and `NotMember` if the board hasn't the bar. Then the bar stays there, and the new target is given up.
-    #[tactic(auto, using(crate::proofs::FrontLemmas::place_turns))]
     pub fn set_draw_target(&self, target: ProgressDrawTarget<T>) -> Result<Drawn, Refusal>
         ensures { CanTurn result }
     {
-        let mut locked = self.state.lock.lock(&self.rt);
-        locked.set_draw_target(&self.rt, target)
+        self.state.set_draw_target(&self.rt, target)
+    }
+
+    /// Takes the bar's rows back and sets the target, in one call: no other thread draws on the old target in between, and nothing of the bar
+    /// stays there. If the bar stands alone, the answer is that of the clear; whatever that is, the bar stands on the new target. A board's
+    /// bar leaves its board, as by `set_draw_target`.
+    ///
+    /// ```
+    /// bar.move_to(ProgressDrawTarget::hidden())?; // the bar is gone from the terminal
+    /// ```
+    ///
+    /// Refused: as a clear; on a board as `set_draw_target`, and the bar stays there then.
+    pub fn move_to(&self, target: ProgressDrawTarget<T>) -> Result<Drawn, Refusal>
+        ensures { CanMove result }
+    {
+        self.state.move_to(&self.rt, target)
     }
 
     /// Drops this owner. If it is the last one and the bar isn't finished, the stored finish ends the bar.
@@ -353,15 +381,15 @@ impl<T: TermLike + Drop, C: Clock + Drop, R: Wait + Clone + Drop, K: Tracks> Pro
     ) -> Result<(), Refusal>
         ensures { IfErr result IsMissing }
     {
-        let mut locked = self.state.lock.lock(&self.rt);
+        let mut locked = self.state.turn(&self.rt);
         locked.take_in(&self.rt, board, at, self.alloc)
     }
 
     /// Takes the bar out of the order of a board.
-    pub(crate) fn take_out(&self, board: &Mutex<LockedBoard<K, T, C>>) -> Result<(), Refusal>
+    pub(crate) fn take_out(&self, board: &BoardCell<K, T, C>) -> Result<(), Refusal>
         ensures { IfErr result MemoryOrForeign }
     {
-        self.state.lock.lock(&self.rt).take_out(&self.rt, board)
+        self.state.turn(&self.rt).take_out(&self.rt, board)
     }
 
     /// One owner more on the count.
@@ -395,7 +423,7 @@ impl<T: TermLike + Drop, C: Clock + Drop, R: Wait + Clone + Drop, K: Tracks> Dro
     fn drop(self) {
         let ProgressBar { state, alloc, rt } = self;
         let _ = alloc;
-        let last = state.lock.lock(&rt).release(&rt);
+        let last = state.release(&rt);
         if last {
             state.changed.notify_all();
         }
@@ -423,8 +451,7 @@ impl<T: TermLike + Drop, C: Clock + Drop, R: Wait + Clone + Drop, K: Tracks> Mov
 
     #[tactic(auto, using(crate::proofs::PlacedLemmas::untold_placed))]
     fn place_after(&self, seeks: &mut SeekMax<5, 10>, n: u64) -> Option<Result<Drawn, Refusal>> {
-        let mut locked = self.state.lock.lock(&self.rt);
-        Some(locked.place_after(&self.rt, seeks, n))
+        Some(self.state.place_after(&self.rt, seeks, n))
     }
 
     /// Its position isn't one that a contract could tell.

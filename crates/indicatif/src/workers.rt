@@ -1,24 +1,30 @@
-//! Pieces of work, each in a thread of its own, so many at a time.
-ghost use Rattle.std.specs.Prelude.{◌≡◌, ◌<◌, ◌≤◌, ◌+◌, ℕ, IfOk, IfErr, OnOk, IfSome, Some, length, map, slice_index_or, ◌⊎◌, ◌↔◌, Err, IsSomeAnd, ◌++◌, ◌∷◌, [], All};
+//! Pieces of work that threads do, with a bar.
+//!
+//! - `crew`: threads that do the same work at the same time; `pieces`: pieces, of which each thread takes the next, and what they come to.
+ghost use Rattle.std.specs.Prelude.{◌≡◌, ◌≤◌, ℕ, IfOk, IfErr, OnOk, length, ◌⊎◌, ◌↔◌, Err};
 ghost use Rattle.std.specs.List.{AllZip};
 ghost use Rattle.std.specs.Fn.{FnReturnsAt};
-ghost use Rattle.indicatif_board.specs.Done.{shares_of, added_by};
 ghost use Rattle.indicatif.specs.Workers.{items_in, Absorbed};
-ghost use Rattle.indicatif.specs.Inside.Pieces.{JobAt, IsEnded, CountsPieces};
+ghost use Rattle.indicatif.specs.Inside.Pieces.{CountsPieces};
 
+mod crew;
+mod pieces;
+
+use self::crew::by_all;
+use self::pieces::Pieces;
 use crate::moves::{Move, Moves};
+use crate::parallel::claims::Claims;
 use crate::progress_bar::ProgressBar;
 use indicatif_bar::style::Tracks;
-use indicatif_board::done::{BarWorker, Done};
 use indicatif_term::term_like::TermLike;
 use indicatif_text::columns::{Clock, Refusal};
+use rayon::current_num_threads;
 use std::alloc::Global;
 use std::sync::Wait;
-use std::thread;
 use std::thread::Threads;
 
-/// What each piece passes once before its first item, in its own thread: for tests of what runs at the same time, and for
-/// pieces that have to begin in some order. A piece that waits for another needs a limit.
+/// What each piece passes once before its first item, in the thread that works on it: for tests of what runs at the same time, and for
+/// pieces that have to begin in some order.
 ///
 /// ```
 /// struct Open;
@@ -27,53 +33,35 @@ use std::thread::Threads;
 pub trait Gate: Sync {
     /// The piece of this number passes, from 0.
     fn pass(&self, piece: usize);
-}
 
-// A piece's number, and the worker that counts its items.
-#[derive(Drop)]
-struct Job {
-    piece: usize,
-    worker: BarWorker,
-}
-
-// What became of a piece: its answers, unless memory was refused, and its worker.
-#[derive(Drop)]
-struct Ended<A> {
-    answers: Option<Vec<A>>,
-    worker: BarWorker,
-}
-
-// How many pieces run at a time.
-const TOGETHER: usize = 256;
-
-// The gate of pieces before which so many others ran.
-#[derive(Drop)]
-struct Behind<'a, G: Gate> {
-    gate: &'a G,
-    first: usize,
-}
-
-impl<'a, G: Gate> Behind<'a, G> {
-    // The piece of this number among them passes.
-    fn pass(&self, piece: usize) {
-        self.gate.pass(self.first.saturating_add(piece));
+    /// Whether all pieces have to run at the same time. A gate at which one piece waits for another says so; else the other may come
+    /// only after it, and both wait for ever. A gate doesn't say so unless it has this method.
+    ///
+    /// ```
+    /// fn needs_all_at_once(&self) -> bool { true }
+    /// ```
+    fn needs_all_at_once(&self) -> bool {
+        false
     }
 }
 
-/// What `f` answers at each item of each piece, the pieces in their order, and each one's answers in its items' order. Each
-/// piece runs in a thread of its own, 256 at a time: the next 256 begin once all of these have ended. Where no thread can be made,
-/// a piece runs in the one that calls. So pieces which wait for one another may wait in vain, unless their gate has a limit. Each
-/// counts its items without a lock, and at the end the bar is advanced once by all of them.
+/// What `f` answers at each item of each piece, the pieces in their order, and each one's answers in its items' order. At the end the bar
+/// is advanced once, by all items that were met.
+///
+/// There are as many threads as processors, but no more than pieces, and the one that calls is one of them. If the gate needs all at once
+/// (`Gate::needs_all_at_once`), there are as many as pieces. They are all started before the first piece begins. Each takes the next
+/// piece, until none is left.
 ///
 /// ```
 /// let made = run_workers(&rt, alloc, pieces.as_slice(), |x: &u32| x.wrapping_mul(2), &Open, &bar)?;
 /// ```
 ///
-/// Refused: `ZeroPieces` where there is no piece, and nothing is done. `Memory`. Where a piece finds none for its answers, the others
-/// go on, and the bar is advanced by the items that were met. Where the lists that hand pieces to their threads find none, the pieces
-/// that run are waited for, no more begin, and the bar stays as it was; with more than 256 pieces some have run by then.
+/// Refused: `ZeroPieces` where there is no piece, and nothing is done. `Memory`. Where a thread can't be started, no piece begins, those
+/// that were started are waited for, and the bar stays as it was. So it is where the lists find no memory that are made before the first
+/// piece begins; where a list that grows later finds none, the other threads go on first. Where a piece finds none for its answers, the
+/// others go on, and the bar is advanced by the items that were met.
 pub fn run_workers<
-    R: Threads + Sync,
+    R: Threads + Wait + Sync,
     T: Sync,
     A: Send + Drop,
     F: Fn(&T) -> A + Sync + Drop,
@@ -98,7 +86,7 @@ pub fn run_workers<
     if pieces.is_empty() {
         return Err(Refusal::ZeroPieces);
     }
-    let (answers, met) = in_waves(rt, alloc, pieces, &f, gate)?;
+    let (answers, met) = answered(rt, alloc, pieces, &f, gate)?;
     let _ = bar.inc(met);
     answers.ok_or(Refusal::Memory)
 }
@@ -111,7 +99,7 @@ pub fn run_workers<
 ///
 /// Refused: as `run_workers`.
 pub fn run_workers_with<
-    R: Threads + Sync,
+    R: Threads + Wait + Sync,
     T: Sync,
     A: Send + Drop,
     F: Fn(&T) -> A + Sync + Drop,
@@ -136,13 +124,21 @@ pub fn run_workers_with<
     if pieces.is_empty() {
         return Err(Refusal::ZeroPieces);
     }
-    let (answers, met) = in_waves(rt, alloc, pieces, &f, gate)?;
+    let (answers, met) = answered(rt, alloc, pieces, &f, gate)?;
     let _ = bar.make_move(Move::Advance(met));
     answers.ok_or(Refusal::Memory)
 }
 
-// The answers of all pieces, so many of them at a time, unless memory was refused to one; and how many items were met.
-fn in_waves<R: Threads + Sync, T: Sync, A: Send + Drop, F: Fn(&T) -> A + Sync, G: Gate>(
+// How many threads work on so many pieces.
+fn threads_for<R: Threads, G: Gate>(rt: &R, gate: &G, pieces: usize) -> usize {
+    if gate.needs_all_at_once() {
+        return pieces;
+    }
+    current_num_threads(rt).min(pieces)
+}
+
+// The answers of all pieces, unless one found no memory for its own; and how many items were met.
+fn answered<R: Threads + Wait + Sync, T: Sync, A: Send + Drop, F: Fn(&T) -> A + Sync, G: Gate>(
     rt: &R,
     alloc: Global,
     pieces: &[Vec<T>],
@@ -154,146 +150,14 @@ fn in_waves<R: Threads + Sync, T: Sync, A: Send + Drop, F: Fn(&T) -> A + Sync, G
     ensures memory { IfErr result (λ e. e ≡ Refusal.Memory) }
 {
     let room = Vec::with_capacity(alloc, pieces.len())?;
-    let mut all = Some(room);
-    let mut met: u64 = 0;
-    let mut first = 0;
-    while first < pieces.len() {
-        let n = TOGETHER.min(pieces.len() - first);
-        let behind = Behind { gate, first };
-        let (answers, more) = counted(rt, alloc, &pieces[first..first + n], f, &behind)?;
-        all = appended(all, answers);
-        met = met.wrapping_add(more);
-        first += n;
-    }
-    Ok((all, met))
-}
-
-// The answers of some pieces more.
-fn appended<A: Drop>(all: Option<Vec<Vec<A>>>, more: Option<Vec<Vec<A>>>) -> Option<Vec<Vec<A>>>
-    ensures { IfSome result (λ made. IsSomeAnd all (λ before. IsSomeAnd more (λ others. made.items ≡ before.items ++ others.items))) }
-{
-    let mut all = all?;
-    all.append(&mut more?).ok()?;
-    Some(all)
-}
-
-// The answers, unless memory was refused to a piece, and how many items were met.
-fn counted<R: Threads + Sync, T: Sync, A: Send + Drop, F: Fn(&T) -> A + Sync, G: Gate>(
-    rt: &R,
-    alloc: Global,
-    pieces: &[Vec<T>],
-    f: &F,
-    behind: &Behind<'_, G>,
-) -> Result<(Option<Vec<Vec<A>>>, u64), Refusal>
-    requires callable { F.IsAlwaysCallable f.now }
-    requires some { 0 < length pieces.now }
-    ensures counts { IfOk result (λ r. CountsPieces (FnReturnsAt F.Fn f.now) pieces.now r.0 r.1) }
-    ensures memory { IfErr result (λ e. e ≡ Refusal.Memory) }
-{
-    let room = Vec::with_capacity(alloc, pieces.len())?;
-    let (done, worker) = Done::new(alloc)?;
-    let (mine, theirs) = worker.split(&done)?;
-    let jobs = jobs_for(alloc, &done, theirs, pieces.len())?;
-    let shared = &done;
-    let work = |job: Job| -> Ended<A>
-        requires { (job.piece < length pieces.now) × (job.worker.adds_to ≡ shared.now) × F.IsAlwaysCallable f.now }
-        ensures { (piece : _) → piece ≡ slice_index_or pieces.entry.now job.piece piece → IsEnded (FnReturnsAt F.Fn f.entry.now) piece.items job.worker result }
-    {
-        let Job { piece, worker } = job;
-        behind.pass(piece);
-        run_piece(alloc, shared, pieces[piece].as_slice(), worker, f)
+    let others = threads_for(rt, gate, pieces.len()).saturating_sub(1);
+    let work = Pieces {
+        alloc,
+        pieces,
+        claims: Claims::new(pieces.len()),
+        f,
+        gate,
     };
-    let ended = thread::map_vec(rt, jobs, &work)?;
-    let (answers, worker) = gathered(&done, mine, ended, room);
-    Ok((answers, done.close(worker)))
-}
-
-// Applies `f` to each item, and adds 1 behind it.
-fn run_piece<T, A: Drop, F: Fn(&T) -> A>(
-    alloc: Global,
-    done: &Done,
-    items: &[T],
-    worker: BarWorker,
-    f: &F,
-) -> Ended<A>
-    requires callable { F.IsAlwaysCallable f.now }
-    requires of { worker.adds_to ≡ done.now }
-    ensures { IsEnded (FnReturnsAt F.Fn f.now) items.now worker result }
-{
-    let mut worker = worker;
-    let Ok(mut answers) = Vec::with_capacity(alloc, items.len()) else {
-        return Ended {
-            answers: None,
-            worker,
-        };
-    };
-    for item in items {
-        answers.push_reserved(f(item));
-        worker.add(done, 1);
-    }
-    Ended {
-        answers: Some(answers),
-        worker,
-    }
-}
-
-// A job for each piece, whose workers came of this one.
-fn jobs_for(
-    alloc: Global,
-    done: &Done,
-    worker: BarWorker,
-    count: usize,
-) -> Result<Vec<Job>, Refusal>
-    requires of { worker.adds_to ≡ done.now }
-    requires some { 0 < count }
-    ensures count { IfOk result (λ jobs. length jobs.items ≡ count) }
-    ensures each { IfOk result (λ jobs. (i : ℕ) (job : Job) → i < length jobs.items → job ≡ slice_index_or jobs.items i job → JobAt done.now i job) }
-    ensures parts { IfOk result (λ jobs. shares_of (map (λ job. job.worker) jobs.items) ≡ worker.account.parts) }
-    ensures added { IfOk result (λ jobs. added_by (map (λ job. job.worker) jobs.items) ≡ worker.account.added) }
-    ensures memory { IfErr result (λ e. e ≡ Refusal.Memory) }
-{
-    let workers = worker.split_among(alloc, done, count)?;
-    let mut jobs = Vec::with_capacity(alloc, count)?;
-    for worker in workers {
-        let piece = jobs.len();
-        jobs.push(Job { piece, worker })?;
-    }
-    Ok(jobs)
-}
-
-// The answers of one piece more.
-fn with_piece<A: Drop>(all: Option<Vec<Vec<A>>>, answers: Option<Vec<A>>) -> Option<Vec<Vec<A>>>
-    ensures { IfSome result (λ made. IsSomeAnd all (λ before. IsSomeAnd answers (λ one. made.items ≡ before.items ++ one ∷ []))) }
-{
-    let mut all = all?;
-    all.push(answers?).ok()?;
-    Some(all)
-}
-
-// The answers in order, unless one is missing, and all workers as one.
-fn gathered<A: Drop>(
-    done: &Done,
-    mine: BarWorker,
-    ended: Vec<Ended<A>>,
-    room: Vec<Vec<A>>,
-) -> (Option<Vec<Vec<A>>>, BarWorker)
-    requires mine { mine.adds_to ≡ done.now }
-    requires of { All (λ e. e.worker.adds_to ≡ done.now) ended.items }
-    requires room { room.items ≡ [] }
-    ensures of { result.1.adds_to ≡ done.now }
-    ensures parts { result.1.account.parts ≡ mine.account.parts + shares_of (map (λ e. e.worker) ended.items) }
-    ensures added { result.1.account.added ≡ mine.account.added + added_by (map (λ e. e.worker) ended.items) }
-    ensures answers { IfSome result.0 (λ made. map (λ e. e.answers) ended.items ≡ map (λ one. Some one) made.items) }
-{
-    let mut all = Some(room);
-    let mut worker = mine;
-    for e in ended {
-        let Ended {
-            answers,
-            worker: more,
-        } = e;
-        worker = worker.join(more, done);
-        all = with_piece(all, answers);
-    }
-    (all, worker)
+    let ended = by_all(rt, alloc, others, &work)?;
+    Ok(work.in_order(ended, room))
 }

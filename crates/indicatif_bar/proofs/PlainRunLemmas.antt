@@ -1,5 +1,5 @@
 -- Where the texts of bars and calls are plain, the lines of each draw are, so that every run is plain.
-use Rattle.std.proofs.Common.{◌≡◌, ℕ, zero, suc, ◌-◌, Bool, true, List, [], ◌∷◌, ◌++◌, map, drop, chars, refl, sym, ◌∙◌, subst, Option, Some, None, Result}
+use Rattle.std.proofs.Common.{◌≡◌, ℕ, zero, suc, ◌-◌, Bool, true, List, [], ◌∷◌, ◌++◌, ◌+◌, min, map, drop, chars, refl, sym, ◌∙◌, subst, Option, Some, None, Result}
 use Rattle.std.specs.Prelude.{IsTrue, ◌&&◌, nat_lt, unwrap_or}
 use Rattle.std.specs.List.{AllByRecursion}
 use Rattle.std.proofs.lemmas.Bool.{cond_both}
@@ -18,17 +18,18 @@ use Rattle.indicatif_bar.specs.Kinds.{Kind, Writing, Frame, TextAndFrame, NoFram
 use Rattle.indicatif_bar.specs.Lone.{LoneState, LoneCall, Obey, Log, Clear, lone, lone_frame, writing_of, bar_after, refused_at_once, deed_unless, draw_of_call}
 use Rattle.indicatif_bar.specs.declared.ask.Ask.{Ask}
 use Rattle.indicatif_bar.specs.declared.ask.Ask.TheVariants.{No}
-use Rattle.indicatif_bar.specs.Progress.{is_hidden}
+use Rattle.indicatif_bar.specs.Progress.{Progress, is_hidden, progress_reset}
 use Rattle.indicatif_bar.specs.PositionLimiters.{allow_position}
 use Rattle.indicatif_bar.specs.Tabs.{expanded}
-use Rattle.indicatif_bar.specs.Trackers.{Tracking}
+use Rattle.indicatif_bar.specs.Measures.{greatest_u64}
+use Rattle.indicatif_bar.specs.Trackers.{Tracking, TrackerStep, Ticked, WasReset, tracker_after, telling, changed_trackers}
 use Rattle.indicatif_bar.specs.Styles.{BarStyle, lines}
 use Rattle.indicatif_bar.specs.Bars.{bar_kind, lines_of_bar}
 use Rattle.indicatif_bar.specs.Finishes.{BarFinish, AndLeave, WithMessage, AndClear, Abandon, AbandonWithMessage}
-use Rattle.indicatif_bar.specs.Commands.{BarRecord, Command, Tick, Inc, Dec, SetPosition, Update, SetMessage, SetPrefix, SetStyle, PutMessage, PutPrefix, PutFinish, SetElapsed, FinishBy, FinishUsingStyle, obeyed, tick, ticker_tick, moved_to, finish, with_progress, some_or}
+use Rattle.indicatif_bar.specs.Commands.{BarRecord, Command, Tick, Inc, Dec, SetPosition, TickerTick, Update, SetLength, UnsetLength, IncLength, DecLength, SetMessage, SetPrefix, SetStyle, PutMessage, PutPrefix, PutFinish, SetElapsed, Reset, FinishBy, FinishUsingStyle, obeyed, tick, ticker_tick, update, with_length, reset, moved_to, finish, with_progress, some_or}
 use Rattle.indicatif_bar.specs.StyleLaws.{IsPlainText}
 use Rattle.indicatif_bar.specs.LineLaws.{IsPlainLiteral, HasPlainTexts}
-use Rattle.indicatif_bar.specs.PlainLaws.{IsPlainWithTabs, ArePlainTrackers, HasPlainLiteral, IsPlainFinish, IsPlainBar, IsPlainCommand, IsPlainLoneCall, LoneRunsArePlain}
+use Rattle.indicatif_bar.specs.PlainLaws.{IsPlainWithTabs, IsPlainTracker, ArePlainTrackers, HasPlainLiteral, IsPlainFinish, IsPlainBar, IsPlainCommand, IsPlainLoneCall, LoneRunsArePlain, TellersArePlain}
 use Rattle.indicatif_bar.proofs.PreservingLemmas.{IsPreserved, leads_preserve}
 use Rattle.indicatif_bar.proofs.PlainTextLemmas.{plain_texts_give_plain_lines, plain_lines_are_asked}
 
@@ -128,107 +129,161 @@ module _ {B C : Type 0} (kind : Kind B C) (IsBar : B → Type 0) (IsCommand : C 
 
 -- ---- bars with a style
 
-every : {X : Type 0} (P : X → Type 0) → ((x : X) → P x) → (xs : List X) → AllByRecursion P xs
-every P f [] = tt
-every P f (x ∷ xs) = (f x, every P f xs)
-
-module _ {K : Type 0} (m : Tracking K) (trackers : ArePlainTrackers m) where
+module _ {K : Type 0} (m : Tracking K) where
   literals_plain : (style : BarStyle K) (parts : List TemplatePart) → AllByRecursion HasPlainLiteral parts → AllByRecursion (IsPlainLiteral style) parts
   literals_plain style [] all = tt
   literals_plain style (LiteralText text ∷ parts) all = (all.0 style.tab, literals_plain style parts all.1)
   literals_plain style (LineBreak ∷ parts) all = (tt, literals_plain style parts all.1)
   literals_plain style (KeyText key layout ∷ parts) all = (tt, literals_plain style parts all.1)
 
-  has_plain_texts : (bar : BarRecord K) (now : ℕ) → IsPlainBar bar → HasPlainTexts m bar.style bar.progress now
+  trackers_now : (tab : ℕ) (p : Progress) (now : ℕ) (keys : List (List ℕ × K)) → AllByRecursion (λ entry. IsPlainTracker m entry.1) keys →
+      AllByRecursion (λ entry. IsPlainText (expanded tab (m.text entry.1 p now))) keys
+  trackers_now tab p now [] all = tt
+  trackers_now tab p now (entry ∷ keys) all = (all.0 [] p now tab, trackers_now tab p now keys all.1)
+
+  -- trackers that are told something
+  trackers_told : (change : K → K) → ((k : K) → IsPlainTracker m k → IsPlainTracker m (change k)) → (keys : List (List ℕ × K)) → AllByRecursion (λ entry. IsPlainTracker m entry.1) keys →
+      AllByRecursion (λ entry. IsPlainTracker m entry.1) (changed_trackers change keys)
+  trackers_told change keeps [] all = tt
+  trackers_told change keeps (entry ∷ keys) all = (keeps entry.1 all.0, trackers_told change keeps keys all.1)
+
+  told_plain_trackers : (change : K → K) → ((k : K) → IsPlainTracker m k → IsPlainTracker m (change k)) → (keys : List (List ℕ × K)) → ArePlainTrackers m keys →
+      ArePlainTrackers m (changed_trackers change keys)
+  told_plain_trackers change keeps keys all = All-from_recursion (λ entry. IsPlainTracker m entry.1) (changed_trackers change keys)
+      (trackers_told change keeps keys (recursion_from_All (λ entry. IsPlainTracker m entry.1) keys all))
+
+  trackers_ticked : (p : Progress) (now : ℕ) (keys : List (List ℕ × K)) → ArePlainTrackers m keys → ArePlainTrackers m (changed_trackers (λ k. m.ticked k p now) keys)
+  trackers_ticked p now keys all = told_plain_trackers (λ k. m.ticked k p now) (λ k h steps. h (Ticked p now ∷ steps)) keys all
+
+  trackers_reset : (p : Progress) (now : ℕ) (keys : List (List ℕ × K)) → ArePlainTrackers m keys → ArePlainTrackers m (changed_trackers (λ k. m.was_reset k p now) keys)
+  trackers_reset p now keys all = told_plain_trackers (λ k. m.was_reset k p now) (λ k h steps. h (WasReset p now ∷ steps)) keys all
+
+  has_plain_texts : (bar : BarRecord K) (now : ℕ) → IsPlainBar m bar → HasPlainTexts m bar.style bar.progress now
   has_plain_texts bar now h = record {
     literals = All-from_recursion (IsPlainLiteral bar.style) bar.style.parts (literals_plain bar.style bar.style.parts (recursion_from_All HasPlainLiteral bar.style.parts h.style.literals));
     ticks = h.style.ticks;
     clusters = h.style.clusters;
     trackers = All-from_recursion (λ entry. IsPlainText (expanded bar.style.tab (m.text entry.1 bar.progress now))) bar.style.keys
-        (every (λ entry. IsPlainText (expanded bar.style.tab (m.text entry.1 bar.progress now))) (λ entry. trackers entry.1 bar.progress now bar.style.tab) bar.style.keys);
+        (trackers_now bar.style.tab bar.progress now bar.style.keys (recursion_from_All (λ entry. IsPlainTracker m entry.1) bar.style.keys h.style.trackers));
     message = h.message bar.progress.tab;
     prefix = h.prefix bar.progress.tab;
   }
 
-  bar_lines_plain : (bar : BarRecord K) → IsPlainBar bar → (now columns : ℕ) → IsTrue (are_plain (map chars (lines_of_bar m bar now columns)))
+  bar_lines_plain : (bar : BarRecord K) → IsPlainBar m bar → (now columns : ℕ) → IsTrue (are_plain (map chars (lines_of_bar m bar now columns)))
   bar_lines_plain bar h now columns =
       cond_both (is_hidden bar.progress) [] (lines m bar.style bar.progress now columns) (λ ls. IsTrue (are_plain (map chars ls))) (λ _. refl)
       (λ _. plain_lines_are_asked (lines m bar.style bar.progress now columns)
       (plain_texts_give_plain_lines m bar.style bar.progress now columns (has_plain_texts bar now h)))
 
-  -- a bar with the same texts
-  pub same_texts : {bar bar' : BarRecord K} → IsPlainBar bar → bar'.style.parts ≡ bar.style.parts → bar'.style.tick_strings ≡ bar.style.tick_strings → bar'.style.clusters ≡ bar.style.clusters →
-      bar'.progress.message ≡ bar.progress.message → bar'.progress.prefix ≡ bar.progress.prefix → bar'.on_finish ≡ bar.on_finish → IsPlainBar bar'
-  same_texts h parts ticks clusters message prefix by = record {
-    style = record { literals = rw parts h.style.literals; ticks = rw ticks h.style.ticks; clusters = rw clusters h.style.clusters };
+  -- a bar with the same texts, and with plain trackers
+  pub same_texts : {bar bar' : BarRecord K} → IsPlainBar m bar → ArePlainTrackers m bar'.style.keys → bar'.style.parts ≡ bar.style.parts → bar'.style.tick_strings ≡ bar.style.tick_strings →
+      bar'.style.clusters ≡ bar.style.clusters → bar'.progress.message ≡ bar.progress.message → bar'.progress.prefix ≡ bar.progress.prefix → bar'.on_finish ≡ bar.on_finish → IsPlainBar m bar'
+  same_texts h trackers parts ticks clusters message prefix by = record {
+    style = record { literals = rw parts h.style.literals; ticks = rw ticks h.style.ticks; trackers = trackers; clusters = rw clusters h.style.clusters };
     message = rw message h.message;
     prefix = rw prefix h.prefix;
     on_finish = rw by h.on_finish;
   }
 
-  told_message : (text : List ℕ) (bar : BarRecord K) → IsPlainWithTabs text → IsPlainBar bar → IsPlainBar (with_progress bar (record bar.progress { message = text }))
+  -- one with its trackers too
+  same_bar : {bar bar' : BarRecord K} → IsPlainBar m bar → bar'.style.keys ≡ bar.style.keys → bar'.style.parts ≡ bar.style.parts → bar'.style.tick_strings ≡ bar.style.tick_strings →
+      bar'.style.clusters ≡ bar.style.clusters → bar'.progress.message ≡ bar.progress.message → bar'.progress.prefix ≡ bar.progress.prefix → bar'.on_finish ≡ bar.on_finish → IsPlainBar m bar'
+  same_bar h keys = same_texts h (rw keys h.style.trackers)
+
+  told_message : (text : List ℕ) (bar : BarRecord K) → IsPlainWithTabs text → IsPlainBar m bar → IsPlainBar m (with_progress bar (record bar.progress { message = text }))
   told_message text bar c h = record { style = h.style; message = c; prefix = h.prefix; on_finish = h.on_finish }
 
-  told_prefix : (text : List ℕ) (bar : BarRecord K) → IsPlainWithTabs text → IsPlainBar bar → IsPlainBar (with_progress bar (record bar.progress { prefix = text }))
+  told_prefix : (text : List ℕ) (bar : BarRecord K) → IsPlainWithTabs text → IsPlainBar m bar → IsPlainBar m (with_progress bar (record bar.progress { prefix = text }))
   told_prefix text bar c h = record { style = h.style; message = h.message; prefix = c; on_finish = h.on_finish }
 
-  ticked_plain : (bar : BarRecord K) (now : ℕ) → IsPlainBar bar → IsPlainBar (tick m bar now).0
-  ticked_plain bar now h =
-      let same : IsPlainBar (ticker_tick m bar now).0 = same_texts h refl refl refl refl refl refl in
-      cond_both {A = BarRecord K × Ask} bar.ticker (bar, No) (ticker_tick m bar now) (λ o. IsPlainBar o.0) (λ _. h) (λ _. same)
+  updated_plain : (bar : BarRecord K) (now : ℕ) → IsPlainBar m bar → IsPlainBar m (update m bar now).0
+  updated_plain bar now h = same_texts h (trackers_ticked _ now bar.style.keys h.style.trackers) refl refl refl refl refl refl
 
-  moved_plain : (position : ℕ) (bar : BarRecord K) (now : ℕ) → IsPlainBar bar → IsPlainBar (moved_to m position bar now).0
+  told_length : (len : Option ℕ) (bar : BarRecord K) (now : ℕ) → IsPlainBar m bar → IsPlainBar m (with_length m len bar now).0
+  told_length len bar now h = updated_plain (with_progress bar (record bar.progress { len = len })) now (same_bar h refl refl refl refl refl refl refl)
+
+  ticker_ticked_plain : (bar : BarRecord K) (now : ℕ) → IsPlainBar m bar → IsPlainBar m (ticker_tick m bar now).0
+  ticker_ticked_plain bar now h =
+      updated_plain (with_progress bar (record bar.progress { ticks = min (bar.progress.ticks + 1) greatest_u64 })) now (same_bar h refl refl refl refl refl refl refl)
+
+  ticked_plain : (bar : BarRecord K) (now : ℕ) → IsPlainBar m bar → IsPlainBar m (tick m bar now).0
+  ticked_plain bar now h =
+      cond_both {A = BarRecord K × Ask} bar.ticker (bar, No) (ticker_tick m bar now) (λ o. IsPlainBar m o.0) (λ _. h) (λ _. ticker_ticked_plain bar now h)
+
+  moved_plain : (position : ℕ) (bar : BarRecord K) (now : ℕ) → IsPlainBar m bar → IsPlainBar m (moved_to m position bar now).0
   moved_plain position bar now h =
       let asked = allow_position bar.limiter now in
       let next = record bar { progress = record bar.progress { position = position }; limiter = asked.1 } in
-      let same : IsPlainBar next = same_texts h refl refl refl refl refl refl in
-      cond_both {A = BarRecord K × Ask} asked.0 (tick m next now) (next, No) (λ o. IsPlainBar o.0) (λ _. ticked_plain next now same) (λ _. same)
+      let same : IsPlainBar m next = same_bar h refl refl refl refl refl refl refl in
+      cond_both {A = BarRecord K × Ask} asked.0 (tick m next now) (next, No) (λ o. IsPlainBar m o.0) (λ _. ticked_plain next now same) (λ _. same)
 
-  pub finished_plain : (by : BarFinish) (bar : BarRecord K) (now : ℕ) → IsPlainFinish by → IsPlainBar bar → IsPlainBar (finish by bar now).0
-  finished_plain AndLeave bar now f h = same_texts h refl refl refl refl refl refl
+  reset_plain : (bar : BarRecord K) (now : ℕ) → IsPlainBar m bar → IsPlainBar m (reset m bar now)
+  reset_plain bar now h = same_texts h (trackers_reset (progress_reset bar.progress now) now bar.style.keys h.style.trackers) refl refl refl refl refl refl
+
+  pub finished_plain : (by : BarFinish) (bar : BarRecord K) (now : ℕ) → IsPlainFinish by → IsPlainBar m bar → IsPlainBar m (finish by bar now).0
+  finished_plain AndLeave bar now f h = same_bar h refl refl refl refl refl refl refl
   finished_plain (WithMessage text) bar now f h = record { style = h.style; message = f; prefix = h.prefix; on_finish = h.on_finish }
-  finished_plain AndClear bar now f h = same_texts h refl refl refl refl refl refl
-  finished_plain Abandon bar now f h = same_texts h refl refl refl refl refl refl
+  finished_plain AndClear bar now f h = same_bar h refl refl refl refl refl refl refl
+  finished_plain Abandon bar now f h = same_bar h refl refl refl refl refl refl refl
   finished_plain (AbandonWithMessage text) bar now f h = record { style = h.style; message = f; prefix = h.prefix; on_finish = h.on_finish }
 
-  obeyed_plain : (command : Command K) (bar : BarRecord K) (now : ℕ) → IsPlainCommand command → IsPlainBar bar → IsPlainBar (obeyed m command bar now).0
+  obeyed_plain : (command : Command K) (bar : BarRecord K) (now : ℕ) → IsPlainCommand m command → IsPlainBar m bar → IsPlainBar m (obeyed m command bar now).0
   obeyed_plain Tick bar now c h = ticked_plain bar now h
+  obeyed_plain TickerTick bar now c h = ticker_ticked_plain bar now h
   obeyed_plain (Inc n) bar now c h = moved_plain _ bar now h
   obeyed_plain (Dec n) bar now c h = moved_plain _ bar now h
   obeyed_plain (SetPosition position) bar now c h = moved_plain position bar now h
   obeyed_plain (Update position len) bar now c h =
       let next = with_progress bar (record bar.progress { position = unwrap_or position bar.progress.position; len = some_or len bar.progress.len }) in
-      let same : IsPlainBar next = same_texts h refl refl refl refl refl refl in
+      let same : IsPlainBar m next = same_bar h refl refl refl refl refl refl refl in
       ticked_plain next now same
-  obeyed_plain (SetMessage text) bar now c h = same_texts (told_message text bar c h) refl refl refl refl refl refl
-  obeyed_plain (SetPrefix text) bar now c h = same_texts (told_prefix text bar c h) refl refl refl refl refl refl
-  obeyed_plain (SetStyle style) bar now c h =
-      record { style = record { literals = c.literals; ticks = c.ticks; clusters = c.clusters }; message = h.message; prefix = h.prefix; on_finish = h.on_finish }
+  obeyed_plain (SetLength n) bar now c h = told_length _ bar now h
+  obeyed_plain UnsetLength bar now c h = told_length _ bar now h
+  obeyed_plain (IncLength n) bar now c h = told_length _ bar now h
+  obeyed_plain (DecLength n) bar now c h = told_length _ bar now h
+  obeyed_plain (SetMessage text) bar now c h = updated_plain (with_progress bar (record bar.progress { message = text })) now (told_message text bar c h)
+  obeyed_plain (SetPrefix text) bar now c h = updated_plain (with_progress bar (record bar.progress { prefix = text })) now (told_prefix text bar c h)
+  obeyed_plain (SetStyle style) bar now c h = record {
+    style = record { literals = c.literals; ticks = c.ticks; trackers = c.trackers; clusters = c.clusters };
+    message = h.message;
+    prefix = h.prefix;
+    on_finish = h.on_finish;
+  }
   obeyed_plain (PutMessage text) bar now c h = told_message text bar c h
   obeyed_plain (PutPrefix text) bar now c h = told_prefix text bar c h
   obeyed_plain (PutFinish by) bar now c h = record { style = h.style; message = h.message; prefix = h.prefix; on_finish = c }
   obeyed_plain (SetElapsed nanos) bar now c h =
       let next = with_progress bar (record bar.progress { start = now - nanos }) in
-      let same : IsPlainBar next = same_texts h refl refl refl refl refl refl in
-      cond_both (nat_lt now nanos) bar next IsPlainBar (λ _. h) (λ _. same)
+      let same : IsPlainBar m next = same_bar h refl refl refl refl refl refl refl in
+      cond_both (nat_lt now nanos) bar next (IsPlainBar m) (λ _. h) (λ _. same)
+  obeyed_plain Reset bar now c h = reset_plain bar now h
   obeyed_plain (FinishBy by) bar now c h = finished_plain by bar now c h
   obeyed_plain FinishUsingStyle bar now c h = finished_plain bar.on_finish bar now h.on_finish h
-  obeyed_plain _ bar now c h = same_texts h refl refl refl refl refl refl
+  obeyed_plain _ bar now c h = same_bar h refl refl refl refl refl refl refl
 
-  pub bars_keep_plain : KeepsPlain (bar_kind m) IsPlainBar IsPlainCommand
+  pub bars_keep_plain : KeepsPlain (bar_kind m) (IsPlainBar m) (IsPlainCommand m)
   bars_keep_plain = record { lines = bar_lines_plain; after = obeyed_plain }
 
-  call_asked : (call : LoneCall (Command K)) → IsPlainLoneCall call → IsCall (bar_kind m) IsPlainBar IsPlainCommand bars_keep_plain call
+  call_asked : (call : LoneCall (Command K)) → IsPlainLoneCall m call → IsCall (bar_kind m) (IsPlainBar m) (IsPlainCommand m) bars_keep_plain call
   call_asked (Obey command) c = c
   call_asked (Log text) c = plain_lines_are_asked (logged_lines text) c
   call_asked Clear c = tt
 
-  calls_asked : (calls : List (LoneCall (Command K) × ℕ)) → AllByRecursion (λ call. IsPlainLoneCall call.0) calls →
-      AllByRecursion (λ call. IsCall (bar_kind m) IsPlainBar IsPlainCommand bars_keep_plain call.0) calls
+  calls_asked : (calls : List (LoneCall (Command K) × ℕ)) → AllByRecursion (λ call. IsPlainLoneCall m call.0) calls →
+      AllByRecursion (λ call. IsCall (bar_kind m) (IsPlainBar m) (IsPlainCommand m) bars_keep_plain call.0) calls
   calls_asked [] all = tt
   calls_asked (call ∷ calls) all = (call_asked call.0 all.0, calls_asked calls all.1)
 
+-- a tracker that stays as it is
+stays_so : {K : Type 0} (text : K → Progress → ℕ → List ℕ) (k : K) (steps : List TrackerStep) → tracker_after (telling text) k steps ≡ k
+stays_so text k [] = refl
+stays_so text k (Ticked p now ∷ steps) = stays_so text k steps
+stays_so text k (WasReset p now ∷ steps) = stays_so text k steps
+
+pub tellers_are_plain : {K : Type 0} → TellersArePlain K
+tellers_are_plain text k plain steps p now = subst (λ x. IsPlainWithTabs (text x p now)) (sym (stays_so text k steps)) (plain p now)
+
 pub lone_runs_are_plain : {K : Type 0} (m : Tracking K) → LoneRunsArePlain m
-lone_runs_are_plain m trackers calls answers old s new next run h all =
-    lone_plain (bar_kind m) IsPlainBar IsPlainCommand (bars_keep_plain m trackers) calls answers old s new next run h
-    (calls_asked m trackers calls (recursion_from_All (λ call. IsPlainLoneCall call.0) calls all))
+lone_runs_are_plain m calls answers old s new next run h all =
+    lone_plain (bar_kind m) (IsPlainBar m) (IsPlainCommand m) (bars_keep_plain m) calls answers old s new next run h
+    (calls_asked m calls (recursion_from_All (λ call. IsPlainLoneCall m call.0) calls all))

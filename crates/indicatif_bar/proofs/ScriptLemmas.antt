@@ -1,5 +1,5 @@
 -- What a script leaves on the terminal, of whatever draws.
-use Rattle.std.proofs.Common.{◌≡◌, ℕ, ◌+◌, ◌-◌, ◌<◌, ◌≤◌, Bool, true, false, ◌||◌, ◌&&◌, List, [], ◌∷◌, ◌++◌, length, refl, sym, ◌∙◌, ap, subst, arith, append_assoc, append-nil, length-append, Option, Some, None, if◌then◌else◌}
+use Rattle.std.proofs.Common.{◌≡◌, ℕ, ◌+◌, ◌-◌, ◌<◌, ◌≤◌, Bool, true, false, ◌||◌, ◌&&◌, List, [], ◌∷◌, ◌++◌, length, refl, sym, ◌∙◌, ap, subst, arith, append_assoc, append-nil, Option, Some, None, if◌then◌else◌}
 use Rattle.std.specs.Prelude.{IsTrue, IsFalse, ◌==◌}
 use Rattle.std.specs.List.{list_any}
 use Rattle.std.proofs.lemmas.Bool.{cond_both, false≢true, or_parts}
@@ -10,13 +10,14 @@ use Rattle.indicatif_term.specs.Screen.{Screen}
 use Rattle.indicatif_term.specs.Terminal.{Terminal, after}
 use Rattle.indicatif_term.specs.Calls.{Told, State as Holding, Bytes, Nothing, is_told, TermView}
 use Rattle.indicatif_term.specs.Lists.{Lists}
-use Rattle.indicatif_term.specs.Shows.{Rests, Placed}
+use Rattle.indicatif_term.specs.Shows.{Rests, Placed, safe_rows}
 use Rattle.indicatif_term.specs.Resizes.{resized, resized_terminal, resized_lists, recut, recut_all, told_resized}
 use Rattle.indicatif_term.specs.Events.{Event, Given, Sized, terminal_after, told_after, RowsLastThrough, rows_then}
 use Rattle.indicatif_term.specs.Engines.{Paints}
 use Rattle.indicatif_term.proofs.CallTurnLemmas.{still_tells}
+use Rattle.indicatif_term.proofs.PlaceLemmas.{stay_fewer}
 use Rattle.indicatif_term.proofs.ResizeLemmas.{resized_rests, above_resized, still_failed, forgotten_stay}
-use Rattle.indicatif_term.proofs.StandLemmas.{placed_fewer, shows_placed, sized_place}
+use Rattle.indicatif_term.proofs.StandLemmas.{shows_placed, sized_place}
 use Rattle.indicatif_term.proofs.StandingRowLemmas.{rows_taken, rows_placed, rows_safe}
 use Rattle.indicatif_term.proofs.RowReadingLemmas.{shown_is_read}
 use Rattle.indicatif_bar.specs.Machines.{Target, target_of, Machine}
@@ -27,68 +28,52 @@ use Rattle.indicatif_bar.proofs.RunLemmas.{lasts, run_target_stays, runs_once}
 
 -- ---- what is known of a terminal between two parts
 
--- where n rows are safe: its place, and unless a call was broken off, that it rests after an opening
-abbrev Known : Bool → ℕ → ℕ → ℕ → Lists → Terminal → Type 0
-Known true w h n l t = Placed w h n l t
-Known false w h n l t = Placed w h n l t × (opening : Screen) × Rests w h opening l t × (n ≤ opening.row + length l.above)
+-- its place, and unless a call was broken off, that it rests after an opening
+abbrev Known : Bool → ℕ → ℕ → Lists → Terminal → Type 0
+Known true w h l t = Placed w h l t
+Known false w h l t = Placed w h l t × (opening : Screen) × Rests w h opening l t
 
-placed_known : (broken : Bool) (w h n : ℕ) (l : Lists) (t : Terminal) → Known broken w h n l t → Placed w h n l t
-placed_known true w h n l t k = k
-placed_known false w h n l t k = k.0
+placed_known : (broken : Bool) (w h : ℕ) (l : Lists) (t : Terminal) → Known broken w h l t → Placed w h l t
+placed_known true w h l t k = k
+placed_known false w h l t k = k.0
 
-known_at_rest : (w h : ℕ) (opening : Screen) (l : Lists) (t : Terminal) → IsFalse l.failed → Rests w h opening l t → Known false w h (opening.row + length l.above) l t
-known_at_rest w h opening l t sound r = (shows_placed w h opening l t sound (r.shows sound), opening, r, omega arith)
-
-known_fewer : (broken : Bool) (w h n more : ℕ) (l : Lists) (t : Terminal) → n ≤ more → Known broken w h more l t → Known broken w h n l t
-known_fewer true w h n more l t few k = placed_fewer w h n more l t few k
-known_fewer false w h n more l t few k = (placed_fewer w h n more l t few k.0, k.1, k.2, omega (arith, k.3, few))
+known_at_rest : (w h : ℕ) (opening : Screen) (l : Lists) (t : Terminal) → IsFalse l.failed → Rests w h opening l t → Known false w h l t
+known_at_rest w h opening l t sound r = ((shows_placed w h opening l t sound (r.shows sound)).0, opening, r)
 
 -- a painting
-module _ (v v' : TermView) (b : Bool) (l l' : Lists) (p : Paints v v' b l l') (n : ℕ) (t : Terminal) where
-  -- the rows safe then, with those that it added
-  abbrev safe_then : ℕ
-  safe_then = n + (length l'.above - length l.above)
-
-  known_painted : b ≡ false → Known false v.columns v.rows n l t → Known false v'.columns v'.rows safe_then l' (after t p.bytes)
-  known_painted fine k =
-      let more = p.added fine in
-      let count : length l'.above ≡ length l.above + length more.0 = ap length more.1 ∙ length-append l.above more.0 in
-      (p.places n t k.0, k.1, p.rests fine k.1 t k.2, omega (arith, k.3, count))
-
-  known_more : (broken : Bool) → Known broken v.columns v.rows n l t → Known (broken || b) v'.columns v'.rows safe_then l' (after t p.bytes)
-  known_more true k = p.places n t k
-  known_more false k = elim b as (λ x. b ≡ x → Known x v'.columns v'.rows safe_then l' (after t p.bytes)) [
-    | true ↦ λ e. p.places n t k.0
-    | false ↦ λ e. known_painted e k
+module _ (v v' : TermView) (b : Bool) (l l' : Lists) (p : Paints v v' b l l') (t : Terminal) where
+  known_then : (broken : Bool) → Known broken v.columns v.rows l t → Known (broken || b) v'.columns v'.rows l' (after t p.bytes)
+  known_then true k = (p.places t k).0
+  known_then false k = elim b as (λ x. b ≡ x → Known x v'.columns v'.rows l' (after t p.bytes)) [
+    | true ↦ λ e. (p.places t k.0).0
+    | false ↦ λ e. ((p.places t k.0).0, k.1, p.rests e k.1 t k.2)
   ] refl
 
-  known_then : (broken : Bool) → Known broken v.columns v.rows n l t → Known (broken || b) v'.columns v'.rows n l' (after t p.bytes)
-  known_then broken k = known_fewer (broken || b) v'.columns v'.rows n safe_then l' (after t p.bytes) (omega arith) (known_more broken k)
-
-at_size : (broken : Bool) (a b c d n : ℕ) (l : Lists) (t : Terminal) → a ≡ c → b ≡ d → Known broken a b n l t → Known broken c d n l t
-at_size broken a b c d n l t e f k = subst (λ x. Known broken x d n l t) e (subst (λ x. Known broken a x n l t) f k)
+at_size : (broken : Bool) (a b c d : ℕ) (l : Lists) (t : Terminal) → a ≡ c → b ≡ d → Known broken a b l t → Known broken c d l t
+at_size broken a b c d l t e f k = subst (λ x. Known broken x d l t) e (subst (λ x. Known broken a x l t) f k)
 
 rests_at_size : (a b c d : ℕ) (opening : Screen) (l : Lists) (t : Terminal) → a ≡ c → b ≡ d → Rests a b opening l t → Rests c d opening l t
 rests_at_size a b c d opening l t e f r = subst (λ x. Rests x d opening l t) e (subst (λ x. Rests a x opening l t) f r)
 
 -- a size
-known_sized : (broken : Bool) (w h w' h' n : ℕ) (l : Lists) (t : Terminal) → 0 < w → 0 < h' → MaySize broken l → Known broken w h n l t →
-    Known broken w' h' (length (rows_then w' h' n t.screen)) (resized_lists w h w' h' l) (resized_terminal w' h' t)
-known_sized true w h w' h' n l t some some' may k =
-    subst (λ q. Placed w' h' (length (rows_then w' h' n t.screen)) q (resized_terminal w' h' t)) (sym (ap (resized_lists w h w' h') may ∙ forgotten_stay w h w' h' some'))
-    (rows_placed w h w' h' n t some' (subst (λ q. Placed w h n q t) may k))
-known_sized false w h w' h' n l t some some' may k =
+known_sized : (broken : Bool) (w h w' h' n : ℕ) (l : Lists) (t : Terminal) → 0 < w → 0 < h' → MaySize broken l → n ≤ safe_rows l t → Known broken w h l t →
+    let l' = resized_lists w h w' h' l in
+    let t' = resized_terminal w' h' t in
+    Known broken w' h' l' t' × (length (rows_then w' h' n t.screen) ≤ safe_rows l' t')
+known_sized true w h w' h' n l t some some' may few k =
+    let t' = resized_terminal w' h' t in
+    subst (λ q. Placed w' h' q t' × (length (rows_then w' h' n t.screen) ≤ safe_rows q t')) (sym (ap (resized_lists w h w' h') may ∙ forgotten_stay w h w' h' some'))
+    (rows_placed w h w' h' n t some' (subst (λ q. n ≤ safe_rows q t) may few) (subst (λ q. Placed w h q t) may k))
+known_sized false w h w' h' n l t some some' may few k =
     let opening = k.1 in
     let l' = resized_lists w h w' h' l in
     let t' = resized_terminal w' h' t in
     let sound : l'.failed ≡ false = still_failed w h w' h' l ∙ may in
     let r = resized_rests w h w' h' opening l t k.2 may some some' in
-    let few = rows_safe w h w' h' n opening l t (k.2.shows may) some some' k.3 in (
-      placed_fewer w' h' (length (rows_then w' h' n t.screen)) ((resized w' h' opening).row + length l'.above) l' t' few (shows_placed w' h' (resized w' h' opening) l' t' sound (r.shows sound)),
-      resized w' h' opening,
-      r,
-      few,
-    )
+    let x = k.2.shows may in
+    let cut = rows_safe w h w' h' n opening l t x some some' (omega (arith, few, (shows_placed w h opening l t may x).1)) in
+    let there = shows_placed w' h' (resized w' h' opening) l' t' sound (r.shows sound) in
+    ((there.0, resized w' h' opening, r), omega (arith, cut, there.1))
 
 still_sized : (w h : ℕ) (told : Told) → IsTrue (is_told told) → IsTrue (is_told (told_resized w h told))
 still_sized w h (Holding t) e = refl
@@ -141,8 +126,8 @@ module _ {S C A : Type 0} (m : Machine S C A) (z : Sizing m) where
     events : List Event
     told_is : IsTrue (is_told v.told) → v'.told ≡ told_after v.told events
     goes_by : GoesBy m z parts old s new next plays events
-    lasts : (n : ℕ) (t : Terminal) → Known broken v.columns v.rows n (m.lists s) t → RowsLastThrough n t events
-    added_last : (n : ℕ) (t : Terminal) → Known broken v.columns v.rows n (m.lists s) t → RowsLastIn m z parts old s new next plays n t events
+    first_last : (n : ℕ) (t : Terminal) → n ≤ safe_rows (m.lists s) t → Known broken v.columns v.rows (m.lists s) t → RowsLastThrough n t events
+    lasts : (t : Terminal) → Known broken v.columns v.rows (m.lists s) t → RowsLastIn m z parts old s new next plays t events
     rests : IsFalse broken → IsFalse (script_broke m z parts) → (opening : Screen) (t : Terminal) → Rests v.columns v.rows opening (m.lists s) t →
         Rests v'.columns v'.rows (opening_then parts opening) (m.lists next) (terminal_after t events)
     added : IsFalse (script_broke m z parts) → (rows : List (List Cell)) × ((m.lists next).above ≡ rows_cut parts v.columns v.rows (m.lists s).above ++ rows)
@@ -161,8 +146,8 @@ module _ {S C A : Type 0} (m : Machine S C A) (z : Sizing m) where
       events = [];
       told_is = λ h. refl;
       goes_by = refl;
-      lasts = λ n t k. tt;
-      added_last = λ n t k. refl;
+      first_last = λ n t few k. tt;
+      lasts = λ t k. refl;
       rests = λ fine whole opening t r. subst (λ x. Rests v.columns v.rows opening (m.lists x) t) (sym plays.1) r;
       added = λ whole. ([], ap (λ x. (m.lists x).above) plays.1 ∙ sym (append-nil (m.lists s).above));
     },
@@ -180,9 +165,10 @@ module _ {S C A : Type 0} (m : Machine S C A) (z : Sizing m) where
       let later : Left (broken || b) parts u x new next (Some u) = λ q r k. carried (broken || b) parts u x new next (omega (arith, some, columns)) q r k in
       let rest = subst (Left (broken || b) parts u x new next) (sym first.1) later plays.3 plain.1 known in
       let c = rest.2 in
-      let last : (n : ℕ) (t : Terminal) → Known broken v.columns v.rows n l t → RowsLastThrough n t (Given p.bytes ∷ c.events) = λ n t k. (
-        p.stays n t (placed_known broken v.columns v.rows n l t k),
-        c.lasts n (after t p.bytes) (known_then v u b l (m.lists x) p n t broken k),
+      let last : (n : ℕ) (t : Terminal) → n ≤ safe_rows l t → Known broken v.columns v.rows l t → RowsLastThrough n t (Given p.bytes ∷ c.events) = λ n t few k.
+      let placed = placed_known broken v.columns v.rows l t k in (
+        stay_fewer n (safe_rows l t) t p.bytes few (p.stays t placed),
+        c.first_last n (after t p.bytes) (omega (arith, few, (p.places t placed).1)) (known_then v u b l (m.lists x) p t broken k),
       ) in (
         rest.0,
         rest.1,
@@ -192,14 +178,14 @@ module _ {S C A : Type 0} (m : Machine S C A) (z : Sizing m) where
               let e = p.told_is h in
               c.told_is (subst (λ q. IsTrue (is_told q)) (sym e) (still_tells v.told p.bytes h)) ∙ ap (λ q. told_after q c.events) e;
           goes_by = (p.bytes, c.events, refl, (u, first.1, p.told_is), c.goes_by);
-          lasts = last;
-          added_last = λ n t k. (
-            last n t k,
+          first_last = last;
+          lasts = λ t k. (
+            last (safe_rows l t) t (omega arith) k,
             p.bytes,
             c.events,
             refl,
-            first.3 n t (placed_known broken v.columns v.rows n l t k),
-            c.added_last (n + (length (m.lists x).above - length l.above)) (after t p.bytes) (known_more v u b l (m.lists x) p n t broken k),
+            first.3 t (placed_known broken v.columns v.rows l t k),
+            c.lasts (after t p.bytes) (known_then v u b l (m.lists x) p t broken k),
           );
           rests = λ fine whole opening t r.
               let parted = or_parts b (script_broke m z parts) whole in
@@ -225,13 +211,16 @@ module _ {S C A : Type 0} (m : Machine S C A) (z : Sizing m) where
       let l = m.lists s in
       let l' = resized_lists v.columns v.rows w h l in
       let lists : m.lists x ≡ l' = z.lists_are l' s in
-      let at_it : (n : ℕ) (t : Terminal) → Known broken v.columns v.rows n l t → Known broken u.columns u.rows (length (rows_then w h n t.screen)) (m.lists x) (resized_terminal w h t) =
-      λ n t k. subst (λ q. Known broken u.columns u.rows (length (rows_then w h n t.screen)) q (resized_terminal w h t)) (sym lists)
-      (at_size broken w h u.columns u.rows (length (rows_then w h n t.screen)) l' (resized_terminal w h t) (sym is.columns_are) (sym is.rows_are)
-      (known_sized broken v.columns v.rows w h n l t some plays.3 known.0 k)) in
-      let last : (n : ℕ) (t : Terminal) → Known broken v.columns v.rows n l t → RowsLastThrough n t (Sized w h ∷ c.events) = λ n t k. (
-        rows_taken w h n t (sized_place (placed_known broken v.columns v.rows n l t k)).inside.in_rows,
-        c.lasts (length (rows_then w h n t.screen)) (resized_terminal w h t) (at_it n t k),
+      let at_it : (n : ℕ) (t : Terminal) → n ≤ safe_rows l t → Known broken v.columns v.rows l t →
+      Known broken u.columns u.rows (m.lists x) (resized_terminal w h t) × (length (rows_then w h n t.screen) ≤ safe_rows (m.lists x) (resized_terminal w h t)) = λ n t few k.
+      let t' = resized_terminal w h t in
+      let there = known_sized broken v.columns v.rows w h n l t some plays.3 known.0 few k in
+      subst (λ q. Known broken u.columns u.rows q t' × (length (rows_then w h n t.screen) ≤ safe_rows q t')) (sym lists)
+      (at_size broken w h u.columns u.rows l' t' (sym is.columns_are) (sym is.rows_are) there.0, there.1) in
+      let last : (n : ℕ) (t : Terminal) → n ≤ safe_rows l t → Known broken v.columns v.rows l t → RowsLastThrough n t (Sized w h ∷ c.events) = λ n t few k.
+      let there = at_it n t few k in (
+        rows_taken w h n t (sized_place (placed_known broken v.columns v.rows l t k)).inside.in_rows,
+        c.first_last (length (rows_then w h n t.screen)) (resized_terminal w h t) there.1 there.0,
       ) in (
         rest.0,
         rest.1,
@@ -241,13 +230,11 @@ module _ {S C A : Type 0} (m : Machine S C A) (z : Sizing m) where
               let e = is.told_is q in
               c.told_is (subst (λ k. IsTrue (is_told k)) (sym e) (still_sized w h v.told q)) ∙ ap (λ k. told_after k c.events) e;
           goes_by = (c.events, refl, c.goes_by);
-          lasts = last;
-          added_last = λ n t k. (
-            last n t k,
-            c.events,
-            refl,
-            c.added_last (length (rows_then w h n t.screen)) (resized_terminal w h t) (at_it n t k),
-          );
+          first_last = last;
+          lasts = λ t k.
+              let n = safe_rows l t in
+              let there = at_it n t (omega arith) k in
+              (last n t (omega arith) k, c.events, refl, there.1, c.lasts (resized_terminal w h t) there.0);
           rests = λ fine whole opening t r.
               let may = subst (λ q. MaySize q l) fine known.0 in
               c.rests fine whole (resized w h opening) (resized_terminal w h t)
@@ -275,8 +262,7 @@ module _ {S C A : Type 0} (m : Machine S C A) (z : Sizing m) where
           events = c.events;
           told_is = c.told_is;
           goes_by = c.goes_by;
-          lasts = λ opening t k. c.lasts (opening.row + length l.above) t (known_at_rest v.columns v.rows opening l t sound k);
-          added_last = λ opening t k. c.added_last (opening.row + length l.above) t (known_at_rest v.columns v.rows opening l t sound k);
+          lasts = λ opening t k. c.lasts t (known_at_rest v.columns v.rows opening l t sound k);
           rests = λ whole opening t k. c.rests refl whole opening t k;
           added = c.added;
         },
@@ -287,7 +273,7 @@ module _ {S C A : Type 0} (m : Machine S C A) (z : Sizing m) where
   safe_rows_last parts v s new next plays some plain known =
       let r = carried true parts v s new next some plays plain known in
       let c = r.2 in
-      (r.0, r.1, c.events, c.told_is, c.goes_by, λ n t k. (c.lasts n t k, c.added_last n t k))
+      (r.0, r.1, c.events, c.told_is, c.goes_by, c.lasts)
 
   -- a terminal that tells its state tells it after events
   told_state : (t : Terminal) (events : List Event) → told_after (Holding t) events ≡ Holding (terminal_after t events)

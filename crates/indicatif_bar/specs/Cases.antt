@@ -1,7 +1,7 @@
 -- Worked cases of a lone bar: what calls at the moment 0 answer, and the rows that stand then. The terminal never fails but where a case says so.
 use Rattle.indicatif_text.specs.Template.{KeyText, plain_layout}
 use Rattle.indicatif_bar.specs.Styles.{BarStyle}
-use Rattle.std.specs.Prelude.{◌≡◌, ℕ, ◌+◌, ◌-◌, true, false, List, [], ◌∷◌, ◌++◌, length, map, replicate, take, Some, None, flat_map, codes, Result, Ok, Err}
+use Rattle.std.specs.Prelude.{◌≡◌, ℕ, true, false, List, [], ◌∷◌, ◌++◌, length, map, replicate, take, Option, Some, None, flat_map, codes, Result, Ok, Err}
 use Rattle.std.specs.declared.io.ErrorKind.{ErrorKind}
 use Rattle.indicatif_text.specs.declared.refusal.Refusal.{Refusal}
 use Rattle.indicatif_text.specs.declared.refusal.Refusal.TheVariants.{NoColumns, TooWide, ElapsedBeyondClock, Terminal as Failure}
@@ -13,10 +13,12 @@ use Rattle.indicatif_bar.specs.Bars.{bar_kind, lines_of_bar}
 use Rattle.indicatif_bar.specs.Trackers.{Tracking, writes_nothing}
 use Rattle.indicatif_bar.specs.Commands.{BarRecord, Command, new_bar, obeyed, Tick, SetMessage, PutMessage, SetElapsed, ForceDraw}
 use Rattle.indicatif_bar.specs.LoneBars.{lone_bar}
-use Rattle.indicatif_term.specs.Calls.{anew_bytes, clear_bytes, line_bytes}
+use Rattle.indicatif_term.specs.Calls.{TermView, UP, move_bytes, anew_bytes, clear_bytes, line_bytes}
 use Rattle.indicatif_term.specs.Limiters.{draw_limiter}
-use Rattle.indicatif_term.specs.Terminal.{after, blank_terminal}
+use Rattle.indicatif_term.specs.Shows.{safe_rows}
+use Rattle.indicatif_term.specs.Terminal.{Terminal, after, blank_terminal}
 use Rattle.indicatif_bar.specs.Machines.{Target, Leads, outcomes}
+use Rattle.indicatif_bar.specs.Runs.{Runs, RowsLast}
 use Rattle.indicatif_bar.specs.Lone.{LoneState, LoneCall, Obey, Log, Clear, opening_state, draw_of_call}
 
 -- ---- messages
@@ -138,7 +140,7 @@ LateElapsed =
 -- ---- a terminal that fails
 
 -- 4 rows, 5 columns: `a` is logged above the bar `x`; the draw of the message `y` is broken off, which leads to
--- a state whose rows are forgotten; then `b` is logged. `a` and `b` are the two rows that were added above
+-- a state whose rows are forgotten; then `b` is logged
 abbrev pub BrokenOff : Type 0
 BrokenOff =
     let target = terminal_of_size 4 5 in
@@ -152,16 +154,50 @@ BrokenOff =
     × (again.0 ≡ Ok Yes ∷ [])
     × (again.1.lists.above ≡ rows_of_lines 5 (codes "b" ∷ []))
     × (all_rows 5 again.1.lists ≡ rows_of_lines 5 (codes "b" ∷ codes "y" ∷ []))
-    × (length logged.1.lists.above + (length broken.lists.above - length logged.1.lists.above) + (length again.1.lists.above - length broken.lists.above) ≡ 2)
 
--- the same by bytes: `a` and the bar `x` stand, and `y` is written over `x`. After each beginning of its bytes the first row is that of `a`;
--- after seven of them a new row begins, on which `b` and the bar `y` follow
+-- the states of the same: `a` was logged above the bar `x`; and behind the failure `b` was above the bar `y`
+abbrev pub logged_before : LoneState (BarRecord (Unit {0}))
+logged_before = (ran (terminal_of_size 4 5) (codes "x") (Log (codes "a") ∷ [])).1
+
+abbrev pub logged_behind : LoneState (BarRecord (Unit {0}))
+logged_behind =
+    let target = terminal_of_size 4 5 in
+    (outcomes (lone_bar untracked) target ((Log (codes "b"), 0) ∷ []) (draw_of_call (bar_kind untracked) target (Obey (SetMessage (codes "y"))) 0 logged_before).broken).1
+
+-- its terminals: `a` and the bar `x` stand; the bytes that write `y` over `x` break off after seven; a new row begins, on which `b`
+-- and the bar `y` follow
+abbrev pub terminal_before : Terminal
+terminal_before = after (blank_terminal 4 5) (line_bytes (codes "a") ++ codes "x    ")
+
+abbrev pub broken_bytes : List ℕ
+broken_bytes = clear_bytes ++ codes "y    "
+
+abbrev pub terminal_broken : Terminal
+terminal_broken = after terminal_before (take 7 broken_bytes)
+
+abbrev pub terminal_behind : Terminal
+terminal_behind = after terminal_broken (anew_bytes ++ line_bytes (codes "b") ++ codes "y    ")
+
+-- after each beginning of the bytes the first row is that of `a`. The row of `a` is safe; then also the one on which the terminal broke
+-- off; and then that of `b`
 abbrev pub BrokenBytes : Type 0
 BrokenBytes =
-    let shown = after (blank_terminal 4 5) (line_bytes (codes "a") ++ codes "x    ") in
-    let bytes = clear_bytes ++ codes "y    " in
-    (map (λ k. take 1 (after shown (take k bytes)).screen.rows) (0 ∷ 1 ∷ 2 ∷ 3 ∷ 4 ∷ 5 ∷ 6 ∷ 7 ∷ 8 ∷ 9 ∷ 10 ∷ []) ≡ replicate 11 (rows_of_lines 5 (codes "a" ∷ [])))
-    × ((after shown (take 7 bytes ++ anew_bytes ++ line_bytes (codes "b") ++ codes "y    ")).screen.rows ≡ rows_of_lines 5 (codes "a" ∷ codes "y " ∷ codes "b" ∷ codes "y    " ∷ []))
+    (map (λ k. take 1 (after terminal_before (take k broken_bytes)).screen.rows) (0 ∷ 1 ∷ 2 ∷ 3 ∷ 4 ∷ 5 ∷ 6 ∷ 7 ∷ 8 ∷ 9 ∷ 10 ∷ []) ≡ replicate 11 (rows_of_lines 5 (codes "a" ∷ [])))
+    × (terminal_behind.screen.rows ≡ rows_of_lines 5 (codes "a" ∷ codes "y " ∷ codes "b" ∷ codes "y    " ∷ []))
+    × (safe_rows logged_before.lists terminal_before ≡ 1)
+    × (safe_rows forgotten_lists terminal_broken ≡ 2)
+    × (safe_rows logged_behind.lists terminal_behind ≡ 3)
+
+-- a call that then goes up to the row of `b` and empties it leaves the two rows above it alone, and is no call of any run: the third
+-- row was safe
+abbrev pub EmptiedRow : Type 0
+EmptiedRow =
+    let bytes = move_bytes UP 1 ++ clear_bytes in
+    let m = lone_bar untracked in
+    ((after terminal_behind bytes).screen.rows ≡ rows_of_lines 5 (codes "a" ∷ codes "y " ∷ [] ∷ codes "y    " ∷ []))
+    × ((call : LoneCall (Command (Unit {0})) × ℕ) (answer : Result Drawn Refusal) (old new : Option TermView) (next : LoneState (BarRecord (Unit {0})))
+    (run : Runs m (call ∷ []) (answer ∷ []) old logged_behind new next) →
+    RowsLast m (call ∷ []) (answer ∷ []) old logged_behind new next run terminal_behind bytes → ⊥)
 
 -- ---- limiters
 

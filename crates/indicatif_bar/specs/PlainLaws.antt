@@ -7,7 +7,7 @@ use Rattle.indicatif_term.specs.Calls.{TermView}
 use Rattle.indicatif_term.specs.Frames.{logged_lines}
 use Rattle.indicatif_bar.specs.Tabs.{expanded}
 use Rattle.indicatif_bar.specs.Progress.{Progress}
-use Rattle.indicatif_bar.specs.Trackers.{Tracking}
+use Rattle.indicatif_bar.specs.Trackers.{Tracking, TrackerStep, tracker_after, telling}
 use Rattle.indicatif_bar.specs.Styles.{BarStyle}
 use Rattle.indicatif_bar.specs.StyleLaws.{IsPlainText, AreTaken}
 use Rattle.indicatif_bar.specs.Finishes.{BarFinish, WithMessage, AbandonWithMessage}
@@ -20,19 +20,28 @@ use Rattle.indicatif_bar.specs.LoneBars.{lone_bar}
 abbrev pub IsPlainWithTabs : List ℕ → Type 0
 IsPlainWithTabs text = (tab : ℕ) → IsPlainText (expanded tab text)
 
--- so is each text that a tracker may write
-abbrev pub ArePlainTrackers : {K : Type 0} → Tracking K → Type 0
-ArePlainTrackers {K} m = (k : K) (p : Progress) (now : ℕ) → IsPlainWithTabs (m.text k p now)
+-- so is each text of a tracker, whatever ticks and resets come before
+abbrev pub IsPlainTracker : {K : Type 0} → Tracking K → K → Type 0
+IsPlainTracker m k = (steps : List TrackerStep) (p : Progress) (now : ℕ) → IsPlainWithTabs (m.text (tracker_after m k steps) p now)
+
+-- those of the trackers of a style
+abbrev pub ArePlainTrackers : {K : Type 0} → Tracking K → List (List ℕ × K) → Type 0
+ArePlainTrackers m keys = All (λ entry. IsPlainTracker m entry.1) keys
+
+-- a tracker that stays as it is has plain texts if those that it tells are plain
+abbrev pub TellersArePlain : Type 0 → Type 0
+TellersArePlain K = (text : K → Progress → ℕ → List ℕ) (k : K) → ((p : Progress) (now : ℕ) → IsPlainWithTabs (text k p now)) → IsPlainTracker (telling text) k
 
 -- a literal of a template
 abbrev pub HasPlainLiteral : TemplatePart → Type 0
 HasPlainLiteral (LiteralText text) = IsPlainWithTabs (encode_utf8_all text)
 HasPlainLiteral _ = Unit {0}
 
--- the texts of a style: literals and spinner; and its clusters are such as a style takes
-pub record IsPlainStyle {K : Type 0} (style : BarStyle K) : Type 0 where
+-- the texts of a style: literals, spinner and trackers; and its clusters are such as a style takes
+pub record IsPlainStyle {K : Type 0} (m : Tracking K) (style : BarStyle K) : Type 0 where
   pub literals : All HasPlainLiteral style.parts
   pub ticks : All IsPlainText style.tick_strings
+  pub trackers : ArePlainTrackers m style.keys
   pub clusters : AreTaken style.clusters
 
 -- the message of a finish
@@ -41,10 +50,10 @@ IsPlainFinish (WithMessage text) = IsPlainWithTabs text
 IsPlainFinish (AbandonWithMessage text) = IsPlainWithTabs text
 IsPlainFinish _ = Unit {0}
 
-module _ {K : Type 0} where
+module _ {K : Type 0} (m : Tracking K) where
   -- the texts of a bar
   pub record IsPlainBar (bar : BarRecord K) : Type 0 where
-    pub style : IsPlainStyle bar.style
+    pub style : IsPlainStyle m bar.style
     pub message : IsPlainWithTabs bar.progress.message
     pub prefix : IsPlainWithTabs bar.progress.prefix
     pub on_finish : IsPlainFinish bar.on_finish
@@ -53,7 +62,7 @@ module _ {K : Type 0} where
   abbrev pub IsPlainCommand : Command K → Type 0
   IsPlainCommand (SetMessage text) = IsPlainWithTabs text
   IsPlainCommand (SetPrefix text) = IsPlainWithTabs text
-  IsPlainCommand (SetStyle style) = IsPlainStyle style
+  IsPlainCommand (SetStyle style) = IsPlainStyle m style
   IsPlainCommand (PutMessage text) = IsPlainWithTabs text
   IsPlainCommand (PutPrefix text) = IsPlainWithTabs text
   IsPlainCommand (PutFinish by) = IsPlainFinish by
@@ -69,7 +78,7 @@ module _ {K : Type 0} where
 -- where all these texts are plain, so is every run, and the headline holds of it; and the bar's texts are plain at its end, so that what
 -- comes after it is plain too
 abbrev pub LoneRunsArePlain : {K : Type 0} → Tracking K → Type 0
-LoneRunsArePlain {K} m = ArePlainTrackers m →
+LoneRunsArePlain {K} m =
     (calls : List (LoneCall (Command K) × ℕ)) (answers : List (Result Drawn Refusal)) (old : Option TermView) (s : LoneState (BarRecord K)) (new : Option TermView) (next : LoneState (BarRecord K))
     (run : Runs (lone_bar m) calls answers old s new next) →
-    IsPlainBar s.bar → All (λ call. IsPlainLoneCall call.0) calls → AllPlain (lone_bar m) calls answers old s new next run × IsPlainBar next.bar
+    IsPlainBar m s.bar → All (λ call. IsPlainLoneCall m call.0) calls → AllPlain (lone_bar m) calls answers old s new next run × IsPlainBar m next.bar

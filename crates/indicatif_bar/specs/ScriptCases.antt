@@ -6,7 +6,7 @@ use Rattle.indicatif_text.specs.declared.refusal.Drawn.TheVariants.{Yes, Hidden}
 use Rattle.indicatif_text.specs.Columns.{blank_row}
 use Rattle.indicatif_term.specs.Screen.{Screen}
 use Rattle.indicatif_term.specs.Lists.{opening_lists, all_rows}
-use Rattle.indicatif_term.specs.Events.{standing_rows, rows_then}
+use Rattle.indicatif_term.specs.Events.{rows_that_stand, rows_then}
 use Rattle.indicatif_bar.specs.Commands.{BarRecord, Command, Tick, SetMessage}
 use Rattle.indicatif_bar.specs.LoneBars.{lone_bar, lone_sizing}
 use Rattle.indicatif_bar.specs.Machines.{Target}
@@ -79,9 +79,9 @@ two_rows row column = record { columns = 4; height = 3; rows = rows_of_lines 4 (
 -- that one does not. What stands is cut; the same size leaves all
 abbrev pub Standing : Type 0
 Standing =
-    (standing_rows 2 (two_rows 2 0) ≡ 2)
-    × (standing_rows 2 (two_rows 1 4) ≡ 2)
-    × (standing_rows 2 (two_rows 1 2) ≡ 1)
+    (rows_that_stand 2 (two_rows 2 0) ≡ 2)
+    × (rows_that_stand 2 (two_rows 1 4) ≡ 2)
+    × (rows_that_stand 2 (two_rows 1 2) ≡ 1)
     × (rows_then 2 3 2 (two_rows 1 4) ≡ rows_of_lines 2 (codes "ab" ∷ codes "cd" ∷ codes "ef" ∷ []))
     × (rows_then 2 3 2 (two_rows 1 2) ≡ rows_of_lines 2 (codes "ab" ∷ codes "cd" ∷ []))
     × (rows_then 4 3 2 (two_rows 1 2) ≡ rows_of_lines 4 (codes "abcd" ∷ codes "ef" ∷ []))

@@ -7,7 +7,7 @@ use Rattle.indicatif_term.specs.Terminal.{Terminal, after}
 use Rattle.indicatif_term.specs.Calls.{TermView, is_told}
 use Rattle.indicatif_term.specs.Lists.{Lists, forgotten_lists, all_rows}
 use Rattle.indicatif_term.specs.Limiters.{Limiter, draw_limiter}
-use Rattle.indicatif_term.specs.Shows.{Rests, Placed}
+use Rattle.indicatif_term.specs.Shows.{Rests, Placed, safe_rows}
 use Rattle.indicatif_term.specs.Resizes.{resized, resized_terminal, resized_lists, recut_all, has_size, Resized}
 use Rattle.indicatif_term.specs.Events.{Event, Given, Sized, terminal_after, told_after, rows_then, RowsLastThrough}
 use Rattle.indicatif_bar.specs.Machines.{Target, target_of, Machine, outcomes}
@@ -109,28 +109,29 @@ module _ {State Call Answer : Type 0} (m : Machine State Call Answer) (z : Sizin
   GoesBy (Size w h ∷ parts) old s new next plays events =
       (others : List Event) × (events ≡ Sized w h ∷ others) × GoesBy parts plays.0 (sized w h (target_of old) s) new next plays.4 others
 
-  -- of a terminal whose first n rows are safe: they last to the script's end. What is said of runs holds of each of its runs; and as
-  -- many rows as a run has more above at its end than at its start last too, from there on
+  -- the rows of a terminal that are safe at the script's start last to its end. What is said of runs holds of each of its runs; no
+  -- size cuts more rows than are safe then; and the rows that are safe behind a run or a size last from there on
   abbrev pub RowsLastIn : (parts : List (Part Call Answer)) (old : Option TermView) (s : State) (new : Option TermView) (next : State) → Plays parts old s new next →
-      ℕ → Terminal → List Event → Type 0
-  RowsLastIn [] old s new next plays n t events = events ≡ []
-  RowsLastIn (Called calls answers ∷ parts) old s new next plays n t events =
-      RowsLastThrough n t events × (bytes : List ℕ) × (others : List Event) × (events ≡ Given bytes ∷ others) × RowsLast m calls answers old s plays.0 plays.1 plays.2 n t bytes
-      × RowsLastIn parts plays.0 plays.1 new next plays.3 (n + (length (m.lists plays.1).above - length (m.lists s).above)) (after t bytes) others
-  RowsLastIn (Size w h ∷ parts) old s new next plays n t events =
+      Terminal → List Event → Type 0
+  RowsLastIn [] old s new next plays t events = events ≡ []
+  RowsLastIn (Called calls answers ∷ parts) old s new next plays t events =
+      RowsLastThrough (safe_rows (m.lists s) t) t events × (bytes : List ℕ) × (others : List Event) × (events ≡ Given bytes ∷ others)
+      × RowsLast m calls answers old s plays.0 plays.1 plays.2 t bytes × RowsLastIn parts plays.0 plays.1 new next plays.3 (after t bytes) others
+  RowsLastIn (Size w h ∷ parts) old s new next plays t events =
+      let x = sized w h (target_of old) s in
+      let n = safe_rows (m.lists s) t in
       RowsLastThrough n t events × (others : List Event) × (events ≡ Sized w h ∷ others)
-      × RowsLastIn parts plays.0 (sized w h (target_of old) s) new next plays.4 (length (rows_then w h n t.screen)) (resized_terminal w h t) others
+      × (length (rows_then w h n t.screen) ≤ safe_rows (m.lists x) (resized_terminal w h t)) × RowsLastIn parts plays.0 x new next plays.4 (resized_terminal w h t) others
 
   -- these events, one for each part, led from the one to the other. Of a terminal that rests with the lists of the start after an
-  -- opening: the untouched rows and those above last, and those that runs add. And unless a call was broken off it rests then with
-  -- the lists of the end, after the opening that got the sizes too, and rows above were cut by the sizes, and only added
+  -- opening: the rows that are safe last (the untouched ones and those above), and those that are safe later. And unless a call was
+  -- broken off it rests then with the lists of the end, after the opening that got the sizes too, and rows above were cut by the
+  -- sizes, and only added
   pub record Carries (parts : List (Part Call Answer)) (v v' : TermView) (s : State) (new : Option TermView) (next : State) (plays : Plays parts (Some v) s new next) : Type 0 where
     pub events : List Event
     pub told_is : IsTrue (is_told v.told) → v'.told ≡ told_after v.told events
     pub goes_by : GoesBy parts (Some v) s new next plays events
-    pub lasts : (opening : Screen) (t : Terminal) → Rests v.columns v.rows opening (m.lists s) t → RowsLastThrough (opening.row + length (m.lists s).above) t events
-    pub added_last : (opening : Screen) (t : Terminal) → Rests v.columns v.rows opening (m.lists s) t →
-        RowsLastIn parts (Some v) s new next plays (opening.row + length (m.lists s).above) t events
+    pub lasts : (opening : Screen) (t : Terminal) → Rests v.columns v.rows opening (m.lists s) t → RowsLastIn parts (Some v) s new next plays t events
     pub rests : IsFalse (script_broke parts) → (opening : Screen) (t : Terminal) → Rests v.columns v.rows opening (m.lists s) t →
         Rests v'.columns v'.rows (opening_then parts opening) (m.lists next) (terminal_after t events)
     pub added : IsFalse (script_broke parts) → (rows : List (List Cell)) × ((m.lists next).above ≡ rows_cut parts v.columns v.rows (m.lists s).above ++ rows)
@@ -142,14 +143,14 @@ module _ {State Call Answer : Type 0} (m : Machine State Call Answer) (z : Sizin
       0 < v.columns → IsFalse (m.lists s).failed → AllRunsPlain parts (Some v) s new next plays → AllSizesKnown false parts (Some v) s new next plays →
       (v' : TermView) × (new ≡ Some v') × Carries parts v v' s new next plays
 
-  -- a script that begins after a failure, wherever the terminal broke off: of any whose first n rows are safe they last, and those that
-  -- runs add. Each size comes where nothing was drawn since the last failure
+  -- a script that begins after a failure, wherever the terminal broke off: the rows of any terminal with a place that are safe last, and
+  -- those that are safe later. Each size comes where nothing was drawn since the last failure
   abbrev pub SafeRowsLast : Type 0
   SafeRowsLast =
       (parts : List (Part Call Answer)) (v : TermView) (s : State) (new : Option TermView) (next : State) (plays : Plays parts (Some v) s new next) →
       0 < v.columns → AllRunsPlain parts (Some v) s new next plays → AllSizesKnown true parts (Some v) s new next plays →
       (v' : TermView) × (new ≡ Some v') × (events : List Event) × (IsTrue (is_told v.told) → v'.told ≡ told_after v.told events) × GoesBy parts (Some v) s new next plays events
-      × ((n : ℕ) (t : Terminal) → Placed v.columns v.rows n (m.lists s) t → RowsLastThrough n t events × RowsLastIn parts (Some v) s new next plays n t events)
+      × ((t : Terminal) → Placed v.columns v.rows (m.lists s) t → RowsLastIn parts (Some v) s new next plays t events)
 
   -- after a script that the terminal didn't break off, on one that tells its state, the untouched rows and those of the lists are read
   abbrev pub ScriptsAreRead : Type 0

@@ -4,7 +4,7 @@ ghost use Rattle.indicatif_bar.specs.Styles.{BarStyle};
 ghost use Rattle.indicatif_bar.specs.CommandCases.{Fractions, Greatest, Rates, TwelveSteps, RateAndEta, Asks, ResetRates, Ends, ElapsedTimes, TabWidths, Finishes, Resets};
 ghost use Rattle.indicatif_bar.specs.StyleCases.{TrackersCases, WideBarCases, PercentCases, MessageCases, BarCases, TickCases, RateCases, LineCases, EmptyCases, FaultCases};
 ghost use Rattle.indicatif_bar.specs.ScriptCases.{Dragged, ScrolledAway, LogsCut, HiddenSize, Standing};
-ghost use Rattle.indicatif_bar.specs.Cases.{Lines, ShorterMessage, EmptyMessage, WideCharacter, NoColumn, Nowhere, LogsAbove, WideLog, Cleared, LateElapsed, BrokenOff, BrokenBytes, LimitedDraws};
+ghost use Rattle.indicatif_bar.specs.Cases.{Lines, ShorterMessage, EmptyMessage, WideCharacter, NoColumn, Nowhere, LogsAbove, WideLog, Cleared, LateElapsed, BrokenOff, BrokenBytes, EmptiedRow, LimitedDraws};
 
 /// The lines of messages.
 pub fn messages()
@@ -37,6 +37,7 @@ pub fn scripts()
 pub fn failures()
     ensures broken_off { BrokenOff }
     ensures broken_bytes { BrokenBytes }
+    ensures emptied_row { EmptiedRow }
 {}
 
 /// How often a limited bar is drawn.

@@ -57,17 +57,31 @@ impl Rate {
         Rate { steps, nanos }
     }
 
-    /// The whole steps of a second, at most 2^64 - 1.
-    pub(crate) fn steps_a_second(self) -> u64
-        requires { 0 < self.nanos }
+    /// The whole steps of a second, rounded down, at most 2^64 - 1; 0 where `nanos` is 0.
+    ///
+    /// ```
+    /// let rate = Rate {
+    ///     steps: 3,
+    ///     nanos: 2_000_000_000,
+    /// };
+    /// rate.steps_a_second() // 1
+    /// ```
+    pub fn steps_a_second(self) -> u64
         ensures { result ≡ steps_a_second self }
     {
+        if self.nanos == 0 {
+            return 0;
+        }
         let steps = u128::from(self.steps) * 1_000_000_000 / u128::from(self.nanos);
         steps.min(u128::from(u64::MAX)) as u64
     }
 
-    /// The nanoseconds that so many steps take, at most 2^64 - 1, and 0 where the rate is none.
-    pub(crate) fn time_for(self, left: u64) -> u64
+    /// The nanoseconds that so many steps take, rounded down, at most 2^64 - 1; 0 where the rate is none.
+    ///
+    /// ```
+    /// rate.time_for(6) // of three steps in two seconds: 4_000_000_000
+    /// ```
+    pub fn time_for(self, left: u64) -> u64
         ensures { result ≡ time_for self left }
     {
         if self.steps == 0 {
@@ -79,10 +93,16 @@ impl Rate {
 }
 
 /// So many steps were made by a moment.
+///
+/// ```
+/// let sample = Sample { steps: 3, moment: 2_000_000_000 }; // three in two seconds
+/// ```
 #[derive(Clone, Copy, Drop)]
 pub struct Sample {
-    steps: u64,
-    moment: Moment,
+    /// How many steps.
+    pub steps: u64,
+    /// The moment, in nanoseconds.
+    pub moment: Moment,
 }
 
 /// The two samples that a rate is read from: where its count began, and where it stands.

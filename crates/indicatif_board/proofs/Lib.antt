@@ -19,3 +19,5 @@ pub mod RunRecordLemmas
 pub mod SomeBoardLemmas
 pub mod LoneBoardLemmas
 pub mod PlainBoardLemmas
+pub mod HistoryLemmas
+pub mod WindowLemmas

@@ -16,7 +16,7 @@ use Rattle.indicatif_bar.specs.Kinds.{Writing, Frame, TextAndFrame, NoFrame}
 use Rattle.indicatif_bar.specs.Progress.{is_finished}
 use Rattle.indicatif_bar.specs.Trackers.{Tracking}
 use Rattle.indicatif_bar.specs.Commands.{BarRecord, Command, finish, after_drop}
-use Rattle.indicatif_bar.specs.PlainLaws.{ArePlainTrackers, IsPlainBar, IsPlainCommand}
+use Rattle.indicatif_bar.specs.PlainLaws.{IsPlainBar, IsPlainCommand}
 use Rattle.indicatif_bar.specs.declared.ask.Ask.{Ask}
 use Rattle.indicatif_bar.specs.declared.ask.Ask.TheVariants.{No, Forced}
 use Rattle.indicatif_bar.proofs.PlainTextLemmas.{plain_lines_are_asked}
@@ -168,13 +168,13 @@ module _ {B C : Type 0} (kind : BoardKind B C) (board_id : ℕ) (IsBar : B → T
 
 -- ---- bars with a style
 
-module _ {K : Type 0} (m : Tracking K) (trackers : ArePlainTrackers m) (board_id : ℕ) where
-  left_plainly : (now : ℕ) (bar : BarRecord K) → IsPlainBar bar → IsPlainBar (after_drop bar now).0
+module _ {K : Type 0} (m : Tracking K) (board_id : ℕ) where
+  left_plainly : (now : ℕ) (bar : BarRecord K) → IsPlainBar m bar → IsPlainBar m (after_drop bar now).0
   left_plainly now bar h =
-      cond_both {A = BarRecord K × Ask} (is_finished bar.progress) (bar, No) (finish bar.on_finish bar now) (λ o. IsPlainBar o.0) (λ _. h)
-      (λ _. finished_plain m trackers bar.on_finish bar now h.on_finish h)
+      cond_both {A = BarRecord K × Ask} (is_finished bar.progress) (bar, No) (finish bar.on_finish bar now) (λ o. IsPlainBar m o.0) (λ _. h)
+      (λ _. finished_plain m bar.on_finish bar now h.on_finish h)
 
-  call_asked : (call : Call (BarRecord K) (Command K)) → IsPlainCall call → IsCall (board_bars m) board_id IsPlainBar IsPlainCommand (bars_keep_plain m trackers) left_plainly call
+  call_asked : (call : Call (BarRecord K) (Command K)) → IsPlainCall m call → IsCall (board_bars m) board_id (IsPlainBar m) (IsPlainCommand m) (bars_keep_plain m) left_plainly call
   call_asked (Insert at (New bar)) c = c
   call_asked (Insert at (Old id)) c = tt
   call_asked (Remove id) c = tt
@@ -186,21 +186,21 @@ module _ {K : Type 0} (m : Tracking K) (trackers : ArePlainTrackers m) (board_id
   call_asked (Align bottom) c = tt
   call_asked (Tell id command) c = c
 
-  calls_asked : (calls : List (Call (BarRecord K) (Command K) × ℕ)) → AllByRecursion (λ call. IsPlainCall call.0) calls →
-      AllByRecursion (λ call. IsCall (board_bars m) board_id IsPlainBar IsPlainCommand (bars_keep_plain m trackers) left_plainly call.0) calls
+  calls_asked : (calls : List (Call (BarRecord K) (Command K) × ℕ)) → AllByRecursion (λ call. IsPlainCall m call.0) calls →
+      AllByRecursion (λ call. IsCall (board_bars m) board_id (IsPlainBar m) (IsPlainCommand m) (bars_keep_plain m) left_plainly call.0) calls
   calls_asked [] all = tt
   calls_asked (call ∷ calls) all = (call_asked call.0 all.0, calls_asked calls all.1)
 
-  members_asked : (ms : List (Member (BarRecord K))) → AllByRecursion IsPlainMember ms → AreMembers (board_bars m) board_id IsPlainBar IsPlainCommand (bars_keep_plain m trackers) left_plainly ms
+  members_asked : (ms : List (Member (BarRecord K))) → AllByRecursion (IsPlainMember m) ms → AreMembers (board_bars m) board_id (IsPlainBar m) (IsPlainCommand m) (bars_keep_plain m) left_plainly ms
   members_asked [] all = tt
   members_asked (x ∷ xs) all = ((all.0.bar, all.0.stored), members_asked xs all.1)
 
-  members_left : (ms : List (Member (BarRecord K))) → AreMembers (board_bars m) board_id IsPlainBar IsPlainCommand (bars_keep_plain m trackers) left_plainly ms → AllByRecursion IsPlainMember ms
+  members_left : (ms : List (Member (BarRecord K))) → AreMembers (board_bars m) board_id (IsPlainBar m) (IsPlainCommand m) (bars_keep_plain m) left_plainly ms → AllByRecursion (IsPlainMember m) ms
   members_left [] all = tt
   members_left (x ∷ xs) all = (record { bar = all.0.0; stored = all.0.1 }, members_left xs all.1)
 
 pub board_runs_are_plain : {K : Type 0} (m : Tracking K) → BoardRunsArePlain m
-board_runs_are_plain m trackers board_id calls answers old s new next run h all =
-    let r = board_plain (board_bars m) board_id IsPlainBar IsPlainCommand (bars_keep_plain m trackers) (left_plainly m trackers board_id) calls answers old s new next run
-    (members_asked m trackers board_id s.members (recursion_from_All IsPlainMember s.members h)) (calls_asked m trackers board_id calls (recursion_from_All (λ call. IsPlainCall call.0) calls all)) in
-    (r.0, All-from_recursion IsPlainMember next.members (members_left m trackers board_id next.members r.1))
+board_runs_are_plain m board_id calls answers old s new next run h all =
+    let r = board_plain (board_bars m) board_id (IsPlainBar m) (IsPlainCommand m) (bars_keep_plain m) (left_plainly m board_id) calls answers old s new next run
+    (members_asked m board_id s.members (recursion_from_All (IsPlainMember m) s.members h)) (calls_asked m board_id calls (recursion_from_All (λ call. IsPlainCall m call.0) calls all)) in
+    (r.0, All-from_recursion (IsPlainMember m) next.members (members_left m board_id next.members r.1))

@@ -3,3 +3,4 @@ pub mod Named
 pub mod Parting
 pub mod Standing
 pub mod Calls
+pub mod InWindow

@@ -13,6 +13,7 @@ pub mod OrderLaws
 pub mod LimitLaws
 pub mod LoneLaws
 pub mod Recorded
+pub mod HistoryLaws
 pub mod Bridge
 pub mod Inside
 pub mod PlainBoardLaws

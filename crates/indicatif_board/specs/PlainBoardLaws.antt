@@ -6,15 +6,15 @@ use Rattle.indicatif_bar.specs.Trackers.{Tracking}
 use Rattle.indicatif_bar.specs.StyleLaws.{IsPlainText}
 use Rattle.indicatif_bar.specs.Commands.{BarRecord, Command}
 use Rattle.indicatif_bar.specs.Runs.{Runs, AllPlain}
-use Rattle.indicatif_bar.specs.PlainLaws.{ArePlainTrackers, IsPlainBar, IsPlainCommand}
+use Rattle.indicatif_bar.specs.PlainLaws.{IsPlainBar, IsPlainCommand}
 use Rattle.indicatif_board.specs.Members.{Member}
 use Rattle.indicatif_board.specs.Boards.{BoardState, Entrant, New, Old, Call, Insert, Log, BarLog, Tell, Answer, board}
 use Rattle.indicatif_board.specs.BoardBars.{board_bars}
 
-module _ {K : Type 0} where
+module _ {K : Type 0} (m : Tracking K) where
   -- the texts of a bar that is to be taken in
   abbrev pub IsPlainEntrant : Entrant (BarRecord K) → Type 0
-  IsPlainEntrant (New bar) = IsPlainBar bar
+  IsPlainEntrant (New bar) = IsPlainBar m bar
   IsPlainEntrant (Old id) = Unit {0}
 
   -- those of a call of a board
@@ -22,13 +22,13 @@ module _ {K : Type 0} where
   IsPlainCall (Insert at entrant) = IsPlainEntrant entrant
   IsPlainCall (Log text) = All IsPlainText (logged_lines text)
   IsPlainCall (BarLog id text) = All IsPlainText (logged_lines text)
-  IsPlainCall (Tell id command) = IsPlainCommand command
+  IsPlainCall (Tell id command) = IsPlainCommand m command
   IsPlainCall _ = Unit {0}
 
   -- those of a bar on a board
-  pub record IsPlainMember (m : Member (BarRecord K)) : Type 0 where
-    pub bar : IsPlainBar m.bar
-    pub stored : IsTrue (are_plain m.stored)
+  pub record IsPlainMember (member : Member (BarRecord K)) : Type 0 where
+    pub bar : IsPlainBar m member.bar
+    pub stored : IsTrue (are_plain member.stored)
 
   -- those of a board between two calls
   abbrev pub IsPlainBoard : BoardState (BarRecord K) → Type 0
@@ -37,8 +37,7 @@ module _ {K : Type 0} where
 -- where all these texts are plain, so is every run, and the headline holds of it; and the board's texts are plain at its end, so that
 -- what comes after it is plain too
 abbrev pub BoardRunsArePlain : {K : Type 0} → Tracking K → Type 0
-BoardRunsArePlain {K} m = ArePlainTrackers m →
-    (board_id : ℕ) (calls : List (Call (BarRecord K) (Command K) × ℕ)) (answers : List Answer) (old : Option TermView)
+BoardRunsArePlain {K} m = (board_id : ℕ) (calls : List (Call (BarRecord K) (Command K) × ℕ)) (answers : List Answer) (old : Option TermView)
     (s : BoardState (BarRecord K)) (new : Option TermView) (next : BoardState (BarRecord K))
     (run : Runs (board (board_bars m) board_id) calls answers old s new next) →
-    IsPlainBoard s → All (λ call. IsPlainCall call.0) calls → AllPlain (board (board_bars m) board_id) calls answers old s new next run × IsPlainBoard next
+    IsPlainBoard m s → All (λ call. IsPlainCall m call.0) calls → AllPlain (board (board_bars m) board_id) calls answers old s new next run × IsPlainBoard m next

@@ -1,10 +1,13 @@
 -- A board with its calls and answers: what they are as definitions, and what a call adds to them.
-use Rattle.std.specs.Prelude.{◌≡◌, ℕ, true, false, List, [], ◌∷◌, ◌++◌, Option, Some, None, if◌then◌else◌}
-use Rattle.indicatif_term.specs.Calls.{TermView}
+use Rattle.std.specs.Prelude.{◌≡◌, ℕ, true, false, List, [], ◌∷◌, ◌++◌, map, Option, Some, None, if◌then◌else◌}
+use Rattle.std.specs.declared.io.ErrorKind.{ErrorKind}
+use Rattle.std.specs.declared.io.ErrorKind.TheVariants.{Other}
+use Rattle.indicatif_term.specs.Calls.{TermView, Nothing}
 use Rattle.indicatif_term.specs.Limiters.{Limiter}
 use Rattle.indicatif_bar.specs.Trackers.{Tracking}
 use Rattle.indicatif_bar.specs.Commands.{BarRecord, Command}
-use Rattle.indicatif_bar.specs.Machines.{Target, target_of, Machine, Leads}
+use Rattle.indicatif_bar.specs.Machines.{Target, target_of}
+use Rattle.indicatif_bar.specs.Runs.{Runs}
 use Rattle.indicatif_board.specs.BoardBars.{board_bars}
 use Rattle.indicatif_board.specs.Boards.{BoardState, Call, Insert, Remove, New, Answer, Done, Refused, opening_board, board}
 use Rattle.indicatif_board.specs.Members.{Member, is_member, said_of}
@@ -16,17 +19,18 @@ use Rattle.indicatif_board.specs.declared.recorded.Entry.{Entry}
 
 -- ---- steps
 
--- a call at a moment, the target that it was made on, and its answer
+-- a call at a moment, and its answer
 pub record CallStep (C A : Type 0) : Type 0 where
-  pub target : Target
   pub call : C
   pub now : ℕ
   pub answer : A
 
--- from one state to another by steps, each on its own target: each call at its moment led on, with its answer
-abbrev pub Replays : {State C A : Type 0} → Machine State C A → State → List (CallStep C A) → State → Type 0
-Replays m s [] next = next ≡ s
-Replays {State} m s (e ∷ es) next = (x : State) × Leads m e.target s (m.deed e.target e.call e.now s) e.answer x × Replays m x es next
+-- the calls of steps with their moments, and their answers
+abbrev pub calls_of : {C A : Type 0} → List (CallStep C A) → List (C × ℕ)
+calls_of = map (λ e. (e.call, e.now))
+
+abbrev pub answers_of : {C A : Type 0} → List (CallStep C A) → List A
+answers_of = map (λ e. e.answer)
 
 -- ---- what is stored
 
@@ -41,7 +45,7 @@ BoardStep K = CallStep (Call (BarRecord K) (Command K)) Answer
 
 -- an entry, as its definition
 abbrev pub step_of : {K : Type 0} → Entry K → BoardStep K
-step_of e = record { target = target_by e.size; call = call_of e.call; now = e.now; answer = answer_of e.answer }
+step_of e = record { call = call_of e.call; now = e.now; answer = answer_of e.answer }
 
 -- a board, the id, the limiter and the target that it began with, and the steps that it has made since
 pub record Record (K T : Type 0) : Type 0 where
@@ -51,18 +55,32 @@ pub record Record (K T : Type 0) : Type 0 where
   pub board : Board K T
   pub steps : List (BoardStep K)
 
+-- a terminal of this size that tells nothing, with so many faults, the last of this kind; none where the target is hidden
+abbrev pub untold : Target → ℕ → ErrorKind → Option TermView
+untold target faults kind =
+    if target.hidden then None else Some (record { told = Nothing; columns = target.columns; rows = target.rows; faults = faults; kind = kind })
+
 module _ {K T : Type 0} where
-  -- the steps are those of one run from the opening on, and the board is where that run ends
+  -- the steps are a run from the opening on, all on a target of the opening's size, and the board is where that run ends; this was
+  -- known of the target when it began, and this is in the end
+  pub record IsRun (m : Tracking K) (opened : Option TermView) (r : Record K T) (last : Option TermView) : Type 0 where
+    pub size : target_of opened ≡ r.target
+    pub state : BoardState (BarRecord K)
+    pub holds : IsIn r.board_id r.board state
+    pub runs : Runs (board (board_bars m) r.board_id) (calls_of r.steps) (answers_of r.steps) opened (opening_board r.limiter) last state
+
+  -- they are one run, whatever the terminal tells: what is claimed of a terminal of this size that tells nothing holds of it
   abbrev pub IsOneRun : Tracking K → Record K T → Type 0
-  IsOneRun m r =
-      (s : BoardState (BarRecord K)) × Replays (board (board_bars m) r.board_id) (opening_board r.limiter) r.steps s × IsIn r.board_id r.board s
+  IsOneRun m r = (faults : ℕ) × (kind : ErrorKind) × IsRun m (untold r.target 0 Other) r (untold r.target faults kind)
 
   -- the board made this call, with this answer, and exactly that was added
   pub record AddsCall (m : Tracking K) (view : T → TermView) (old : Record K T) (call : Call (BarRecord K) (Command K)) (now : ℕ) (answer : Answer) (new : Record K T) : Type 0 where
     pub board_id : new.board_id ≡ old.board_id
     pub limiter : new.limiter ≡ old.limiter
     pub target : new.target ≡ old.target
-    pub steps : new.steps ≡ old.steps ++ record { target = target_of (known view old.board); call = call; now = now; answer = answer } ∷ []
+    -- the terminal had the opening's size
+    pub size : target_of (known view old.board) ≡ old.target
+    pub steps : new.steps ≡ old.steps ++ record { call = call; now = now; answer = answer } ∷ []
     pub leads : LeadsBy m view old.board new.board call now answer
     -- what it made of the slots and the records, as of a board without its history
     pub slots : SlotsChange call answer old.board new.board

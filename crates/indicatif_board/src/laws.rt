@@ -13,6 +13,7 @@ ghost use Rattle.indicatif_board.specs.BoardBars.{board_bars};
 ghost use Rattle.indicatif_board.specs.Multi.{board_sizing};
 ghost use Rattle.indicatif_board.specs.Done.{account_of_both, own_half, given_half};
 ghost use Rattle.indicatif_board.specs.declared.done.Account.{Account};
+ghost use Rattle.indicatif_board.specs.HistoryLaws.{AboveOnlyGrows, FollowsFromItsCalls, HasBoundedDraws, LoggedRowsStand, IsReadAsItsRun};
 ghost use Rattle.indicatif_board.specs.LimitLaws.{IsAllowed};
 ghost use Rattle.indicatif_board.specs.LoneLaws.{OneIsTakenIn, LoneRunsAreBoardRuns};
 ghost use Rattle.indicatif_board.specs.PlainBoardLaws.{BoardRunsArePlain};
@@ -36,7 +37,7 @@ pub fn what_a_run_leaves<B, C>()
 {}
 
 /// Rows that were logged, or drawn above the bars, by any call of a board's run stand from its exit to the run's end, after each
-/// byte, whichever of the run's calls the terminal breaks off.
+/// byte, whichever of the run's calls the terminal breaks off, before that call or after it.
 pub fn what_lasts_throughout<B, C>()
     ensures { (kind : BoardKind B C) (board_id : ℕ) → RowsAboveLast (board kind board_id) }
 {}
@@ -73,6 +74,22 @@ pub fn plain_texts_give_plain_runs<K: Tracks>()
 /// state follow from its calls alone.
 pub fn one_outcome<B, C>()
     ensures { (kind : BoardKind B C) (board_id : ℕ) → OneOutcome (board kind board_id) }
+{}
+
+/// Rows above are only added by a board's run of which the terminal broke no call off, whatever its texts are.
+pub fn rows_above_are_only_added<B, C>()
+    ensures { (kind : BoardKind B C) (board_id : ℕ) → AboveOnlyGrows (board kind board_id) }
+{}
+
+/// What the history of a board says of it (`Recorded`), also of one that threads share. It is one run from the opening on, so where
+/// nothing failed and no memory was refused the answers follow from the calls alone. A board that began with a rate's limiter made at
+/// most 20 unforced draws, and one more for each interval. A text that an entry logged, answered `Yes`, has its rows above, unless the
+/// terminal broke a later call off. And on a terminal that tells its state the picture is that of the run.
+pub fn what_a_history_says<K: Tracks, T>()
+    ensures answers { FollowsFromItsCalls T K.means }
+    ensures bounded { HasBoundedDraws T K.means }
+    ensures logged { LoggedRowsStand T K.means }
+    ensures read { IsReadAsItsRun T K.means }
 {}
 
 /// When a call of a board gives which answer.

@@ -16,6 +16,7 @@ mod call_copies;
 mod calls;
 pub mod cases;
 pub mod done;
+mod in_window;
 pub mod laws;
 mod members;
 pub mod multi;

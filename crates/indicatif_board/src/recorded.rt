@@ -1,13 +1,13 @@
 //! A board with its history.
-ghost use Rattle.std.specs.Prelude.{◌≡◌, ◌⊎◌, ℕ, Option, [], map, option_map, IfErr};
-ghost use Rattle.indicatif_term.specs.Limiters.{Limiter};
+ghost use Rattle.std.specs.Prelude.{◌≡◌, ◌⊎◌, ℕ, Option, IsTrue, [], map, option_map};
+ghost use Rattle.indicatif_term.specs.Calls.{TermView};
 ghost use Rattle.indicatif_term.specs.DrawTargets.{term_of, limiter_of};
 ghost use Rattle.indicatif_bar.specs.Commands.{BarRecord};
 ghost use Rattle.indicatif_bar.specs.Machines.{target_of};
 ghost use Rattle.indicatif_board.specs.Boards.{BoardState, Refused};
 ghost use Rattle.indicatif_board.specs.Calls.{call_of, answer_of};
 ghost use Rattle.indicatif_board.specs.Multi.{IsIn, known, terminal_of};
-ghost use Rattle.indicatif_board.specs.Recorded.{IsOneRun, AddsCall, target_by, step_of, handed_back};
+ghost use Rattle.indicatif_board.specs.Recorded.{IsOneRun, IsRun, AddsCall, target_by, step_of, handed_back};
 ghost use Rattle.indicatif_board.specs.declared.calls.Answer.{Answer};
 ghost use Rattle.indicatif_text.specs.declared.refusal.Refusal.{Refusal};
 
@@ -24,8 +24,8 @@ use std::marker::Model;
 /// How large a terminal is.
 ///
 /// ```
-/// let drawn = record.apply(Call::Clear, 5); // on a terminal of 4 rows and 10 columns
-/// assert_eq!(record.entries()[0].size, Some(Size { columns: 10, rows: 4 }));
+/// let record: Recorded<NoTracker, _> = Recorded::new(alloc, target, 7); // on a terminal of 4 rows and 10 columns
+/// assert_eq!(record.opening().size, Some(Size { columns: 10, rows: 4 }));
 /// ```
 #[derive(Clone, Copy, Debug, Drop, PartialEq, Eq)]
 pub struct Size {
@@ -50,8 +50,6 @@ pub struct Entry<K> {
     pub now: Moment,
     /// What was answered.
     pub answer: Answer,
-    /// How large the terminal was; `None` where the target is hidden.
-    pub size: Option<Size>,
 }
 
 /// What a board began with, its terminal apart. With it a history without calls tells what its calls would be made on.
@@ -67,12 +65,12 @@ pub struct Opening {
     pub board_id: u64,
     /// How often it may be drawn, as the target came; `None` where that has no limit, or is hidden.
     pub limiter: Option<RateLimiter>,
-    /// How large the terminal was; `None` where the target is hidden. Each entry tells its own size.
+    /// How large the terminal is, from then on; `None` where the target is hidden.
     pub size: Option<Size>,
 }
 
 /// A board that keeps what it was asked and what it answered. The calls and answers that it has kept are always those of one run
-/// from its opening on, and the board is where that run ends: so they are also where it is kept in a lock.
+/// from its opening on, on a target of one size, and the board is where that run ends: so they are also where it is kept in a lock.
 ///
 /// It grows with each call. Its calls are those of `Board`, as values.
 ///
@@ -119,6 +117,7 @@ impl<K: Tracks, T: TermLike + Drop> Recorded<K, T> {
         ensures target { result.target ≡ target_of (option_map T.view (term_of target)) }
         ensures steps { result.steps ≡ [] }
         ensures terminal { terminal_of result.board ≡ term_of target }
+        ensures run { IsRun K.means (option_map T.view (term_of target)) result (known T.view result.board) }
     {
         let (target, limiter) = with_limiter(target);
         let board = Board::new(alloc, target, board_id);
@@ -139,26 +138,29 @@ impl<K: Tracks, T: TermLike + Drop> Recorded<K, T> {
     /// new one that was turned away.
     ///
     /// Refused: what the call is refused; and `Memory` where the history finds no room: then the call isn't made, nothing has
-    /// changed and nothing is kept.
+    /// changed and nothing is kept. So it would be where the terminal has another size than at the opening. None has whose calls meet
+    /// `TermLike`, since a board with its history is never given another size.
     pub fn apply(&mut self, call: Call<K>, now: Moment) -> (Answer, Option<BarState<K>>)
         ensures grows { AddsCall K.means T.view self.old (call_of call) now (answer_of result.0) self.new
             ⊎ ((self.new ≡ self.old) × (result.0 ≡ Answer.Refused Refusal.Memory)) }
         ensures back { (s : BoardState (BarRecord K)) (other : BarRecord K) → IsIn self.old.board_id self.old.board s →
             result.1 ≡ handed_back (call_of call) (answer_of result.0) other s.members }
+        ensures goes_on { (opened : Option TermView) → IsRun K.means opened self.old (known T.view self.old.board) → IsRun K.means opened self.new (known T.view self.new.board) }
     {
+        if !is_as_large(size_of(&self.board), self.opening.size) {
+            return (Answer::Refused(Refusal::Memory), returned_bar(call));
+        }
         let Ok(copy) = call.try_clone(self.alloc) else {
             return (Answer::Refused(Refusal::Memory), returned_bar(call));
         };
         if self.entries.reserve(1).is_err() {
             return (Answer::Refused(Refusal::Memory), returned_bar(call));
         }
-        let size = size_of(&self.board);
         let (answer, bar) = self.board.apply(call, now);
         self.entries.push_reserved(Entry {
             call: copy,
             now,
             answer: answer.same(),
-            size,
         });
         (answer, bar)
     }
@@ -219,6 +221,17 @@ fn size_of<K: Tracks, T: TermLike + Drop>(board: &Board<K, T>) -> Option<Size>
             rows: term.height(),
         }),
         None => None,
+    }
+}
+
+/// Whether two terminals are as large, or both targets are hidden.
+fn is_as_large(one: Option<Size>, other: Option<Size>) -> bool
+    ensures { IsTrue result → one ≡ other }
+{
+    match (one, other) {
+        (None, None) => true,
+        (Some(one), Some(other)) => one == other,
+        (None, Some(_)) | (Some(_), None) => false,
     }
 }
 

@@ -17,9 +17,10 @@ ghost use Rattle.indicatif_board.specs.Members.{place_of, without, is_head, said
 ghost use Rattle.indicatif_board.specs.Slots.{LeavesHead, next_slot, seated, slot_of, unseated};
 ghost use Rattle.indicatif_board.specs.Inside.Named.{HasPlace, named_laid_out, named_layout_takes};
 
+use crate::in_window::put_in_window;
 use crate::members::{Seated, leading, queue_at, take_at, take_front};
 use crate::slots::MultiState;
-use indicatif_bar::stage::{Stage, Writing, put};
+use indicatif_bar::stage::{Stage, Writing};
 use indicatif_bar::state::{Ask, BarState, SpareLines};
 use indicatif_bar::style::Tracks;
 use indicatif_term::draw_target::{Engine, LineType, MultiProgressAlignment, Segment};
@@ -252,7 +253,7 @@ impl<K: Tracks> ShownBars<K> {
     {
         let gone = leading(&self.members);
         let frame = self.frame.make_contiguous();
-        put(engine, frame, gone, self.alignment, writing)?;
+        put_in_window(engine, frame, gone, self.alignment, writing)?;
         take_front(&mut self.frame, gone);
         take_front(&mut self.members, gone);
         self.table.remove_first(gone);

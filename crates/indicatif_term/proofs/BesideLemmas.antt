@@ -4,11 +4,15 @@ use Rattle.std.specs.Prelude.{IsTrue, IsFalse, string_bytes, slice_set}
 use Rattle.std.specs.List.{AllByRecursion}
 use Rattle.std.proofs.lemmas.Bool.{or_parts}
 use Rattle.std.proofs.lemmas.List.{take_more, drop-set, take_more_set, map-append, take-append-le, take_all, drop-map, drop-drop, drop_at, take_at, take-map}
+use Rattle.std.proofs.lemmas.Str.{chars-nil}
 use Rattle.std.proofs.Math.Seq.{map-set_same}
-use Rattle.indicatif_text.specs.Columns.{has_wide, rows_of, last_columns}
+use Rattle.indicatif_text.specs.Columns.{Cell, has_wide, rows_of, last_columns}
 use Rattle.indicatif_term.specs.Shows.{look, looks_of}
-use Rattle.indicatif_term.specs.Inside.Skips.{placed_height, Sits, AreSitting}
-use Rattle.indicatif_term.specs.Standing.{placed_of, placed, texts, standing_rows, IsLine, AreLines}
+use Rattle.indicatif_term.specs.Inside.Changes.{placed_height, Becomes, Ends, Sits, AreSitting}
+use Rattle.indicatif_term.specs.Inside.Edits.{AreSingle}
+use Rattle.indicatif_term.specs.Inside.Parting.{change_of, waits_of, whole_or_left, IsReady}
+use Rattle.indicatif_term.specs.declared.parting.Step.{Step}
+use Rattle.indicatif_term.specs.Standing.{placed_of, placed, texts, standing_rows, IsLine, AreLines, AreReady}
 use Rattle.indicatif_term.specs.Inside.Places.{IsAt, IsThere, AreNoted}
 use Rattle.indicatif_term.specs.Inside.Layouts.{IsSized, IsLike, AreLike, HasLines}
 use Rattle.indicatif_term.specs.Frames.{line_text}
@@ -20,7 +24,7 @@ use Rattle.indicatif_term.specs.declared.beside.SizedLine.{SizedLine}
 use Rattle.indicatif_term.proofs.MeasureLemmas.{empty_narrow}
 use Rattle.indicatif_term.proofs.LineEndLemmas.{one_row, nothing_ends_at}
 use Rattle.indicatif_term.proofs.RememberedLemmas.{drop_more, there_at}
-use Rattle.indicatif_term.proofs.SkipLemmas.{height-append, sitting_both}
+use Rattle.indicatif_term.proofs.EditWalkLemmas.{height-append, sitting_both}
 
 -- ---- each of some lines
 
@@ -42,6 +46,14 @@ pub all_at : (P : StandingLine → Type 0) (xs : List StandingLine) (i : ℕ) (x
 all_at P [] i x h e p = absurd (omega arith)
 all_at P (y ∷ xs) zero x h e p = subst P e p.0
 all_at P (y ∷ xs) (suc i) x h e p = all_at P xs i x (omega arith) e p.1
+
+pub ready_at : (xs : List StandingLine) (i : ℕ) (x : StandingLine) → i < length xs → get_or xs i x ≡ x → AreReady xs → IsReady x.step (string_bytes x.before) (string_bytes x.text)
+ready_at xs i x h e r = all_at (λ l. IsReady l.step (string_bytes l.before) (string_bytes l.text)) xs i x h e r
+
+pub ready_take : (xs : List StandingLine) (n : ℕ) → AreReady xs → AreReady (take n xs)
+ready_take xs zero r = tt
+ready_take [] (suc n) r = tt
+ready_take (x ∷ xs) (suc n) r = (r.0, ready_take xs n r.1)
 
 -- ---- the same line
 
@@ -72,13 +84,14 @@ there_by_index w ls at start y h small r n like line is =
 
 -- its size is that of the line of that index
 pub sized_at : (w : ℕ) (on : List StandingLine) (i : ℕ) (x : StandingLine) (text : List ℕ) (l : SizedLine) → AreLines w on → i < length on → get_or on i x ≡ x → string_bytes x.text ≡ text →
-    l.rows ≡ x.rows → l.last ≡ x.last → l.like ≡ Some i → IsSized w (chars text) l × IsLike on text l.like
-sized_at w on i x text l all h e t r c n =
+    l.rows ≡ x.rows → l.last ≡ x.last → l.narrow ≡ x.narrow → l.like ≡ Some i → IsSized w (chars text) l × IsLike on text l.like
+sized_at w on i x text l all h e t r c a n =
     let line = all_at (IsLine w) on i x h e all in (
       record {
         rows_are = r ∙ line.rows_are ∙ ap (λ y. length (rows_of w (chars y))) t;
         last_is = c ∙ line.last_is ∙ ap (λ y. last_columns w (chars y)) t;
         narrow = ap (λ y. has_wide w (chars y)) (sym t) ∙ line.narrow;
+        single = λ q. subst (λ y. AreSingle (chars y)) t (line.single (sym a ∙ q));
       },
       subst (IsLike on text) (sym n) (like_at on i x text h e t),
     )
@@ -146,6 +159,7 @@ blank_is_line w x t r l = record {
   rows_are = r ∙ sym (one_row w) ∙ ap (λ y. length (rows_of w (chars y))) (sym t);
   last_is = l ∙ sym (nothing_ends_at w) ∙ ap (λ y. last_columns w (chars y)) (sym t);
   narrow = ap (λ y. has_wide w (chars y)) t ∙ nothing_narrow w;
+  single = λ q. subst AreSingle (sym (ap chars t ∙ chars-nil)) tt;
 }
 
 -- blank lines behind some
@@ -180,14 +194,34 @@ turned items xs blanks n k e b len =
 -- ---- lines that are noted
 
 -- a line noted anew is the same line
-pub noted_line : (w : ℕ) (x : StandingLine) (b : Bool) → IsLine w x → IsLine w (record x { stays = b })
-noted_line w x b l = record { rows_are = l.rows_are; last_is = l.last_is; narrow = l.narrow }
+pub noted_line : (w : ℕ) (x : StandingLine) (s : Step) → IsLine w x → IsLine w (record x { step = s })
+noted_line w x s l = record { rows_are = l.rows_are; last_is = l.last_is; narrow = l.narrow; single = l.single }
+
+noted_becomes : (w : ℕ) (b : Bool) (old line : List ℕ) (stood : List (List Cell)) → (IsTrue b → stood ≡ looks_of (rows_of w (chars line))) →
+    Becomes w (change_of (whole_or_left b) old line) stood line
+noted_becomes w true old line stood e = e refl
+noted_becomes w false old line stood e = tt
+
+noted_waits : (w : ℕ) (b : Bool) (old line : List ℕ) → IsTrue (waits_of (whole_or_left b)) → Ends w (change_of (whole_or_left b) old line) line
+noted_waits w true old line e = absurd (cc)
+noted_waits w false old line e = absurd (cc)
+
+-- such lines can be written
+noted_ready : (b : Bool) (old line : List ℕ) → IsReady (whole_or_left b) old line
+noted_ready true old line = tt
+noted_ready false old line = tt
+
+pub one_ready : (ys : List StandingLine) (i : ℕ) (x : StandingLine) (b : Bool) → i < length ys → AreReady (take i ys) → AreReady (take (i + 1) (slice_set ys i (record x { step = whole_or_left b })))
+one_ready ys i x b h r =
+    let y = record x { step = whole_or_left b } in
+    subst AreReady (sym (take_more_set ys i y h))
+    (all_append (λ l. IsReady l.step (string_bytes l.before) (string_bytes l.text)) (take i ys) (y ∷ []) r (noted_ready b (string_bytes x.before) (string_bytes x.text), tt))
 
 module _ (w : ℕ) (on : List StandingLine) (skipped : ℕ) (ys : List StandingLine) (i start : ℕ) (x : StandingLine) (b : Bool) (before at : Place)
     (h : i < length ys) (e : get_or ys i x ≡ x) (m : AreNoted w on skipped (take i ys) start before) (is : IsAt w on at) (line : IsLine w x)
     (there : IsTrue b → IsThere w on start x) where
   abbrev y : StandingLine
-  y = record x { stays = b }
+  y = record x { step = whole_or_left b }
 
   pub one_noted : (start' : ℕ) → start' ≡ min (start + x.rows) (2 ^ 64 - 1) → AreNoted w on skipped (take (i + 1) (slice_set ys i y)) start' at
   one_noted start' s =
@@ -196,11 +230,12 @@ module _ (w : ℕ) (on : List StandingLine) (skipped : ℕ) (ys : List StandingL
       let one : Sits w (drop (placed_height ps) (looks_of (drop skipped rows))) (placed_of y) = record {
         rows_are = line.rows_are;
         last_is = line.last_is;
-        same = λ stays.
+        becomes = noted_becomes w b (string_bytes x.before) (string_bytes x.text) (take x.rows (drop (placed_height ps) (looks_of (drop skipped rows)))) (λ stays.
             let c = there stays in
             let exact : start ≡ skipped + placed_height ps = m.start_is c.0 in
             ap (take x.rows) (drop-map (map look) (placed_height ps) (drop skipped rows) ∙ ap looks_of (drop-drop (placed_height ps) skipped rows ∙ ap (λ n. drop n rows) (sym exact)))
-            ∙ take-map (map look) x.rows (drop start rows) ∙ ap looks_of c.1;
+            ∙ take-map (map look) x.rows (drop start rows) ∙ ap looks_of c.1);
+        waiting = noted_waits w b (string_bytes x.before) (string_bytes x.text);
       } in
       let more : take (i + 1) (slice_set ys i y) ≡ take i ys ++ y ∷ [] = take_more_set ys i y h in
       let split : placed (take (i + 1) (slice_set ys i y)) ≡ ps ++ placed_of y ∷ [] = ap placed more ∙ map-append placed_of (take i ys) (y ∷ []) in
@@ -229,8 +264,8 @@ pub none_noted : (w : ℕ) (on : List StandingLine) (skipped : ℕ) → AreNoted
 none_noted w on skipped = record { sits = tt; is_at = λ small. refl; start_is = λ small. omega arith }
 
 -- the texts, and what follows, stay
-pub texts_noted : (ys : List StandingLine) (i : ℕ) (x : StandingLine) (b : Bool) → get_or ys i x ≡ x → texts (slice_set ys i (record x { stays = b })) ≡ texts ys
-texts_noted ys i x b e = map-set_same (λ (l : StandingLine). string_bytes l.text) ys i (record x { stays = b }) x (ap (λ (l : StandingLine). string_bytes l.text) (sym e))
+pub texts_noted : (ys : List StandingLine) (i : ℕ) (x : StandingLine) (s : Step) → get_or ys i x ≡ x → texts (slice_set ys i (record x { step = s })) ≡ texts ys
+texts_noted ys i x s e = map-set_same (λ (l : StandingLine). string_bytes l.text) ys i (record x { step = s }) x (ap (λ (l : StandingLine). string_bytes l.text) (sym e))
 
 -- what follows a line is not noted yet
 pub rest_noted : (ys xs : List StandingLine) (i : ℕ) (y : StandingLine) → i < length ys → drop i ys ≡ drop i xs → drop (i + 1) (slice_set ys i y) ≡ drop (i + 1) xs

@@ -6,7 +6,7 @@ use Rattle.std.proofs.lemmas.List.{take_more, map-append, take_at, take-append-d
 use Rattle.indicatif_text.specs.Columns.{Cell, rows_of}
 use Rattle.indicatif_term.specs.Lists.{Lists, live_rows, all_rows}
 use Rattle.indicatif_term.specs.Counts.{CountsOf}
-use Rattle.indicatif_term.specs.Inside.Skips.{placed_height}
+use Rattle.indicatif_term.specs.Inside.Changes.{placed_height}
 use Rattle.indicatif_term.specs.Standing.{placed, texts, standing_rows, IsLine, AreLines}
 use Rattle.indicatif_term.specs.Remembered.{AreRemembered, known_lines}
 use Rattle.indicatif_term.specs.declared.counts.Counts.{Counts}

@@ -1,12 +1,13 @@
 -- The lines that lines become where their rows are cut anew: their rows are those that the rows of the lines become.
 use Rattle.std.proofs.Common.{◌≡◌, ℕ, ◌+◌, ◌<◌, ◌≤◌, true, IsFalse, List, [], ◌∷◌, ◌++◌, map, filter, length, take, drop, refl, sym, ◌∙◌, ap, subst, arith, append_assoc, append-nil, chars}
-use Rattle.std.specs.Prelude.{flat_map, string_bytes}
+use Rattle.std.specs.Prelude.{IsTrue, flat_map, string_bytes}
 use Rattle.std.specs.List.{AllByRecursion, list_all}
 use Rattle.std.proofs.lemmas.List.{map-append, length-map, drop-drop, length-drop, nil_from_length}
 use Rattle.std.proofs.lemmas.List.Concat.{flat_map-append}
 use Rattle.indicatif_text.specs.Columns.{Cell, Glyph, columns_in, glyphs_of, pieces_of, row_of, rows_of, visible, has_wide, last_columns, columns_of_last}
 use Rattle.indicatif_term.specs.Resizes.{has_place, recut, recut_all}
 use Rattle.indicatif_term.specs.Standing.{texts, standing_rows, AreLines}
+use Rattle.indicatif_term.specs.Inside.Edits.{AreSingle}
 use Rattle.indicatif_term.specs.Inside.Recutting.{piece_text, without_spaces, fitting_count, new_pieces, cut_pieces, cut_line, cut_lines, LineShown, shown_lines, row_line, HasMore}
 use Rattle.indicatif_term.specs.declared.remembered.StandingLine.{StandingLine}
 use Rattle.indicatif_term.specs.declared.recutting.CutLines.{CutLines}
@@ -36,12 +37,14 @@ pub record IsShownRight (w : ℕ) (s : LineShown) : Type 0 where
   pub rows_are : s.rows ≡ length (rows_of w s.text)
   pub last_is : s.last ≡ last_columns w s.text
   pub narrow : IsFalse (has_wide w s.text)
+  pub single : IsTrue s.narrow → AreSingle s.text
 
 own_right : (w : ℕ) (gs : List Glyph) → IsCut w gs → IsShownRight w (row_line gs)
 own_right w gs c = record {
   rows_are = sym (ap length (own_row w gs c));
   last_is = sym (own_last w gs c);
   narrow = piece_narrow w gs c.read c.narrow;
+  single = λ e. absurd (cc);
 }
 
 -- ---- the pieces of a row
@@ -145,7 +148,7 @@ shown_standing w (l ∷ ls) = ap (λ xs. rows_of w (chars (string_bytes l.text))
 
 shown_right : (w : ℕ) (ls : List StandingLine) → AllByRecursion (IsShownRight w) (shown_lines ls) → AreLines w ls
 shown_right w [] all = tt
-shown_right w (l ∷ ls) all = (record { rows_are = all.0.rows_are; last_is = all.0.last_is; narrow = all.0.narrow }, shown_right w ls all.1)
+shown_right w (l ∷ ls) all = (record { rows_are = all.0.rows_are; last_is = all.0.last_is; narrow = all.0.narrow; single = all.0.single }, shown_right w ls all.1)
 
 -- the lines that lines become
 module _ (w w' : ℕ) (ls ls' : List StandingLine) (e : shown_lines ls' ≡ lines_of_pieces (cut_lines w w' (texts ls))) where

@@ -1,51 +1,57 @@
--- A line that ends with a character of one column shows the same where that character is written again alone.
-use Rattle.std.proofs.Common.{◌≡◌, ℕ, zero, suc, ◌+◌, ◌-◌, ◌<◌, ◌≤◌, Bool, true, false, List, [], ◌∷◌, ◌++◌, length, take, drop, replicate, map, get_or, refl, sym, ◌∙◌, ap, subst, arith, length-append, append-nil, chars, Some, None, cond, eqb, inl, inr}
-use Rattle.std.specs.Prelude.{flat_map, nat_le, not, slice_index, ◌==◌, ◌&&◌, ◌||◌, is_some}
+-- The cell in the last column of a line's last row: written again alone it shows the same, where it is free or plain ASCII.
+use Rattle.std.proofs.Common.{◌≡◌, ℕ, zero, suc, ◌+◌, ◌-◌, ◌<◌, ◌≤◌, Bool, true, false, List, [], ◌∷◌, ◌++◌, length, take, drop, replicate, map, get_or, refl, sym, ◌∙◌, ap, subst, arith, length-append, append_assoc, append-nil, chars}
+use Rattle.std.specs.Prelude.{flat_map, nat_le, not, slice_index, ◌==◌}
 use Rattle.std.specs.List.{AllByRecursion, list_any}
 use Rattle.std.specs.Str.{IsUtf8}
 use Rattle.std.specs.Int.{is_in_range}
-use Rattle.std.proofs.Math.Utf8.{low_scalar, encode, encodes}
-use Rattle.std.proofs.lemmas.List.{get_or_at, take_at, drop_at, map-append}
-use Rattle.std.proofs.lemmas.List.Folds.{list_any-append}
-use Rattle.std.proofs.lemmas.Bool.{cases_Bool, cond_both, and_parts, or_parts, leb-true}
-use Rattle.std.proofs.lemmas.List.Elements.{All-from_recursion}
-use Rattle.std.proofs.lemmas.Bool.Decides.{nat_tests}
-use Rattle.std.proofs.lemmas.Str.{encode_ascii, encodes-chars, chars-append, chars-IsAscii, IsUtf8-take, IsCharBoundary-before_ascii}
-use Rattle.unicode_width.specs.Width.{char_width}
-use Rattle.indicatif_text.specs.Columns.{Cell, Blank, Written, Continued, Glyph, width_of, glyph_width, glyph_cells, columns_in, visible, glyphs_of, colour_length, pieces_after, pieces_of, row_of, rows_of, is_plain, has_wide, last_columns, columns_of_last}
+use Rattle.std.proofs.Math.Utf8.{low_scalar, encode}
+use Rattle.std.proofs.lemmas.List.{get_or_at, take_at, drop_at, map-append, length-replicate, replicate-append-replicate}
+use Rattle.std.proofs.lemmas.Bool.{cond_both, and_parts, leb-true}
+use Rattle.std.proofs.lemmas.Str.{encode_ascii, chars-append, chars-IsAscii, IsUtf8-take, IsCharBoundary-before_ascii}
+use Rattle.indicatif_text.specs.Columns.{Cell, Blank, Continued, Glyph, width_of, glyph_width, glyph_cells, columns_in, visible, glyphs_of, pieces_after, pieces_of, row_of, rows_of, is_plain, has_wide, last_columns, columns_of_last}
 use Rattle.indicatif_text.specs.Inside.Runs.{IsPrintable}
+use Rattle.indicatif_text.proofs.ColourSequenceLemmas.{visible_none}
 use Rattle.indicatif_text.proofs.WidthLemmas.{plain_width}
-use Rattle.indicatif_text.proofs.PieceLawLemmas.{visible_past}
 use Rattle.indicatif_text.proofs.WrappingLemmas.{pieces_some, last_more}
-use Rattle.indicatif_term.specs.Screen.{Put, performed, is_continued}
 use Rattle.indicatif_term.specs.Shows.{look}
+use Rattle.indicatif_term.specs.Inside.Edits.{IsNarrowChar, narrow}
 use Rattle.indicatif_term.specs.Inside.LastChar.{ends_plainly, last_byte}
-use Rattle.indicatif_term.proofs.CursorRowLemmas.{IsSized, IsShowable, IsText}
+use Rattle.indicatif_term.proofs.CursorRowLemmas.{IsSized}
+use Rattle.indicatif_term.proofs.EditLineLemmas.{glyphs_push}
 use Rattle.indicatif_term.proofs.FillLemmas.{last_fits}
-use Rattle.indicatif_term.proofs.ScreenRowLemmas.{made, same_screen}
-use Rattle.indicatif_term.proofs.GlyphLemmas.{IsPiece, cells_push, columns_push, is_piece_push, some_width}
-use Rattle.indicatif_term.proofs.WrittenLineLemmas.{marks_before, marks_before-cons, has_no_width, glyphs_sized}
-use Rattle.indicatif_term.proofs.CallLemmas.{Asks, text_asks}
-use Rattle.indicatif_term.proofs.TerminalStepLemmas.{printable}
+use Rattle.indicatif_term.proofs.GlyphLemmas.{IsPiece, cells_push, columns_push, is_piece_push}
 use Rattle.indicatif_term.proofs.PaintingLemmas.{IsDrawable}
-use Rattle.indicatif_term.proofs.RowEndLemmas.{Again, EndsBy, narrow, narrow_put}
+use Rattle.indicatif_term.proofs.PartingLemmas.{front_visible, ones_visible, space_one, unescaped}
+use Rattle.indicatif_term.proofs.TerminalStepLemmas.{printable}
+use Rattle.indicatif_term.proofs.WrittenLineLemmas.{glyphs_sized}
+
+-- the cell in the last column of a line's last row looks as this character
+pub record EndsWith (w c : ℕ) (line : List ℕ) : Type 0 where
+  pub front : List (List Cell)
+  pub cells : List Cell
+  pub last : Cell
+  pub split : rows_of w (chars line) ≡ front ++ (cells ++ last ∷ []) ∷ []
+  pub whole : length cells + 1 ≡ w
+  pub seen : look last ≡ look (narrow c)
+  pub is_narrow : IsNarrowChar c
 
 -- ---- the last byte of a line
 
-record EndsIn (line : List ℕ) (b : ℕ) : Type 0 where
-  front : List ℕ
-  whole : line ≡ front ++ b ∷ []
+pub record EndsIn (line : List ℕ) (b : ℕ) : Type 0 where
+  pub front : List ℕ
+  pub whole : line ≡ front ++ b ∷ []
 
 ends_in : (x : ℕ) (xs : List ℕ) → (b : ℕ) × EndsIn (x ∷ xs) b
 ends_in x [] = (x, record { front = []; whole = refl })
 ends_in x (y ∷ xs) = let e = ends_in y xs in (e.0, record { front = x ∷ e.1.front; whole = ap (λ ys. x ∷ ys) e.1.whole })
 
 -- a line that ends plainly
-record IsEnded (line : List ℕ) : Type 0 where
-  last : ℕ
-  ends : EndsIn line last
-  printable : IsPrintable last
-  unescaped : list_any (λ b. b == 0x1B) line ≡ false
+pub record IsEnded (line : List ℕ) : Type 0 where
+  pub last : ℕ
+  pub ends : EndsIn line last
+  pub printable : IsPrintable last
+  pub last_at : slice_index line (length line - 1) ≡ last
+  pub unescaped_bytes : list_any (λ b. b == 0x1B) line ≡ false
 
 none_any : (b : Bool) → not b ≡ true → b ≡ false
 none_any true e = absurd (cc)
@@ -63,37 +69,9 @@ is_ended (x ∷ xs) e =
     let at : length line - 1 ≡ length q.1.front = omega (arith, ap length q.1.whole, length-append q.1.front (q.0 ∷ [])) in
     let last : slice_index line (length line - 1) ≡ q.0 =
     ap (λ n. slice_index line n) at ∙ ap (λ ys. slice_index ys (length q.1.front)) q.1.whole ∙ get_or_at q.1.front q.0 [] 0 (length q.1.front) refl in
-    record { last = q.0; ends = q.1; printable = in_range q.0 (ap (is_in_range 0x20 0x7E) (sym last) ∙ p.0); unescaped = none_any (list_any (λ b. b == 0x1B) line) p.1 }
+    record { last = q.0; ends = q.1; printable = in_range q.0 (ap (is_in_range 0x20 0x7E) (sym last) ∙ p.0); last_at = last; unescaped_bytes = none_any (list_any (λ b. b == 0x1B) line) p.1 }
 
 -- ---- its characters
-
-escape_bytes : (c : ℕ) → c ≡ 0x1B → list_any (λ b. b == 0x1B) (encode c) ≡ true
-escape_bytes c e = ap (λ d. list_any (λ b. b == 0x1B) (encode d)) e ∙ ap (list_any (λ b. b == 0x1B)) (encode_ascii 0x1B (omega arith))
-
-is_escape : (c : ℕ) → (c == 0x1B) ≡ true → c ≡ 0x1B
-is_escape c e = grind (arith, nat_tests)
-
-unescaped_chars : (cs : List ℕ) → list_any (λ b. b == 0x1B) (encodes cs) ≡ false → list_any (λ c. c == 0x1B) cs ≡ false
-unescaped_chars [] e = refl
-unescaped_chars (c ∷ cs) e =
-    let both : (list_any (λ b. b == 0x1B) (encode c) || list_any (λ b. b == 0x1B) (encodes cs)) ≡ false = sym (list_any-append (λ b. b == 0x1B) (encode c) (encodes cs)) ∙ e in
-    let p = or_parts (list_any (λ b. b == 0x1B) (encode c)) (list_any (λ b. b == 0x1B) (encodes cs)) both in
-    elim (cases_Bool (c == 0x1B)) [
-      | inl is ↦ absurd (let t = escape_bytes c (is_escape c is) in cc (t, p.0))
-      | inr other ↦ rw other (unescaped_chars cs p.1)
-    ]
-
-uncoloured : (c : ℕ) (cs : List ℕ) → (c == 0x1B) ≡ false → colour_length (c ∷ cs) ≡ None
-uncoloured c [] e = refl
-uncoloured c (d ∷ cs) e = rw e refl
-
-all_seen : (cs : List ℕ) → list_any (λ c. c == 0x1B) cs ≡ false → visible cs ≡ cs
-unfolding visible
-all_seen [] e = refl
-all_seen (c ∷ cs) e = elim (cases_Bool (c == 0x1B)) [
-  | inl is ↦ absurd (let t : list_any (λ c. c == 0x1B) (c ∷ cs) ≡ true = rw is refl in cc)
-  | inr other ↦ sym (visible_past c cs (uncoloured c cs other)) ∙ ap (λ x. c ∷ x) (all_seen cs (rw other at e))
-]
 
 chars_front : (line : List ℕ) (b : ℕ) (e : EndsIn line b) → IsUtf8 line → b < 128 → chars line ≡ chars e.front ++ b ∷ []
 chars_front line b e utf8 low =
@@ -106,19 +84,6 @@ chars_front line b e utf8 low =
       one_ascii : (b : ℕ) → b < 128 → (i : ℕ) → slice_index (b ∷ []) i < 128
       one_ascii b low zero = low
       one_ascii b low (suc i) = omega arith
-
--- ---- its glyphs
-
-marks_push : (c : ℕ) (cs : List ℕ) → width_of c ≡ 1 → marks_before (cs ++ c ∷ []) ≡ marks_before cs
-marks_push c [] one = let some : has_no_width c ≡ false = ap (λ n. n == 0) one in marks_before-cons c [] ∙ rw some refl
-marks_push c (d ∷ cs) one = marks_before-cons d (cs ++ c ∷ []) ∙ ap (λ ms. cond (has_no_width d) (d ∷ ms) []) (marks_push c cs one) ∙ sym (marks_before-cons d cs)
-
-glyphs_push : (c : ℕ) (cs : List ℕ) → width_of c ≡ 1 → glyphs_of (cs ++ c ∷ []) ≡ glyphs_of cs ++ record { base = c; marks = [] } ∷ []
-glyphs_push c [] one = let some : eqb (width_of c) 0 ≡ false = ap (λ n. eqb n 0) one in rw some refl
-glyphs_push c (d ∷ cs) one = elim (cases_Bool (eqb (width_of d) 0)) [
-  | inl none ↦ rw none (glyphs_push c cs one)
-  | inr some ↦ rw (some, marks_push c cs one, glyphs_push c cs one) refl
-]
 
 -- ---- its last piece
 
@@ -146,69 +111,21 @@ last_glyph w g p (f ∷ gs) is all =
       is = l.is;
     })
 
--- ---- that character over itself
+pub narrow_char : (c : ℕ) → width_of c ≡ 1 → c < 128 → IsNarrowChar c
+narrow_char c one low = record { narrow = one; scalar = rw (low_scalar c (omega arith)) refl; seen = ones_visible (c ∷ []) (one, tt) }
 
-one_column : (c : ℕ) → width_of c ≡ 1 → char_width false c ≡ Some 1
-one_column c one = some_width (char_width false c) (omega (arith, one)) ∙ ap Some one
-
-char_text : (c : ℕ) → IsPrintable c → IsText 1 (c ∷ [])
-unfolding visible
-char_text c p =
-    let one : width_of c ≡ 1 = plain_width c p in
-    record {
-      scalars = rw (low_scalar c (omega (arith, p.1))) refl;
-      printable = All-from_recursion (IsShowable 1) (c ∷ []) (record { shown_rows = ap is_some (one_column c one); fits = omega (arith, one) }, tt);
-    }
-
-char_asks : (c : ℕ) → IsPrintable c → Asks (c ∷ []) (Put c ∷ [])
-unfolding visible
-char_asks c p = subst (λ bs. Asks bs (Put c ∷ [])) (ap (λ x. x ++ []) (encode_ascii c (omega (arith, p.1)))) (text_asks 1 (c ∷ []) (char_text c p))
-
-whole_cell : (x : Cell) (c : ℕ) → look x ≡ look (narrow c) → is_continued x ≡ false
-whole_cell Blank c e = refl
-whole_cell (Written g) c e = refl
-whole_cell Continued c e = elim (cases_Bool ((c == 0x20) && (0 == 0))) [
-  | inl is ↦ absurd (let f : Continued ≡ Blank = e ∙ rw is refl in cc)
-  | inr other ↦ absurd (let f : Continued ≡ Written (record { base = c; marks = [] }) = e ∙ rw other refl in cc)
-]
-
--- a row that looks like this one ends with a cell that looks like its last
-last_cell : (cells r : List Cell) (c : Cell) → map look r ≡ map look (cells ++ c ∷ []) →
-    (front : List Cell) × (x : Cell) × (r ≡ front ++ x ∷ []) × (length front ≡ length cells) × (map look front ≡ map look cells) × (look x ≡ look c)
-last_cell [] [] c e = absurd (cc)
-last_cell [] (x ∷ []) c e = ([], x, refl, refl, refl, cc)
-last_cell [] (x ∷ y ∷ r) c e = absurd (cc)
-last_cell (d ∷ cells) [] c e = absurd (cc)
-last_cell (d ∷ cells) (x ∷ r) c e = let q = last_cell cells r c (cc) in (x ∷ q.0, q.1, ap (λ y. x ∷ y) q.2, ap suc q.3, cc (q.4, e), q.5)
-
-char_again : (w h : ℕ) (cells r : List Cell) (c : ℕ) → IsPrintable c → length cells + 1 ≡ w → map look r ≡ map look (cells ++ narrow c ∷ []) → Again w h (length cells) (c ∷ []) r
-char_again w h cells r c p whole e =
-    let q = last_cell cells r (narrow c) e in
-    let none : List Cell = [] in
-    record {
-      new = q.0 ++ narrow c ∷ [];
-      looks = map-append look q.0 (narrow c ∷ []) ∙ ap (λ x. x ++ look (narrow c) ∷ []) q.4 ∙ sym (map-append look cells (narrow c ∷ [])) ∙ sym e;
-      ops = Put c ∷ [];
-      asks = char_asks c p;
-      level = (tt, tt);
-      done = λ a b.
-          let put : performed (Put c) (made w h (a ++ (q.0 ++ q.1 ∷ none) ∷ b) (length a) (length q.0)) ≡ made w h (a ++ ((q.0 ++ narrow c ∷ []) ++ none) ∷ b) (length a) (length q.0 + 1) =
-          narrow_put w h c a q.0 q.1 none b (plain_width c p) (whole_cell q.1 c q.5) tt (omega (arith, q.3, whole)) in
-          ap (performed (Put c)) (same_screen w h _ (a ++ (q.0 ++ q.1 ∷ none) ∷ b) _ (length a) _ (length q.0) (ap (λ x. a ++ x ∷ b) q.2) refl (sym q.3))
-          ∙ put ∙ same_screen _ _ _ _ _ _ _ _ (ap (λ x. a ++ x ∷ b) (append-nil (q.0 ++ narrow c ∷ []))) refl (omega (arith, q.3, whole));
-    }
-
-pub plain_ends_by : (w h : ℕ) (line : List ℕ) → 0 < w → IsDrawable w line → ends_plainly line ≡ true → w ≤ last_columns w (chars line) → EndsBy w h (w - 1) (last_byte line) line
+pub plain_ends : (w : ℕ) (line : List ℕ) → 0 < w → IsDrawable w line → ends_plainly line ≡ true → w ≤ last_columns w (chars line) → EndsWith w (slice_index line (length line - 1)) line
 unfolding rows_of last_columns is_plain has_wide
-plain_ends_by w h line pos d e full =
+plain_ends w line pos d e full =
     let i = is_ended line e in
     let c = i.last in
     let front = i.ends.front in
     let low : c < 128 = omega (arith, i.printable.1) in
     let one : width_of c ≡ 1 = plain_width c i.printable in
     let g : Glyph = record { base = c; marks = [] } in
+    let plain = front_visible (chars line) [] (unescaped line d.utf8 i.unescaped_bytes) in
     let seen : visible (chars line) ≡ chars front ++ c ∷ [] =
-    all_seen (chars line) (unescaped_chars (chars line) (ap (list_any (λ b. b == 0x1B)) (encodes-chars line d.utf8) ∙ i.unescaped)) ∙ chars_front line c i.ends d.utf8 low in
+    ap visible (sym (append-nil (chars line))) ∙ plain ∙ ap (λ x. chars line ++ x) visible_none ∙ append-nil (chars line) ∙ chars_front line c i.ends d.utf8 low in
     let glyphs : glyphs_of (visible (chars line)) ≡ glyphs_of (chars front) ++ g ∷ [] = ap glyphs_of seen ∙ glyphs_push c (chars front) one in
     let sized : AllByRecursion (IsSized w) (glyphs_of (chars front) ++ g ∷ []) =
     subst (AllByRecursion (IsSized w)) glyphs (glyphs_sized w (visible (chars line)) (printable w (visible (chars line)) d.plain d.narrow)) in
@@ -223,21 +140,74 @@ plain_ends_by w h line pos d e full =
     let row : row_of w (l.piece ++ g ∷ []) ≡ cells ++ narrow c ∷ [] =
     ap (λ n. flat_map glyph_cells (l.piece ++ g ∷ []) ++ replicate n Blank) none ∙ append-nil (flat_map glyph_cells (l.piece ++ g ∷ []))
     ∙ cells_push l.piece g ∙ ap (λ n. cells ++ narrow c ∷ replicate (n - 1) Continued) one in
-    let last : last_byte line ≡ c ∷ [] = last_is line c i.ends in
     record {
       front = map (row_of w) l.front;
-      last = cells ++ narrow c ∷ [];
+      cells = cells;
+      last = narrow c;
       split = ap (map (row_of w)) pieces ∙ map-append (row_of w) l.front ((l.piece ++ g ∷ []) ∷ []) ∙ ap (λ x. map (row_of w) l.front ++ x ∷ []) row;
-      room = omega (arith, pos);
-      again = λ r e'.
-          let k : length cells ≡ w - 1 = omega (arith, whole) in
-          subst (λ n. Again w h n (last_byte line) r) k (subst (λ text. Again w h (length cells) text r) (sym last) (char_again w h cells r c i.printable whole e'));
+      whole = whole;
+      seen = ap (λ x. look (narrow x)) (sym i.last_at);
+      is_narrow = subst IsNarrowChar (sym i.last_at) (narrow_char c one low);
     } where
       front_sized : (gs : List Glyph) (g : Glyph) → AllByRecursion (IsSized w) (gs ++ g ∷ []) → AllByRecursion (IsSized w) gs
       front_sized [] g all = tt
       front_sized (f ∷ gs) g all = (all.0, front_sized gs g all.1)
 
-      last_is : (line : List ℕ) (c : ℕ) (e : EndsIn line c) → last_byte line ≡ c ∷ []
-      last_is line c e =
-          let at : length line - 1 ≡ length e.front = omega (arith, ap length e.whole, length-append e.front (c ∷ [])) in
-          ap (λ n. drop n line) at ∙ ap (drop (length e.front)) e.whole ∙ drop_at e.front (c ∷ []) (length e.front) refl
+-- ---- a last column that is free
+
+-- the last of these pieces
+record LastPiece (w : ℕ) (pieces : List (List Glyph)) : Type 0 where
+  front : List (List Glyph)
+  piece : List Glyph
+  split : pieces ≡ front ++ piece ∷ []
+  columns_are : columns_of_last pieces ≡ columns_in piece
+  is : IsPiece piece
+
+last_piece : (w : ℕ) (p gs : List Glyph) → IsPiece p → AllByRecursion (IsSized w) gs → LastPiece w (pieces_after w p gs)
+last_piece w p [] is all = record { front = []; piece = p; split = refl; columns_are = refl; is = is }
+last_piece w p (g ∷ gs) is all =
+    let some : 0 < glyph_width g = all.0.columns in
+    cond_both (nat_le (columns_in p + glyph_width g) w) (pieces_after w (p ++ g ∷ []) gs) (p ∷ pieces_after w (g ∷ []) gs) (LastPiece w)
+    (λ e. last_piece w (p ++ g ∷ []) gs (is_piece_push p g some is) all.1)
+    (λ e. let l = last_piece w (g ∷ []) gs (is_piece_push [] g some refl) all.1 in
+    record {
+      front = p ∷ l.front;
+      piece = l.piece;
+      split = ap (λ ps. p ∷ ps) l.split;
+      columns_are = last_more p (pieces_after w (g ∷ []) gs) (pieces_some w (g ∷ []) gs) ∙ l.columns_are;
+      is = l.is;
+    })
+
+last_blank : (m : ℕ) → 0 < m → replicate m Blank ≡ replicate (m - 1) Blank ++ Blank ∷ []
+last_blank m some = sym (replicate-append-replicate (m - 1) 1 Blank ∙ ap (λ n. replicate n Blank) (let e : m - 1 + 1 ≡ m = omega arith in e))
+
+pub free_ends : (w : ℕ) (line : List ℕ) → IsDrawable w line → last_columns w (chars line) < w → EndsWith w 0x20 line
+unfolding rows_of last_columns is_plain has_wide
+free_ends w line d room =
+    let gs = glyphs_of (visible (chars line)) in
+    let l = last_piece w [] gs refl (glyphs_sized w (visible (chars line)) (printable w (visible (chars line)) d.plain d.narrow)) in
+    let own = flat_map glyph_cells l.piece in
+    let k : length own ≡ last_columns w (chars line) = l.is ∙ sym l.columns_are in
+    let m = w - last_columns w (chars line) in
+    let n = m - 1 in
+    record {
+      front = map (row_of w) l.front;
+      cells = own ++ replicate n Blank;
+      last = Blank;
+      split = ap (map (row_of w)) l.split ∙ map-append (row_of w) l.front (l.piece ∷ []) ∙ ap (λ n. map (row_of w) l.front ++ (own ++ replicate (w - n) Blank) ∷ []) (sym l.columns_are)
+          ∙ ap (λ x. map (row_of w) l.front ++ (own ++ x) ∷ []) (last_blank m (omega (arith, room)))
+          ∙ ap (λ x. map (row_of w) l.front ++ x ∷ []) (sym (append_assoc own (replicate n Blank) (Blank ∷ [])));
+      whole = omega (arith, length-append own (replicate n Blank), length-replicate {A = Cell} n Blank, k, room);
+      seen = refl;
+      is_narrow = narrow_char 0x20 space_one (omega arith);
+    }
+
+-- ---- that byte
+
+pub last_is : (line : List ℕ) → ends_plainly line ≡ true → last_byte line ≡ encode (slice_index line (length line - 1))
+last_is line e =
+    let i = is_ended line e in
+    let front = i.ends.front in
+    let at : length line - 1 ≡ length front = omega (arith, ap length i.ends.whole, length-append front (i.last ∷ [])) in
+    ap (λ n. drop n line) at ∙ ap (drop (length front)) i.ends.whole ∙ drop_at front (i.last ∷ []) (length front) refl
+    ∙ sym (encode_ascii i.last (omega (arith, i.printable.1))) ∙ ap encode (sym i.last_at)

@@ -10,7 +10,7 @@ use Rattle.indicatif_term.specs.Lists.{Lists, live_rows, live_height, lists_heig
 use Rattle.indicatif_term.specs.Frames.{bar_lines, all_lines, are_plain, some_wide}
 use Rattle.indicatif_term.specs.Counts.{CountsOf}
 use Rattle.indicatif_term.specs.Inside.Plans.{frame_lines, IsPlan}
-use Rattle.indicatif_term.specs.Inside.Skips.{placed_height}
+use Rattle.indicatif_term.specs.Inside.Changes.{placed_height}
 use Rattle.indicatif_term.specs.Inside.Moves.{run_bytes, moved_bytes, AreEven}
 use Rattle.indicatif_term.specs.Standing.{placed, texts, standing_rows, AreLines}
 use Rattle.indicatif_term.specs.declared.remembered.StandingLine.{StandingLine}

@@ -12,12 +12,12 @@ use Rattle.indicatif_term.proofs.FeedLemmas.{ops_of-append, reader_after-append}
 
 -- ---- one character
 
-record HasShape (bytes : List ℕ) : Type 0 where
-  first : ℕ
-  more : List ℕ
-  is : bytes ≡ first ∷ more
-  leading : is_leading first ≡ true
-  others : AllByRecursion (λ b. is_leading b ≡ false) more
+pub record HasShape (bytes : List ℕ) : Type 0 where
+  pub first : ℕ
+  pub more : List ℕ
+  pub is : bytes ≡ first ∷ more
+  pub leading : is_leading first ≡ true
+  pub others : AllByRecursion (λ b. is_leading b ≡ false) more
 
 next_not_leading : (c : ℕ) → is_leading (next c) ≡ false
 next_not_leading c = rw (le-ltb (next c) 128 (omega arith), lt-leb 192 (next c) (omega arith)) refl
@@ -25,7 +25,7 @@ next_not_leading c = rw (le-ltb (next c) 128 (omega arith), lt-leb 192 (next c) 
 high_leading : (b : ℕ) → 192 ≤ b → is_leading b ≡ true
 high_leading b h = rw (le-ltb b 128 (omega arith), le-leb 192 b h) refl
 
-shape : (c : ℕ) → HasShape (encode c)
+pub shape : (c : ℕ) → HasShape (encode c)
 unfolding encode
 shape c =
     cond_both (ltb c 128) _ _ HasShape

@@ -6,7 +6,7 @@ use Rattle.std.specs.Prelude.{string_bytes, IfSome}
 use Rattle.std.proofs.lemmas.Grind.{flat_map-append}
 use Rattle.std.proofs.lemmas.List.{take_more, map-append, take_at, drop_at, drop-drop, length-map, length-take-le, length-drop, take-append-drop, take_all, nil_from_length}
 use Rattle.indicatif_text.specs.Columns.{Cell, rows_of}
-use Rattle.indicatif_term.specs.Inside.Skips.{PlacedLine, placed_height, placed_lines, free_behind, change_bytes}
+use Rattle.indicatif_term.specs.Inside.Changes.{PlacedLine, placed_height, placed_lines, free_behind, change_bytes}
 use Rattle.indicatif_term.specs.Inside.Fills.{last_of}
 use Rattle.indicatif_term.proofs.LastLineLemmas.{last_push}
 use Rattle.indicatif_term.specs.Standing.{placed_of, placed, texts, standing_rows, IsLine, AreLines}
@@ -19,7 +19,7 @@ use Rattle.indicatif_term.specs.Inside.Places.{IsAt, IsThere, IsWithin}
 use Rattle.indicatif_term.specs.declared.remembered.StandingLine.{StandingLine}
 use Rattle.indicatif_term.specs.declared.beside.Place.{Place}
 use Rattle.indicatif_term.specs.declared.beside.Room.{Room}
-use Rattle.indicatif_term.proofs.SkipLemmas.{height-append}
+use Rattle.indicatif_term.proofs.EditWalkLemmas.{height-append}
 
 -- ---- one more of some lines
 

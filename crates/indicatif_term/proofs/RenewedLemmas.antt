@@ -1,22 +1,24 @@
 -- A frame whose lines stand in as many rows as those of the last drawing leads from the lists to the next ones by its new lines.
-use Rattle.std.proofs.Common.{inl, inr, ◌≡◌, ◌≢◌, ◌⊎◌, ℕ, zero, suc, ◌+◌, ◌-◌, ◌<◌, ◌≤◌, ◌^◌, min, max, Bool, true, false, List, [], ◌∷◌, ◌++◌, length, take, drop, map, set, refl, sym, ◌∙◌, ap, subst, arith, append-nil, length-append, chars, get_or, if◌then◌else◌, Result, Ok, Err, is_ok, is_err}
+use Rattle.std.proofs.Common.{inl, inr, ◌≡◌, ◌≢◌, ◌⊎◌, ℕ, zero, suc, ◌+◌, ◌-◌, ◌<◌, ◌≤◌, ◌^◌, min, max, Bool, true, false, List, [], ◌∷◌, ◌++◌, length, take, drop, map, set, refl, sym, ◌∙◌, ap, subst, arith, append-nil, length-append, chars, get_or, Result, Ok, Err, is_ok, is_err}
 use Rattle.std.specs.Prelude.{IsTrue, IsFalse, string_bytes, nat_lt, ◌==◌, ◌&&◌, sum_by, slice_set}
 use Rattle.std.specs.List.{AllByRecursion}
 use Rattle.std.proofs.lemmas.Bool.{cond_both}
 use Rattle.std.proofs.lemmas.Bool.Decides.{nat_tests}
 use Rattle.std.proofs.lemmas.List.{take_at, drop_at, nil_from_length, take_more, take_all, take_more_set, length-map, length-set, get_or-set_other, get_or-map, set_comm, take-map, drop-map, length-drop}
 use Rattle.indicatif_text.specs.Columns.{Cell, rows_of, has_wide, last_columns}
-use Rattle.indicatif_term.specs.Terminal.{GREATEST}
 use Rattle.indicatif_term.specs.Shows.{look, looks_of}
 use Rattle.indicatif_term.specs.Lists.{Lists, Live, BarRows, BarLines, lists_height, live_height, live_rows, segments_height, blanks_for, live_of_frame, shown_rows, lines_of, fitting, grouped, settled, rested, drawn, all_rows}
 use Rattle.indicatif_term.specs.Frames.{bar_lines, all_lines, are_plain, some_wide}
 use Rattle.indicatif_term.specs.Counts.{CountsOf, row_count}
-use Rattle.indicatif_term.specs.Standing.{placed_of, placed, texts, standing_rows, IsLine, AreLines}
+use Rattle.indicatif_term.specs.Standing.{placed_of, placed, texts, standing_rows, IsLine, AreLines, AreReady}
 use Rattle.indicatif_term.specs.Remembered.{AreRemembered, known_lines, Suits}
-use Rattle.indicatif_term.specs.Inside.Plans.{IsPlan, IsLaidOut, frame_lines}
-use Rattle.indicatif_term.specs.Inside.Skips.{PlacedLine, placed_height, Sits, AreSitting, all_stay, change_bytes}
+use Rattle.indicatif_term.specs.Inside.Plans.{IsLaidOut, frame_lines}
+use Rattle.indicatif_term.specs.Inside.Edits.{AreSingle}
+use Rattle.indicatif_term.specs.Inside.Parting.{IsTurned, IsReady, change_of, waits_of}
+use Rattle.indicatif_term.specs.declared.parting.Step.TheVariants.{Leave}
+use Rattle.indicatif_term.specs.Inside.Changes.{PlacedLine, placed_height, Becomes, Ends, AreSitting, all_stay, change_bytes}
 use Rattle.indicatif_term.specs.Inside.Places.{IsWithin}
-use Rattle.indicatif_term.specs.Inside.Renewed.{IsNew, ComesIn, heights, FitsIn, AreFitting, renewed, IsInPlace, AreInPlace, Renews, AreCompared, IsSettled, IsRenewed}
+use Rattle.indicatif_term.specs.Inside.Renewed.{IsNew, ComesIn, heights, FitsIn, AreFitting, AreFittingFrom, renewed, AreInPlace, IsOver, AreOver, Renews, AreCompared, IsSettled, IsRenewed}
 use Rattle.indicatif_term.specs.declared.beside.Room.{Room}
 use Rattle.indicatif_term.specs.declared.counts.Counts.{Counts}
 use Rattle.indicatif_term.specs.declared.layout.Plan.{Plan}
@@ -53,17 +55,23 @@ pub went : {A E : Type 0} (r : Result A E) → is_err r ≡ false → is_ok r �
 went (Ok x) e = refl
 went (Err x) e = let no : true ≡ false = e in cc
 
-pub fits_more : (w : ℕ) (on : List StandingLine) (m n : ℕ) (new : List NewLine) → m ≤ n → AreFitting w on m new → AreFitting w on n new
-fits_more w on m n [] h f = tt
-fits_more w on m n (x ∷ new) h f = ((omega (arith, f.0.0, h), f.0.1), fits_more w on m n new h f.1)
+pub fits_more : (w : ℕ) (on : List StandingLine) (from m n : ℕ) (new : List NewLine) → m ≤ n → AreFittingFrom w on from m new → AreFittingFrom w on from n new
+fits_more w on from m n [] h f = tt
+fits_more w on from m n (x ∷ new) h f = (f.0, (omega (arith, f.1.0, h), f.1.1), fits_more w on (suc x.at) m n new h f.2)
 
-pub fits_push : (w : ℕ) (on : List StandingLine) (n : ℕ) (new : List NewLine) (x : NewLine) → AreFitting w on n new → FitsIn w on n x → AreFitting w on n (new ++ x ∷ [])
-fits_push w on n [] x f g = (g, tt)
-fits_push w on n (y ∷ new) x f g = (f.0, fits_push w on n new x f.1 g)
+-- a new line below all others
+pub fits_push : (w : ℕ) (on : List StandingLine) (from m n : ℕ) (new : List NewLine) (x : NewLine) → AreFittingFrom w on from m new → from ≤ x.at → m ≤ x.at → m ≤ n → FitsIn w on n x →
+    AreFittingFrom w on from n (new ++ x ∷ [])
+fits_push w on from m n [] x f h k l g = (h, g, tt)
+fits_push w on from m n (y ∷ new) x f h k l g = (f.0, (omega (arith, f.1.0, l), f.1.1), fits_push w on (suc y.at) m n new x f.2 (omega (arith, f.1.0, k)) k l g)
 
-pub fits_front : (w : ℕ) (on : List StandingLine) (n : ℕ) (new : List NewLine) (x : NewLine) → AreFitting w on n (new ++ x ∷ []) → AreFitting w on n new × FitsIn w on n x
-fits_front w on n [] x f = (tt, f.0)
-fits_front w on n (y ∷ new) x f = let r = fits_front w on n new x f.1 in ((f.0, r.0), r.1)
+-- the others stand above the last
+pub fits_front : (w : ℕ) (on : List StandingLine) (from n : ℕ) (new : List NewLine) (x : NewLine) → AreFittingFrom w on from n (new ++ x ∷ []) →
+    AreFittingFrom w on from x.at new × FitsIn w on n x × (from ≤ x.at)
+fits_front w on from n [] x f = (tt, f.1, f.0)
+fits_front w on from n (y ∷ new) x f =
+    let r = fits_front w on (suc y.at) n new x f.2 in
+    ((f.0, (omega (arith, r.2), f.1.1), r.0), r.1, omega (arith, f.0, r.2))
 
 pub renewed-length : (ts : List (List ℕ)) (new : List NewLine) → length (renewed ts new) ≡ length ts
 renewed-length ts [] = refl
@@ -73,19 +81,21 @@ pub renewed-push : (ts : List (List ℕ)) (new : List NewLine) (x : NewLine) →
 renewed-push ts [] x = refl
 renewed-push ts (n ∷ new) x = ap (λ ys. set ys n.at (string_bytes n.text)) (renewed-push ts new x)
 
-renewed-set : (w : ℕ) (on : List StandingLine) (k i : ℕ) (ts : List (List ℕ)) (t : List ℕ) (new : List NewLine) → AreFitting w on k new → k ≤ i → renewed (set ts i t) new ≡ set (renewed ts new) i t
-renewed-set w on k i ts t [] f h = refl
-renewed-set w on k i ts t (n ∷ new) f h =
-    let lower : n.at < k = f.0.0 in
+renewed-set : (w : ℕ) (on : List StandingLine) (from k i : ℕ) (ts : List (List ℕ)) (t : List ℕ) (new : List NewLine) → AreFittingFrom w on from k new → k ≤ i →
+    renewed (set ts i t) new ≡ set (renewed ts new) i t
+renewed-set w on from k i ts t [] f h = refl
+renewed-set w on from k i ts t (n ∷ new) f h =
+    let lower : n.at < k = f.1.0 in
     let other : i ≢ n.at = λ e. absurd (omega (arith, lower, h, e)) in
-    ap (λ ys. set ys n.at (string_bytes n.text)) (renewed-set w on k i ts t new f.1 h) ∙ set_comm (renewed ts new) i n.at t (string_bytes n.text) other
+    ap (λ ys. set ys n.at (string_bytes n.text)) (renewed-set w on (suc n.at) k i ts t new f.2 h) ∙ set_comm (renewed ts new) i n.at t (string_bytes n.text) other
 
-renewed-other : (w : ℕ) (on : List StandingLine) (k i : ℕ) (ts : List (List ℕ)) (d : List ℕ) (new : List NewLine) → AreFitting w on k new → k ≤ i → get_or (renewed ts new) i d ≡ get_or ts i d
-renewed-other w on k i ts d [] f h = refl
-renewed-other w on k i ts d (n ∷ new) f h =
-    let lower : n.at < k = f.0.0 in
+renewed-other : (w : ℕ) (on : List StandingLine) (from k i : ℕ) (ts : List (List ℕ)) (d : List ℕ) (new : List NewLine) → AreFittingFrom w on from k new → k ≤ i →
+    get_or (renewed ts new) i d ≡ get_or ts i d
+renewed-other w on from k i ts d [] f h = refl
+renewed-other w on from k i ts d (n ∷ new) f h =
+    let lower : n.at < k = f.1.0 in
     let other : i ≢ n.at = λ e. absurd (omega (arith, lower, h, e)) in
-    get_or-set_other (renewed ts new) n.at i (string_bytes n.text) d other ∙ renewed-other w on k i ts d new f.1 h
+    get_or-set_other (renewed ts new) n.at i (string_bytes n.text) d other ∙ renewed-other w on (suc n.at) k i ts d new f.2 h
 
 module _ (w : ℕ) (on : List StandingLine) (x : StandingLine) (new : List NewLine) (before : List (List ℕ)) (text : List ℕ) (p p' : Plan) (h : p.lines < length on) (e : get_or on p.lines x ≡ x)
     (b : p'.lines ≡ p.lines + 1) (d : p'.passing ≡ p.passing) (c : AreCompared w on new before p) where
@@ -99,32 +109,35 @@ module _ (w : ℕ) (on : List StandingLine) (x : StandingLine) (new : List NewLi
   pub compared_same : string_bytes x.text ≡ text → AreCompared w on new (before ++ text ∷ []) p'
   compared_same t = record {
     lines_in = omega (arith, h, b);
-    fit = fits_more w on p.lines p'.lines new (omega (arith, b)) c.fit;
+    fit = fits_more w on 0 p.lines p'.lines new (omega (arith, b)) c.fit;
     texts_are = ap (λ n. take n (renewed (texts on) new)) b ∙ take_more (renewed (texts on) new) p.lines (bytes x) (omega (arith, h, size))
-        ∙ ap (λ y. take p.lines (renewed (texts on) new) ++ y ∷ []) (renewed-other w on p.lines p.lines (texts on) (bytes x) new c.fit (omega arith)
+        ∙ ap (λ y. take p.lines (renewed (texts on) new) ++ y ∷ []) (renewed-other w on 0 p.lines p.lines (texts on) (bytes x) new c.fit (omega arith)
         ∙ get_or-map bytes on p.lines x (bytes x) h ∙ ap bytes e ∙ t)
         ∙ ap (λ ys. ys ++ text ∷ []) c.texts_are;
     passes_none = d ∙ c.passes_none;
   }
 
   -- a new one comes in its place
-  pub compared_new : (n : NewLine) (new' : List NewLine) → new' ≡ new ++ n ∷ [] → IsNew w p.lines x.rows text n → AreCompared w on new' (before ++ text ∷ []) p'
+  pub compared_new : (n : NewLine) (new' : List NewLine) → new' ≡ new ++ n ∷ [] → IsNew w p.lines x.rows (bytes x) text n → AreCompared w on new' (before ++ text ∷ []) p'
   compared_new n new' more is =
       let rows : get_or (heights on) n.at 0 ≡ x.rows = ap (λ i. get_or (heights on) i 0) is.at_is ∙ get_or-map (λ (l : StandingLine). l.rows) on p.lines x 0 h ∙ ap (λ (l : StandingLine). l.rows) e in
-      let own : IsNew w n.at (get_or (heights on) n.at 0) (string_bytes n.text) n = record {
+      let old : get_or (texts on) n.at [] ≡ bytes x = ap (λ i. get_or (texts on) i []) is.at_is ∙ get_or-map bytes on p.lines x [] h ∙ ap bytes e in
+      let own : IsNew w n.at (get_or (heights on) n.at 0) (get_or (texts on) n.at []) (string_bytes n.text) n = record {
         at_is = refl;
         text_is = refl;
         rows_are = rows ∙ is.rows_are ∙ ap (λ y. length (rows_of w (chars y))) (sym is.text_is);
         last_is = is.last_is ∙ ap (λ y. last_columns w (chars y)) (sym is.text_is);
         narrow = ap (λ y. has_wide w (chars y)) is.text_is ∙ is.narrow;
+        single = λ q. subst (λ y. AreSingle (chars y)) (sym is.text_is) (is.single q);
+        turned = subst (λ o. IsTurned w n.turn.step o (string_bytes n.text)) (sym old) (subst (IsTurned w n.turn.step (bytes x)) (sym is.text_is) is.turned);
       } in
       let at : n.at ≡ p.lines = is.at_is in
       record {
         lines_in = omega (arith, h, b);
-        fit = subst (AreFitting w on p'.lines) (sym more) (fits_push w on p'.lines new n (fits_more w on p.lines p'.lines new (omega (arith, b)) c.fit) (omega (arith, at, b), own));
+        fit = subst (AreFitting w on p'.lines) (sym more) (fits_push w on 0 p.lines p'.lines new n c.fit (omega arith) (omega (arith, at)) (omega (arith, b)) (omega (arith, at, b), own));
         texts_are = ap (λ k. take k (renewed (texts on) new')) b ∙ ap (λ y. take (p.lines + 1) (renewed (texts on) y)) more
             ∙ ap (take (p.lines + 1)) (renewed-push (texts on) new n ∙ ap (λ i. renewed (set (texts on) i (string_bytes n.text)) new) at
-            ∙ renewed-set w on p.lines p.lines (texts on) (string_bytes n.text) new c.fit (omega arith))
+            ∙ renewed-set w on 0 p.lines p.lines (texts on) (string_bytes n.text) new c.fit (omega arith))
             ∙ take_more_set (renewed (texts on) new) p.lines (string_bytes n.text) (omega (arith, h, size))
             ∙ ap (λ y. take p.lines (renewed (texts on) new) ++ y ∷ []) is.text_is ∙ ap (λ ys. ys ++ text ∷ []) c.texts_are;
         passes_none = d ∙ c.passes_none;
@@ -156,7 +169,7 @@ module _ (w : ℕ) (on : List StandingLine) (at : ℕ) (x : StandingLine) (text 
       let e' : get_or on p.lines x ≡ x = ap (λ n. get_or on n x) (sym i) ∙ e in
       elim comes [
         | inl same ↦ subst (λ ns. AreCompared w on ns (before ++ text ∷ []) p') (sym same.1) (compared_same w on x new before text p p' h' e' b d c same.0)
-        | inr own ↦ compared_new w on x new before text p p' h' e' b d c own.0 new' own.1 (subst (λ n. IsNew w n x.rows text own.0) i own.2)
+        | inr own ↦ compared_new w on x new before text p p' h' e' b d c own.0 new' own.1 (subst (λ n. IsNew w n x.rows (string_bytes x.text) text own.0) i own.2)
       ]
 
 -- ---- lines in the place of others
@@ -168,9 +181,30 @@ in_place w (o ∷ on) [] a b t = absurd (cc)
 in_place w (o ∷ on) (l ∷ ls) a b t =
     let here : string_bytes l.text ≡ string_bytes o.text = cc in
     let rest : texts ls ≡ texts on = cc in (
-      record { rows_are = b.0.rows_are ∙ ap (λ y. length (rows_of w (chars y))) here ∙ sym a.0.rows_are; line = b.0; same = λ _. here },
+      record { rows_are = b.0.rows_are ∙ ap (λ y. length (rows_of w (chars y))) here ∙ sym a.0.rows_are; line = b.0 },
       in_place w on ls a.1 b.1 rest,
     )
+
+-- lines that all stay
+abbrev pub IsLeft : StandingLine → Type 0
+IsLeft l = l.step ≡ Leave
+
+left_over : (w : ℕ) (o l : StandingLine) → string_bytes l.text ≡ string_bytes o.text → l.step ≡ Leave → IsOver w o l
+left_over w o l here q = record {
+  becomes = λ stood e. subst (λ s. Becomes w (change_of s (string_bytes l.before) (string_bytes l.text)) stood (string_bytes l.text)) (sym q)
+      (e ∙ ap (λ y. looks_of (rows_of w (chars y))) (sym here));
+  ready = subst (λ s. IsReady s (string_bytes l.before) (string_bytes l.text)) (sym q) tt;
+  waiting = subst (λ s. IsTrue (waits_of s) → Ends w (change_of s (string_bytes l.before) (string_bytes l.text)) (string_bytes l.text)) (sym q) (λ e. absurd (let no : false ≡ true = e in cc));
+}
+
+pub all_over : (w : ℕ) (on ls : List StandingLine) → texts ls ≡ texts on → AllByRecursion IsLeft ls → AreOver w on ls
+all_over w [] [] t q = tt
+all_over w [] (l ∷ ls) t q = absurd (cc)
+all_over w (o ∷ on) [] t q = absurd (cc)
+all_over w (o ∷ on) (l ∷ ls) t q =
+    let here : string_bytes l.text ≡ string_bytes o.text = cc in
+    let rest : texts ls ≡ texts on = cc in
+    (left_over w o l here q.0, all_over w on ls rest q.1)
 
 pub place_right : (w : ℕ) (on ls : List StandingLine) → AreInPlace w on ls → AreLines w ls
 place_right w [] [] p = tt
@@ -190,25 +224,49 @@ place_rows w (o ∷ on) [] i x p h e = absurd p
 place_rows w (o ∷ on) (l ∷ ls) zero x p h e = ap (λ (y : StandingLine). y.rows) (sym e) ∙ p.0.rows_are
 place_rows w (o ∷ on) (l ∷ ls) (suc i) x p h e = place_rows w on ls i x p.1 (omega arith) e
 
-place_put : (w : ℕ) (on ls : List StandingLine) (i : ℕ) (y : StandingLine) → AreInPlace w on ls → y.rows ≡ get_or (heights on) i 0 → IsLine w y → y.stays ≡ false → AreInPlace w on (slice_set ls i y)
-place_put w [] [] i y p r l s = p
-place_put w [] (x ∷ ls) i y p r l s = absurd p
-place_put w (o ∷ on) [] i y p r l s = absurd p
-place_put w (o ∷ on) (x ∷ ls) zero y p r l s = (record { rows_are = r; line = l; same = λ yes. absurd (let no : true ≡ false = sym yes ∙ s in cc) }, p.1)
-place_put w (o ∷ on) (x ∷ ls) (suc i) y p r l s = (p.0, place_put w on ls i y p.1 r l s)
+place_put : (w : ℕ) (on ls : List StandingLine) (i : ℕ) (y : StandingLine) → AreInPlace w on ls → y.rows ≡ get_or (heights on) i 0 → IsLine w y → AreInPlace w on (slice_set ls i y)
+place_put w [] [] i y p r l = p
+place_put w [] (x ∷ ls) i y p r l = absurd p
+place_put w (o ∷ on) [] i y p r l = absurd p
+place_put w (o ∷ on) (x ∷ ls) zero y p r l = (record { rows_are = r; line = l }, p.1)
+place_put w (o ∷ on) (x ∷ ls) (suc i) y p r l = (p.0, place_put w on ls i y p.1 r l)
 
 -- a new line put in its place
 pub place_new : (w : ℕ) (on ls : List StandingLine) (x y : StandingLine) (n : NewLine) → AreInPlace w on ls → FitsIn w on (length on) n → get_or ls n.at x ≡ x → y.rows ≡ x.rows →
-    string_bytes y.text ≡ string_bytes n.text → y.last ≡ n.last → y.stays ≡ false → AreInPlace w on (slice_set ls n.at y)
-place_new w on ls x y n p f e r t c s =
+    string_bytes y.text ≡ string_bytes n.text → y.last ≡ n.turn.last → y.narrow ≡ n.turn.narrow → AreInPlace w on (slice_set ls n.at y)
+place_new w on ls x y n p f e r t c q =
     let rows : y.rows ≡ get_or (heights on) n.at 0 = r ∙ place_rows w on ls n.at x p f.0 e in
     let same : string_bytes n.text ≡ string_bytes y.text = sym t in
     let line : IsLine w y = record {
       rows_are = rows ∙ f.1.rows_are ∙ ap (λ z. length (rows_of w (chars z))) same;
       last_is = c ∙ f.1.last_is ∙ ap (λ z. last_columns w (chars z)) same;
       narrow = ap (λ z. has_wide w (chars z)) t ∙ f.1.narrow;
+      single = λ i. subst (λ z. AreSingle (chars z)) same (f.1.single (sym q ∙ i));
     } in
-    place_put w on ls n.at y p rows line s
+    place_put w on ls n.at y p rows line
+
+over_put : (w : ℕ) (on ls : List StandingLine) (i : ℕ) (y : StandingLine) → AreOver w on ls → IsTurned w y.step (get_or (texts on) i []) (string_bytes y.text) →
+    string_bytes y.before ≡ get_or (texts on) i [] → AreOver w on (slice_set ls i y)
+over_put w [] [] i y p s b = p
+over_put w [] (x ∷ ls) i y p s b = absurd p
+over_put w (o ∷ on) [] i y p s b = absurd p
+over_put w (o ∷ on) (x ∷ ls) zero y p s b =
+    let own : IsTurned w y.step (string_bytes y.before) (string_bytes y.text) = subst (λ z. IsTurned w y.step z (string_bytes y.text)) (sym b) s in
+    (record { becomes = λ stood e. own.becomes stood (e ∙ ap (λ z. looks_of (rows_of w (chars z))) (sym b)); ready = own.ready; waiting = own.waiting }, p.1)
+over_put w (o ∷ on) (x ∷ ls) (suc i) y p s b = (p.0, over_put w on ls i y p.1 s b)
+
+-- where the one that stood there is the one before
+pub over_new : (w : ℕ) (on ls : List StandingLine) (y : StandingLine) (n : NewLine) → AreOver w on ls → FitsIn w on (length on) n →
+    string_bytes y.text ≡ string_bytes n.text → y.step ≡ n.turn.step → string_bytes y.before ≡ get_or (texts on) n.at [] → AreOver w on (slice_set ls n.at y)
+over_new w on ls y n p f t s b =
+    over_put w on ls n.at y p (subst (λ z. IsTurned w z (get_or (texts on) n.at []) (string_bytes y.text)) (sym s) (subst (IsTurned w n.turn.step (get_or (texts on) n.at [])) (sym t) f.1.turned)) b
+
+-- such lines can be written
+pub over_ready : (w : ℕ) (on ls : List StandingLine) → AreOver w on ls → AreReady ls
+over_ready w [] [] p = tt
+over_ready w [] (l ∷ ls) p = absurd p
+over_ready w (o ∷ on) [] p = absurd p
+over_ready w (o ∷ on) (l ∷ ls) p = (p.0.ready, over_ready w on ls p.1)
 
 place_height : (w : ℕ) (on ls : List StandingLine) → AreInPlace w on ls → placed_height (placed ls) ≡ placed_height (placed on)
 place_height w [] [] p = refl
@@ -219,20 +277,21 @@ place_height w (o ∷ on) (l ∷ ls) p =
     let one : l.rows ≡ o.rows = p.0.rows_are in omega arith
 
 -- they sit on the rows of those
-place_sits : (w : ℕ) (on ls : List StandingLine) → AreLines w on → AreInPlace w on ls → AreSitting w (looks_of (standing_rows w on)) (placed ls)
-place_sits w [] [] a p = tt
-place_sits w [] (l ∷ ls) a p = absurd p
-place_sits w (o ∷ on) [] a p = absurd p
-place_sits w (o ∷ on) (l ∷ ls) a p =
+place_sits : (w : ℕ) (on ls : List StandingLine) → AreLines w on → AreInPlace w on ls → AreOver w on ls → AreSitting w (looks_of (standing_rows w on)) (placed ls)
+place_sits w [] [] a p q = tt
+place_sits w [] (l ∷ ls) a p q = absurd p
+place_sits w (o ∷ on) [] a p q = absurd p
+place_sits w (o ∷ on) (l ∷ ls) a p q =
     let own = rows_of w (chars (string_bytes o.text)) in
     let rest = standing_rows w on in
     let size : length own ≡ l.rows = sym a.0.rows_are ∙ sym p.0.rows_are in (
       record {
         rows_are = p.0.line.rows_are;
         last_is = p.0.line.last_is;
-        same = λ stays. take-map (map look) l.rows (own ++ rest) ∙ ap looks_of (take_at own rest l.rows size) ∙ ap (λ y. looks_of (rows_of w (chars y))) (sym (p.0.same stays));
+        becomes = q.0.becomes (take l.rows (looks_of (own ++ rest))) (take-map (map look) l.rows (own ++ rest) ∙ ap looks_of (take_at own rest l.rows size));
+        waiting = q.0.waiting;
       },
-      subst (λ x. AreSitting w x (placed ls)) (sym (drop-map (map look) l.rows (own ++ rest) ∙ ap looks_of (drop_at own rest l.rows size))) (place_sits w on ls a.1 p.1),
+      subst (λ x. AreSitting w x (placed ls)) (sym (drop-map (map look) l.rows (own ++ rest) ∙ ap looks_of (drop_at own rest l.rows size))) (place_sits w on ls a.1 p.1 q.1),
     )
 
 -- ---- lists that a draw leaves as they are
@@ -390,13 +449,15 @@ module _ (w h : ℕ) (frame : List Segment) (c : Counts) (r : Remembered) (new :
         let none : min (placed_height (placed r.lines.items)) (2 ^ 64 - 1) - c.live ≡ 0 = omega (arith, height_before) in
         subst (λ k. drop k (standing_rows w r.lines.items) ≡ live_rows w l.live) none e
 
-    pub redraws_new : (bottom : Bool) (l x : Lists) (front : List PlacedLine) (last : PlacedLine) → CountsOf c l → AreRemembered r l → IsTrue (are_plain (all_lines (map bar_lines frame))) →
+    pub redraws_new : (bottom : Bool) (l x : Lists) (front : List PlacedLine) (last : PlacedLine) → AreOver r.width r.lines.items ls → CountsOf c l → AreRemembered r l →
+        IsTrue (are_plain (all_lines (map bar_lines frame))) →
         CountsOf c x → x.live ≡ l.live → placed ls ≡ front ++ last ∷ [] → Redraws w h x (drawn w h bottom 0 (map bar_lines frame) x) (change_bytes w 0 front last [])
-    redraws_new bottom l x front last o known plain ox live s =
+    redraws_new bottom l x front last over o known plain ox live s =
         let room : Room = record { lines = length ls; free = 0 } in
         let count : length ls ≡ length front + 1 = sym (length-map ls placed_of) ∙ ap length s ∙ length-append front (last ∷ []) in
         let sits : AreSitting w (looks_of (live_rows w x.live)) (placed ls) =
-        subst (λ y. AreSitting w (looks_of y) (placed ls)) (stand_before l o known ∙ ap (live_rows w) (sym live)) (place_sits w r.lines.items ls right place) in
+        subst (λ y. AreSitting w (looks_of y) (placed ls)) (stand_before l o known
+        ∙ ap (live_rows w) (sym live)) (place_sits w r.lines.items ls right place (subst (λ k. AreOver k r.lines.items ls) q.settled.same_width over)) in
         let all : take (length ls) ls ≡ ls = take_all (length ls) ls (omega arith) in
         let within : IsWithin ls c.live room = record {
           some = omega (arith, count);
@@ -470,7 +531,7 @@ renewed_height ls a x e p i =
 -- ---- lines that all stay
 
 abbrev all_left : List StandingLine → List StandingLine
-all_left ls = map (λ (l : StandingLine). record l { stays = true }) ls
+all_left ls = map (λ (l : StandingLine). record l { step = Leave }) ls
 
 left_texts : (ls : List StandingLine) → texts (all_left ls) ≡ texts ls
 left_texts [] = refl
@@ -478,7 +539,11 @@ left_texts (l ∷ ls) = ap (λ xs. string_bytes l.text ∷ xs) (left_texts ls)
 
 left_right : (w : ℕ) (ls : List StandingLine) → AreLines w ls → AreLines w (all_left ls)
 left_right w [] a = tt
-left_right w (l ∷ ls) a = (record { rows_are = a.0.rows_are; last_is = a.0.last_is; narrow = a.0.narrow }, left_right w ls a.1)
+left_right w (l ∷ ls) a = (record { rows_are = a.0.rows_are; last_is = a.0.last_is; narrow = a.0.narrow; single = a.0.single }, left_right w ls a.1)
+
+all_leave : (ls : List StandingLine) → AllByRecursion IsLeft (all_left ls)
+all_leave [] = tt
+all_leave (l ∷ ls) = (refl, all_leave ls)
 
 left_stay : (ls : List StandingLine) → all_stay (placed (all_left ls)) ≡ true
 left_stay [] = refl
@@ -487,13 +552,14 @@ left_stay (l ∷ ls) = left_stay ls
 nothing_changed : (w : ℕ) (front : List PlacedLine) (last : PlacedLine) → all_stay (front ++ last ∷ []) ≡ true → change_bytes w 0 front last [] ≡ []
 nothing_changed w front last e = rw e refl
 
-pub all_stay_there : (w : ℕ) (r : Remembered) → r.width ≡ w → 0 < w → (ls : List StandingLine) × AreInPlace w r.lines.items ls × (texts ls ≡ texts r.lines.items)
+pub all_stay_there : (w : ℕ) (r : Remembered) → r.width ≡ w → 0 < w → (ls : List StandingLine) × AreInPlace w r.lines.items ls × AreOver w r.lines.items ls × (texts ls ≡ texts r.lines.items)
     × ((front : List PlacedLine) (last : PlacedLine) → placed ls ≡ front ++ last ∷ [] → [] ≡ change_bytes w 0 front last [])
 all_stay_there w r e p =
     let ls = all_left r.lines.items in
     let right : AreLines w r.lines.items = subst (λ k. AreLines k r.lines.items) e (lines_right r (omega (arith, e, p))) in (
       ls,
       in_place w r.lines.items ls right (left_right w r.lines.items right) (left_texts r.lines.items),
+      all_over w r.lines.items ls (left_texts r.lines.items) (all_leave r.lines.items),
       left_texts r.lines.items,
       λ front last s. sym (nothing_changed w front last (ap all_stay (sym s) ∙ left_stay r.lines.items)),
     )

@@ -8,7 +8,7 @@ use Rattle.indicatif_text.specs.Columns.{Cell, blank_row}
 use Rattle.indicatif_term.specs.Screen.{Screen, cursor_row}
 use Rattle.indicatif_term.specs.Terminal.{Terminal}
 use Rattle.indicatif_term.specs.Lists.{Lists, forgotten_lists}
-use Rattle.indicatif_term.specs.Shows.{Placed}
+use Rattle.indicatif_term.specs.Shows.{Placed, safe_rows}
 use Rattle.indicatif_term.specs.Resizes.{recut, recut_all, used_rows, lasting_rows, row_then, recut_screen, resized, resized_terminal}
 use Rattle.indicatif_term.proofs.RecutLemmas.{recut_some, upper_rows}
 use Rattle.indicatif_term.proofs.PlaceLemmas.{IsSizedInside}
@@ -82,17 +82,17 @@ other_size w h w' h' s c r e =
     ∙ ap (λ k. if (w == w') && (k == h') then s else recut_screen w' h' s) r
     ∙ ap (λ same. if same then s else recut_screen w' h' s) e
 
-pub placed_then : (w h w' h' n : ℕ) (l : Lists) (t : Terminal) → ((w == w') && (h == h')) ≡ false → 0 < h' → n ≤ t.screen.row → Placed w h n l t →
-    Placed w' h' (length (recut_all w' (take n t.screen.rows))) forgotten_lists (resized_terminal w' h' t)
+pub placed_then : (w h w' h' n : ℕ) (l : Lists) (t : Terminal) → ((w == w') && (h == h')) ≡ false → 0 < h' → n ≤ t.screen.row → Placed w h l t →
+    Placed w' h' forgotten_lists (resized_terminal w' h' t) × (length (recut_all w' (take n t.screen.rows)) ≤ safe_rows forgotten_lists (resized_terminal w' h' t))
 placed_then w h w' h' n l t e some low p =
     let i = sized_place p in
     let s = t.screen in
     let is : resized w' h' s ≡ recut_screen w' h' s = other_size w h w' h' s i.columns i.height e in
     let with_screen : Screen → Terminal = λ z. record t { screen = z } in
-    subst (λ z. Placed w' h' (length (recut_all w' (take n s.rows))) forgotten_lists (with_screen z)) (sym is)
-    (broke_placed w' h' (length (recut_all w' (take n s.rows))) (with_screen (recut_screen w' h' s)) (sized w' h' n s i.inside.in_rows low some) (low_then w' h' n s i.inside.in_rows low))
+    subst (λ z. Placed w' h' forgotten_lists (with_screen z) × (length (recut_all w' (take n s.rows)) ≤ safe_rows forgotten_lists (with_screen z))) (sym is)
+    (broke_placed w' h' (with_screen (recut_screen w' h' s)) (sized w' h' n s i.inside.in_rows low some), low_then w' h' n s i.inside.in_rows low)
 
-pub taken_then : (w h w' h' n : ℕ) (l : Lists) (t : Terminal) → ((w == w') && (h == h')) ≡ false → n ≤ t.screen.row → Placed w h n l t →
+pub taken_then : (w h w' h' n : ℕ) (l : Lists) (t : Terminal) → ((w == w') && (h == h')) ≡ false → n ≤ t.screen.row → Placed w h l t →
     take (length (recut_all w' (take n t.screen.rows))) (resized_terminal w' h' t).screen.rows ≡ recut_all w' (take n t.screen.rows)
 taken_then w h w' h' n l t e low p =
     let i = sized_place p in

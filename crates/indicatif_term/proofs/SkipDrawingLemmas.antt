@@ -6,12 +6,13 @@ use Rattle.indicatif_term.specs.Screen.{Screen}
 use Rattle.indicatif_term.specs.Terminal.{Terminal, GREATEST, after}
 use Rattle.indicatif_term.specs.Shows.{Shows, IsOpening, look, looks_of, resting_row}
 use Rattle.indicatif_term.specs.Lists.{Lists, lists_height, live_height, all_rows}
-use Rattle.indicatif_term.specs.Inside.Skips.{PlacedLine, placed_height, placed_lines, AreSitting, change_bytes}
+use Rattle.indicatif_term.specs.Inside.Changes.{PlacedLine, placed_height, placed_lines, AreSitting, change_bytes}
 use Rattle.indicatif_term.proofs.RowsAboveLemmas.{Keeps}
 use Rattle.indicatif_term.proofs.FilledLineLemmas.{looks-append}
 use Rattle.indicatif_term.proofs.ShownRowLemmas.{lines_rows}
 use Rattle.indicatif_term.proofs.PaintingLemmas.{IsDrawable, AreDrawable, restand}
-use Rattle.indicatif_term.proofs.SkipLemmas.{Changed, change_leads, sitting_parts, sitting_front, height-append}
+use Rattle.indicatif_term.proofs.SkipLemmas.{Changed, change_leads}
+use Rattle.indicatif_term.proofs.EditWalkLemmas.{sitting_parts, sitting_front, height-append}
 use Rattle.indicatif_term.proofs.DrawingLemmas.{Replaces, all-height, keeps_fewer, looks_split, stands_from, shows_from, end_column, low_row, below_pos}
 use Rattle.indicatif_term.proofs.EngineLemmas.{Redraws}
 

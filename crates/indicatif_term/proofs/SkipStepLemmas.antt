@@ -10,7 +10,7 @@ use Rattle.indicatif_term.specs.Terminal.{Terminal, GREATEST, after}
 use Rattle.indicatif_term.specs.Calls.{move_bytes, clear_bytes}
 use Rattle.indicatif_term.specs.Shows.{IsOpening, resting}
 use Rattle.indicatif_term.specs.Inside.Bytes.{next_row, rows_down}
-use Rattle.indicatif_term.specs.Inside.Skips.{emptied_bytes, changed_bytes}
+use Rattle.indicatif_term.specs.Inside.Changes.{emptied_bytes, changed_bytes}
 use Rattle.indicatif_term.proofs.CursorRowLemmas.{Stands, screen_at, screen_after, IsText, IsShowable}
 use Rattle.indicatif_term.proofs.ScreenRowLemmas.{made, same_screen}
 use Rattle.indicatif_term.proofs.FeedLemmas.{after-append}

@@ -11,7 +11,7 @@ use Rattle.indicatif_term.specs.Lists.{Lists, all_rows, live_rows, live_height, 
 use Rattle.indicatif_term.specs.Frames.{bar_lines, all_lines, are_plain, some_wide}
 use Rattle.indicatif_term.specs.Counts.{CountsOf}
 use Rattle.indicatif_term.specs.Inside.Plans.{frame_lines, IsPlan, text_height}
-use Rattle.indicatif_term.specs.Inside.Skips.{PlacedLine, placed_height, placed_lines, AreSitting, change_bytes}
+use Rattle.indicatif_term.specs.Inside.Changes.{PlacedLine, placed_height, placed_lines, AreSitting, change_bytes}
 use Rattle.indicatif_term.specs.Inside.Places.{IsWithin}
 use Rattle.indicatif_term.specs.declared.beside.Room.{Room}
 use Rattle.indicatif_term.specs.Standing.{placed_of, placed, texts, standing_rows, AreLines}
@@ -33,7 +33,7 @@ use Rattle.indicatif_term.specs.declared.engine.Engine.{Engine}
 use Rattle.indicatif_term.proofs.ShownRowLemmas.{lines_rows, frame_rows, frame_lines_le, frame_chars}
 use Rattle.indicatif_term.proofs.CountLemmas.{length-live, live_of, settled-rows, passed-rows, same_blanks_log}
 use Rattle.indicatif_term.proofs.PaintingLemmas.{IsDrawable, AreDrawable}
-use Rattle.indicatif_term.proofs.SkipLemmas.{height-append, sitting_parts}
+use Rattle.indicatif_term.proofs.EditWalkLemmas.{height-append, sitting_parts}
 use Rattle.indicatif_term.proofs.RememberedLemmas.{known_rows, lines_placed, lines_right}
 use Rattle.indicatif_term.proofs.TerminalStepLemmas.{rows_some}
 use Rattle.indicatif_term.proofs.SkipDrawingLemmas.{change_redraws}

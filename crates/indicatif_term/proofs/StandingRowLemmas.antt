@@ -8,13 +8,13 @@ use Rattle.indicatif_text.specs.Columns.{Cell, blank_row}
 use Rattle.indicatif_term.specs.Screen.{Screen, cursor_row}
 use Rattle.indicatif_term.specs.Terminal.{Terminal}
 use Rattle.indicatif_term.specs.Lists.{Lists, all_rows, live_rows, lists_height, forgotten_lists}
-use Rattle.indicatif_term.specs.Shows.{Shows, Placed, IsOpening, look, looks_of, resting_row, resting_column}
+use Rattle.indicatif_term.specs.Shows.{Shows, Placed, safe_rows, IsOpening, look, looks_of, resting_row, resting_column}
 use Rattle.indicatif_term.specs.Resizes.{recut, recut_all, used_rows, lasting_rows, row_then, recut_screen, resized, resized_terminal, resized_lists}
-use Rattle.indicatif_term.specs.Events.{standing_rows, rows_then}
+use Rattle.indicatif_term.specs.Events.{rows_that_stand, rows_then}
 use Rattle.indicatif_term.proofs.RecutLemmas.{recut_some, recut_alike, row_more, upper_rows}
 use Rattle.indicatif_term.proofs.ResizeLemmas.{opening_cut, above_resized, same_size}
 use Rattle.indicatif_term.proofs.PlaceLemmas.{IsSizedInside}
-use Rattle.indicatif_term.proofs.StandLemmas.{sized_place, broke_placed, placed_fewer}
+use Rattle.indicatif_term.proofs.StandLemmas.{sized_place, broke_placed}
 
 -- ---- a screen that gets another size
 
@@ -34,7 +34,7 @@ module _ (w h n : ℕ) (s : Screen) (within : s.row < length s.rows) where
 
   -- how many of the n rows stand above
   abbrev k : ℕ
-  k = standing_rows n s
+  k = rows_that_stand n s
 
   abbrev pub cut : List (List Cell)
   cut = recut_all w (take k s.rows)
@@ -105,20 +105,21 @@ rows_taken w' h' n t within =
     cond_both same (take n s.rows) (cut w' h' n s within) (λ r. take (length r) (if same then s else recut_screen w' h' s).rows ≡ r)
     (λ e. rw e (taken_again n s.rows)) (λ e. rw e (cut_taken w' h' n s within))
 
-pub rows_placed : (w h w' h' n : ℕ) (t : Terminal) → 0 < h' → Placed w h n forgotten_lists t →
-    Placed w' h' (length (rows_then w' h' n t.screen)) forgotten_lists (resized_terminal w' h' t)
+pub rows_placed : (w h w' h' n : ℕ) (t : Terminal) → 0 < h' → n ≤ safe_rows forgotten_lists t → Placed w h forgotten_lists t →
+    Placed w' h' forgotten_lists (resized_terminal w' h' t) × (length (rows_then w' h' n t.screen) ≤ safe_rows forgotten_lists (resized_terminal w' h' t))
 unfolding resized
-rows_placed w h w' h' n t some p =
+rows_placed w h w' h' n t some low p =
     let s = t.screen in
     let i = sized_place p in
     let same = (s.columns == w') && (s.height == h') in
     let with_screen : Screen → Terminal = λ z. record t { screen = z } in
-    cond_both same (take n s.rows) (cut w' h' n s i.inside.in_rows) (λ r. Placed w' h' (length r) forgotten_lists (with_screen (if same then s else recut_screen w' h' s)))
+    cond_both same (take n s.rows) (cut w' h' n s i.inside.in_rows)
+    (λ r. let u = with_screen (if same then s else recut_screen w' h' s) in Placed w' h' forgotten_lists u × (length r ≤ safe_rows forgotten_lists u))
     (λ e.
     let parts = both_tests s.columns w' s.height h' e in
-    let here = subst (λ k. Placed w' k n forgotten_lists t) (sym i.height ∙ parts.1) (subst (λ k. Placed k h n forgotten_lists t) (sym i.columns ∙ parts.0) p) in
-    rw e (placed_fewer w' h' (length (take n s.rows)) n forgotten_lists t (omega (arith, length-take n s.rows)) here))
-    (λ e. rw e (broke_placed w' h' (length (cut w' h' n s i.inside.in_rows)) (with_screen (recut_screen w' h' s)) (cut_sized w' h' n s i.inside.in_rows some) (cut_low w' h' n s i.inside.in_rows)))
+    let here = subst (λ k. Placed w' k forgotten_lists t) (sym i.height ∙ parts.1) (subst (λ k. Placed k h forgotten_lists t) (sym i.columns ∙ parts.0) p) in
+    rw e (here, omega (arith, length-take n s.rows, low)))
+    (λ e. rw e (broke_placed w' h' (with_screen (recut_screen w' h' s)) (cut_sized w' h' n s i.inside.in_rows some), cut_low w' h' n s i.inside.in_rows))
 
 -- ---- one that shows lists
 
@@ -132,7 +133,7 @@ module _ (w h n : ℕ) (opening : Screen) (l : Lists) (t : Terminal) (x : Shows 
   columns_are : t.screen.columns ≡ w
   columns_are = ap (λ u. u.screen.columns) x.terminal_is
 
-  by_place : (below : Bool) → l.below ≡ below → standing_rows n t.screen ≡ n
+  by_place : (below : Bool) → l.below ≡ below → rows_that_stand n t.screen ≡ n
   by_place true e =
       let r : resting_row l ≡ lists_height l = rw e refl in
       cond_both (t.screen.column == t.screen.columns) (t.screen.row + 1) t.screen.row (λ b. min n b ≡ n) (λ f. omega (arith, few, row_is, r)) (λ f. omega (arith, few, row_is, r))
@@ -143,7 +144,7 @@ module _ (w h n : ℕ) (opening : Screen) (l : Lists) (t : Terminal) (x : Shows 
       let waits : (t.screen.column == t.screen.columns) ≡ true = eq-eqb t.screen.column t.screen.columns (column_is ∙ c ∙ sym columns_are) in
       rw waits (let q : min n (t.screen.row + 1) ≡ n = omega (arith, few, row_is, r, g) in q)
 
-  pub all_stand : standing_rows n t.screen ≡ n
+  pub all_stand : rows_that_stand n t.screen ≡ n
   all_stand = by_place l.below refl
 
 module _ (w h w' h' n : ℕ) (opening : Screen) (l : Lists) (t : Terminal) (x : Shows w h opening l t) (some : 0 < w) (some' : 0 < h') (few : n ≤ opening.row + length l.above) where
@@ -195,7 +196,7 @@ module _ (w h w' h' n : ℕ) (opening : Screen) (l : Lists) (t : Terminal) (x : 
         | inr e ↦
             let z = above_resized w h w' h' l e some' in
             let more : length (resized_lists w h w' h' l).above ≡ length (recut_all w' l.above) + length z.0 = ap length z.1 ∙ length-append (recut_all w' l.above) z.0 in
-            let cut_n : length (recut_all w' (take (standing_rows n s) s.rows)) ≡ length (recut_all w' (take n s.rows)) =
+            let cut_n : length (recut_all w' (take (rows_that_stand n s) s.rows)) ≡ length (recut_all w' (take n s.rows)) =
             ap (λ k. length (recut_all w' (take k s.rows))) (all_stand w h n opening l t x few) in
             rw (test ∙ e, test' ∙ e) (omega (arith, cut_n, cut_fewer w' n (opening.row + a) s.rows few, first_rows, opening_row, more))
       ]

@@ -18,8 +18,8 @@ not_control c d shown_rows hidden =
     false_from_ne_true (eqb c d) (λ e. false≢true (sym hidden ∙ ap (λ x. is_some (char_width false x)) (sym (eqb-true c d e)) ∙ shown_rows))
 
 pub record IsPut (c : ℕ) : Type 0 where
-  ops : plain_ops c ≡ Put c ∷ []
-  place : plain_place c ≡ OutsideSequence
+  pub ops : plain_ops c ≡ Put c ∷ []
+  pub place : plain_place c ≡ OutsideSequence
 
 pub is_put : (c : ℕ) → IsShown c → IsPut c
 unfolding char_width

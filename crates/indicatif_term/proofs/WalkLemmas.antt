@@ -1,44 +1,38 @@
 -- The bytes of a walk through lines, line by line.
-use Rattle.std.proofs.Common.{inl, inr, ◌≡◌, ℕ, ◌+◌, ◌<◌, ◌≤◌, Bool, true, false, List, [], ◌∷◌, ◌++◌, length, take, drop, get_or, Result, Ok, Err, refl, sym, ◌∙◌, ap, subst, arith, append_assoc}
-use Rattle.std.specs.Prelude.{◌&&◌, IsErrAnd, MatchResult}
+use Rattle.std.proofs.Common.{inl, inr, ◌≡◌, ℕ, ◌+◌, ◌-◌, ◌<◌, ◌≤◌, Bool, true, false, List, [], ◌∷◌, ◌++◌, length, take, drop, get_or, Result, Ok, Err, refl, sym, ◌∙◌, ap, subst, arith, append_assoc, append-nil}
+use Rattle.std.specs.Prelude.{◌&&◌, nat_lt, slice_index, IsErrAnd, MatchResult, string_bytes}
 use Rattle.std.specs.declared.io.ErrorKind.{ErrorKind}
 use Rattle.std.proofs.lemmas.Bool.{cases_Bool}
 use Rattle.std.proofs.lemmas.List.{take_more, map-append, take-append-drop}
-use Rattle.indicatif_term.specs.Calls.{TermView, LeadsOn, BreaksOff, DOWN, move_bytes}
-use Rattle.indicatif_term.specs.Inside.Skips.{PlacedLine, placed_height, emptied_bytes, changed_bytes, walk_bytes, walk_down, all_stay}
+use Rattle.indicatif_term.specs.Calls.{TermView, LeadsOn, BreaksOff, UP, DOWN, RIGHT, move_bytes}
+use Rattle.indicatif_term.specs.Inside.Changes.{Change, Leave, Within, Whole, PlacedLine, placed_height, emptied_bytes, changed_bytes, step_bytes, step_down, walk_bytes, walk_down, frame_bytes, ending, ending_by, last_bytes, stays, all_stay}
+use Rattle.indicatif_term.specs.Inside.LastChar.{ends_plainly, last_byte}
+use Rattle.std.proofs.Math.Utf8.{encode}
+use Rattle.indicatif_term.proofs.LastCharLemmas.{last_is}
 use Rattle.indicatif_term.specs.Standing.{placed_of, placed}
 use Rattle.indicatif_term.specs.declared.remembered.StandingLine.{StandingLine}
 use Rattle.indicatif_term.proofs.CallTurnLemmas.{breaks_then, breaks_early}
 use Rattle.indicatif_term.proofs.RememberedLemmas.{height_push}
-use Rattle.indicatif_term.proofs.SkipLemmas.{height-append}
+use Rattle.indicatif_term.proofs.EditWalkLemmas.{height-append, walk-append, down-append}
 
-walk-append : (down : ℕ) (ps qs : List PlacedLine) → walk_bytes down (ps ++ qs) ≡ walk_bytes down ps ++ walk_bytes (walk_down down ps) qs
-walk-append down [] qs = refl
-walk-append down (p ∷ ps) qs = elim (cases_Bool p.stays) [
-  | inl e ↦ rw e (walk-append (down + p.rows) ps qs)
-  | inr e ↦ rw e (ap (λ x. changed_bytes down p.rows p.line ++ x) (walk-append 1 ps qs) ∙ sym (append_assoc (changed_bytes down p.rows p.line) (walk_bytes 1 ps) (walk_bytes (walk_down 1 ps) qs)))
-]
-
-down-append : (down : ℕ) (ps qs : List PlacedLine) → walk_down down (ps ++ qs) ≡ walk_down (walk_down down ps) qs
-down-append down [] qs = refl
-down-append down (p ∷ ps) qs = elim (cases_Bool p.stays) [
-  | inl e ↦ rw e (down-append (down + p.rows) ps qs)
-  | inr e ↦ rw e (down-append 1 ps qs)
-]
+step_low : (c : Change) (down n m : ℕ) → down ≤ m → 1 ≤ m → step_down c down n ≤ m + n
+step_low Leave down n m a b = omega arith
+step_low (Within k es) down n m a b = omega arith
+step_low Whole down n m a b = omega arith
 
 low_from : (down n : ℕ) (ps : List PlacedLine) → down ≤ n → 1 ≤ n → walk_down down ps ≤ n + placed_height ps
 low_from down n [] a b = omega arith
-low_from down n (p ∷ ps) a b = elim (cases_Bool p.stays) [
-  | inl e ↦ rw e (let z = low_from (down + p.rows) (n + p.rows) ps (omega arith) (omega arith) in omega arith)
-  | inr e ↦ rw e (let z = low_from 1 n ps b b in omega arith)
-]
+low_from down n (p ∷ ps) a b =
+    let z : walk_down (step_down p.change down p.rows) ps ≤ (n + p.rows) + placed_height ps = low_from (step_down p.change down p.rows)
+    (n + p.rows) ps (step_low p.change down p.rows n a b) (omega arith) in
+    omega arith
 
 pub down_low : (ps : List PlacedLine) → walk_down 0 ps ≤ 1 + placed_height ps
 down_low ps = low_from 0 1 ps (omega arith) (omega arith)
 
 pub stay-append : (ps qs : List PlacedLine) → all_stay (ps ++ qs) ≡ (all_stay ps && all_stay qs)
 stay-append [] qs = refl
-stay-append (p ∷ ps) qs = ap (λ b. p.stays && b) (stay-append ps qs) ∙ and_assoc p.stays (all_stay ps) (all_stay qs) where
+stay-append (p ∷ ps) qs = ap (λ b. stays p.change && b) (stay-append ps qs) ∙ and_assoc (stays p.change) (all_stay ps) (all_stay qs) where
   and_assoc : (a b c : Bool) → (a && (b && c)) ≡ ((a && b) && c)
   and_assoc true b c = refl
   and_assoc false b c = refl
@@ -56,10 +50,13 @@ module _ (lines : List StandingLine) (i : ℕ) (x : StandingLine) (h : i < lengt
   split : placed (take (i + 1) lines) ≡ placed (take i lines) ++ placed_of x ∷ []
   split = ap placed (take_more lines i x h ∙ ap (λ y. take i lines ++ y ∷ []) e) ∙ map-append placed_of (take i lines) (x ∷ [])
 
-  pub bytes_next : walk_bytes 0 (placed (take (i + 1) lines)) ≡ walk_bytes 0 (placed (take i lines)) ++ walk_bytes (walk_down 0 (placed (take i lines))) (placed_of x ∷ [])
-  bytes_next = ap (walk_bytes 0) split ∙ walk-append 0 (placed (take i lines)) (placed_of x ∷ [])
+  abbrev step : List ℕ
+  step = step_bytes (placed_of x).change (walk_down 0 (placed (take i lines))) x.rows (string_bytes x.text)
 
-  pub down_next : walk_down 0 (placed (take (i + 1) lines)) ≡ walk_down (walk_down 0 (placed (take i lines))) (placed_of x ∷ [])
+  pub bytes_next : walk_bytes 0 (placed (take (i + 1) lines)) ≡ walk_bytes 0 (placed (take i lines)) ++ step
+  bytes_next = ap (walk_bytes 0) split ∙ walk-append 0 (placed (take i lines)) (placed_of x ∷ []) ∙ ap (λ y. walk_bytes 0 (placed (take i lines)) ++ y) (append-nil step)
+
+  pub down_next : walk_down 0 (placed (take (i + 1) lines)) ≡ step_down (placed_of x).change (walk_down 0 (placed (take i lines))) x.rows
   down_next = ap (walk_down 0) split ∙ down-append 0 (placed (take i lines)) (placed_of x ∷ [])
 
   pub room_next : placed_height (placed lines) ≤ 65535 → walk_down 0 (placed (take i lines)) + x.rows ≤ 65536
@@ -71,7 +68,7 @@ module _ (lines : List StandingLine) (i : ℕ) (x : StandingLine) (h : i < lengt
 
   -- a failure within a line is one of the whole walk
   pub walk_breaks : {kind : ErrorKind} (s t u : TermView) → LeadsOn (walk_bytes 0 (placed (take i lines))) s t →
-      BreaksOff (walk_bytes (walk_down 0 (placed (take i lines))) (placed_of x ∷ [])) kind t u →
+      BreaksOff step kind t u →
       BreaksOff (walk_bytes 0 (placed lines)) kind s u
   walk_breaks {kind} s t u p q =
       let whole : placed (take (i + 1) lines) ++ placed (drop (i + 1) lines) ≡ placed lines =
@@ -80,11 +77,11 @@ module _ (lines : List StandingLine) (i : ℕ) (x : StandingLine) (h : i < lengt
       let b : BreaksOff (walk_bytes 0 (placed (take (i + 1) lines)) ++ rest) kind s u = breaks_early rest (subst (λ x. BreaksOff x kind s u) (sym bytes_next) (breaks_then p q)) in
       subst (λ x. BreaksOff x kind s u) (sym (walk-append 0 (placed (take (i + 1) lines)) (placed (drop (i + 1) lines))) ∙ ap (walk_bytes 0) whole) b
 
-  pub stays_more : x.stays ≡ true → all_stay (placed (take (i + 1) lines)) ≡ all_stay (placed (take i lines))
+  pub stays_more : stays (placed_of x).change ≡ true → all_stay (placed (take (i + 1) lines)) ≡ all_stay (placed (take i lines))
   stays_more is = ap all_stay split ∙ stay-append (placed (take i lines)) (placed_of x ∷ []) ∙ ap (λ b. all_stay (placed (take i lines)) && (b && true)) is
       ∙ and-true (all_stay (placed (take i lines)))
 
-  pub stays_less : x.stays ≡ false → all_stay (placed lines) ≡ false
+  pub stays_less : stays (placed_of x).change ≡ false → all_stay (placed lines) ≡ false
   stays_less is =
       let whole : placed (take (i + 1) lines) ++ placed (drop (i + 1) lines) ≡ placed lines =
       sym (map-append placed_of (take (i + 1) lines) (drop (i + 1) lines)) ∙ ap placed (take-append-drop (i + 1) lines) in
@@ -102,14 +99,50 @@ four_two a b c d = append_assoc a b (c ++ d) ∙ ap (λ x. a ++ x) (sym (append_
 pub four : {A : Type 0} (a b c d : List A) → ((a ++ b) ++ c) ++ d ≡ a ++ ((b ++ c) ++ d)
 four a b c d = append_assoc (a ++ b) c d ∙ four_two a b c d
 
+pub in_three : {A : Type 0} (a b c : List A) → a ++ (b ++ c) ≡ (a ++ b) ++ c
+in_three a b c = sym (append_assoc a b c)
+
+pub in_four : {A : Type 0} (a b c d : List A) → a ++ (b ++ (c ++ d)) ≡ ((a ++ b) ++ c) ++ d
+in_four a b c d = in_three a b (c ++ d) ∙ in_three (a ++ b) c d
+
+-- the rows of a last line stay as many
+ending_rows : (w : ℕ) (p : PlacedLine) → (ending w p).rows ≡ p.rows
+ending_rows w p = by_change p.change where
+  by_change : (c : Change) → (ending_by c w p).rows ≡ p.rows
+  by_change Leave = elim (cases_Bool (nat_lt p.last w)) [
+    | inl is ↦ rw is refl
+    | inr full ↦ elim (cases_Bool (ends_plainly p.line)) [ inl plain ↦ rw (full, plain) refl | inr other ↦ rw (full, other) refl ]
+  ]
+  by_change (Within k es) = elim (cases_Bool p.waits) [ inl is ↦ rw is refl | inr other ↦ rw other refl ]
+  by_change Whole = refl
+
+-- a last line that stays and ends plainly: its last character again
+pub left_bytes : (w down : ℕ) (p : PlacedLine) → p.change ≡ Leave → nat_lt p.last w ≡ false → ends_plainly p.line ≡ true →
+    last_bytes w down p ≡ move_bytes DOWN (down + p.rows - 1) ++ ((0x0D ∷ []) ++ (move_bytes RIGHT (w - 1) ++ last_byte p.line))
+left_bytes w down p e full plain =
+    let c = slice_index p.line (length p.line - 1) in
+    let front = λ (x : List ℕ). move_bytes DOWN (down + p.rows - 1) ++ ((0x0D ∷ []) ++ (move_bytes RIGHT (w - 1) ++ x)) in
+    let bytes = λ (k : Change). let q = ending_by k w p in step_bytes q.change down q.rows q.line in
+    let left : bytes Leave ≡ front (encode c ++ []) = rw (full, plain) refl in
+    ap bytes e ∙ left ∙ ap front (append-nil (encode c) ∙ sym (last_is p.line plain))
+
+-- lines and the last one: up, through the others, and the last
+pub frame_split : (w below : ℕ) (ps : List PlacedLine) (p : PlacedLine) →
+    frame_bytes below (ps ++ ending w p ∷ []) ≡ move_bytes UP (placed_height ps + p.rows - 1 + below) ++ (walk_bytes 0 ps ++ last_bytes w (walk_down 0 ps) p)
+frame_split w below ps p =
+    let q = ending w p in
+    let n : placed_height (ps ++ q ∷ []) ≡ placed_height ps + p.rows = height-append ps (q ∷ []) ∙ omega (arith, ending_rows w p) in
+    ap (λ m. move_bytes UP (m - 1 + below) ++ walk_bytes 0 (ps ++ q ∷ [])) n
+    ∙ ap (λ x. move_bytes UP (placed_height ps + p.rows - 1 + below) ++ x) (walk-append 0 ps (q ∷ []) ∙ ap (λ x. walk_bytes 0 ps ++ x) (append-nil (last_bytes w (walk_down 0 ps) p)))
+
 -- ---- failures, and tests
 
 pub broken : {E : Type 0} {e : E} (r : Result ℕ E) (P : ℕ → Type 0) (B : E → Type 0) → IsErrAnd r (λ x. x ≡ e) → B e → MatchResult r P B
 broken (Ok x) P B h b = absurd h
 broken (Err x) P B h b = subst B (sym h) b
 
-pub stay_with : (ps : List PlacedLine) (p : PlacedLine) → all_stay (ps ++ p ∷ []) ≡ (all_stay ps && p.stays)
-stay_with ps p = stay-append ps (p ∷ []) ∙ ap (λ b. all_stay ps && b) (and-true p.stays)
+pub stay_with : (ps : List PlacedLine) (p : PlacedLine) → all_stay (ps ++ p ∷ []) ≡ (all_stay ps && stays p.change)
+stay_with ps p = stay-append ps (p ∷ []) ∙ ap (λ b. all_stay ps && b) (and-true (stays p.change))
 
 -- more bytes behind a changed line
 pub changed_more : (down rows : ℕ) (line more : List ℕ) → changed_bytes down rows (line ++ more) ≡ changed_bytes down rows line ++ more

@@ -28,13 +28,13 @@ told_after told (Sized w h ∷ events) = told_after (told_resized w h told) even
 
 -- how many of the first n rows stand above whatever is written next: those above the cursor's, and its own where the cursor
 -- waits at its end
-abbrev pub standing_rows : ℕ → Screen → ℕ
-standing_rows n s = min n (if s.column == s.columns then s.row + 1 else s.row)
+abbrev pub rows_that_stand : ℕ → Screen → ℕ
+rows_that_stand n s = min n (if s.column == s.columns then s.row + 1 else s.row)
 
 -- what the first n rows of a screen become as it gets w columns and h rows: those that stand above are cut; a size that it has
 -- changes nothing
 abbrev pub rows_then : ℕ → ℕ → ℕ → Screen → List (List Cell)
-rows_then w h n s = if (s.columns == w) && (s.height == h) then take n s.rows else recut_all w (take (standing_rows n s) s.rows)
+rows_then w h n s = if (s.columns == w) && (s.height == h) then take n s.rows else recut_all w (take (rows_that_stand n s) s.rows)
 
 -- the first n rows last while these reach a terminal: after each byte they are as they were, and a size cuts them, each by itself
 abbrev pub RowsLastThrough : ℕ → Terminal → List Event → Type 0

@@ -3,11 +3,12 @@ ghost use Rattle.std.specs.Prelude.{◌≡◌, ◌≢◌, ◌↔◌, IsTrue, ◌
 ghost use Rattle.indicatif_term.specs.Shows.{looks_of};
 ghost use Rattle.indicatif_term.specs.Inside.Plans.{IsWithheld};
 ghost use Rattle.indicatif_term.specs.Inside.Layouts.{IsSized, IsLike, AreLike};
-ghost use Rattle.indicatif_term.specs.Inside.Skips.{placed_height, AreSitting};
-ghost use Rattle.indicatif_term.specs.Standing.{placed, texts, standing_rows, IsLine, AreLines};
+ghost use Rattle.indicatif_term.specs.Inside.Changes.{placed_height, AreSitting};
+ghost use Rattle.indicatif_term.specs.Standing.{placed, texts, standing_rows, IsLine, AreLines, AreReady};
 ghost use Rattle.indicatif_term.specs.Inside.Places.{IsAt, IsThere, IsWithin};
 
 use crate::layout::metrics_of;
+use crate::parting::{Step, is_narrow_text};
 use crate::remembered::{Remembered, StandingLine};
 use crate::spare::Spare;
 use crate::window::Window;
@@ -20,6 +21,7 @@ pub struct SizedLine<'a> {
     pub text: &'a str,
     pub rows: usize,
     pub last: usize,
+    pub narrow: bool,
     pub like: Option<usize>,
 }
 
@@ -28,15 +30,17 @@ impl<'a> SizedLine<'a> {
     pub fn stored(self, spare: &mut Spare) -> Result<StandingLine, Refusal>
         ensures memory { IfErr result (λ e. e ≡ Refusal.Memory) }
         ensures text { IfOk result (λ l. string_bytes l.text ≡ self.entry.text.now) }
-        ensures same { IfOk result (λ l. (l.rows ≡ self.entry.rows) × (l.last ≡ self.entry.last) × (l.like ≡ self.entry.like)) }
+        ensures same { IfOk result (λ l. (l.rows ≡ self.entry.rows) × (l.last ≡ self.entry.last) × (l.like ≡ self.entry.like) × (l.narrow ≡ self.entry.narrow)) }
     {
         let mut text = spare.take_text();
         text.push_str(self.text)?;
         Ok(StandingLine {
             text,
+            before: spare.no_text(),
             rows: self.rows,
             last: self.last,
-            stays: false,
+            narrow: self.narrow,
+            step: Step::Whole,
             like: self.like,
         })
     }
@@ -83,6 +87,7 @@ impl<'a> Beside<'a> {
                     text,
                     rows: line.rows,
                     last: line.last,
+                    narrow: line.narrow,
                     like: Some(at),
                 });
             }
@@ -92,6 +97,7 @@ impl<'a> Beside<'a> {
             text,
             rows: metrics.height,
             last: metrics.last_line_width,
+            narrow: is_narrow_text(text),
             like: None,
         })
     }
@@ -230,6 +236,7 @@ fn is_there(standing: &[StandingLine], place: Place, start: usize, line: &Standi
 fn note_standing(standing: &[StandingLine], skipped: usize, lines: &mut Vec<StandingLine>)
     ensures texts { texts lines.new.items ≡ texts lines.old.items }
     ensures right { (w : ℕ) → AreLines w lines.old.items → AreLines w lines.new.items }
+    ensures ready { AreReady lines.new.items }
     ensures sits { (w : ℕ) → AreLines w standing.now → AreLines w lines.old.items → AreLike standing.now lines.old.items →
         AreSitting w (looks_of (drop skipped (standing_rows w standing.now))) (placed lines.new.items) }
 {
@@ -240,7 +247,7 @@ fn note_standing(standing: &[StandingLine], skipped: usize, lines: &mut Vec<Stan
         let line = &lines[at];
         let stays = is_there(standing, place, start, line);
         start = start.saturating_add(line.rows);
-        lines[at].stays = stays;
+        lines[at].step = Step::of(stays);
     }
 }
 
@@ -259,9 +266,11 @@ pub fn below_blanks(
     for _ in 0..blanks {
         lines.push(StandingLine {
             text: spare.take_text(),
+            before: spare.no_text(),
             rows: 1,
             last: 0,
-            stays: false,
+            narrow: true,
+            step: Step::Whole,
             like: None,
         })?;
     }
@@ -280,6 +289,7 @@ pub fn lines_among(
     ensures memory { IfErr result (λ e. (e ≡ Refusal.Memory) × (0 < blanks)) }
     ensures lines { IfOk result (λ ls. texts ls.items ≡ replicate blanks [] ++ texts lines.items) }
     ensures right { (w : ℕ) → AreLines w lines.items → IfOk result (λ ls. AreLines w ls.items) }
+    ensures ready { IfOk result (λ ls. AreReady ls.items) }
     ensures sits { (w : ℕ) → AreLines w standing.now → AreLines w lines.items → AreLike standing.now lines.items → IfOk result (λ ls. AreSitting w
         (looks_of (drop (min (placed_height (placed standing.now)) (2 ^ 64 - 1) - taken) (standing_rows w standing.now))) (placed ls.items)) }
 {

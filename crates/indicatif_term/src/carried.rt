@@ -5,10 +5,11 @@ ghost use Rattle.indicatif_term.specs.Lists.{Lists};
 ghost use Rattle.indicatif_term.specs.Counts.{CountsOf};
 ghost use Rattle.indicatif_term.specs.Remembered.{AreRemembered};
 ghost use Rattle.indicatif_term.specs.Standing.{placed, texts, standing_rows, IsLine, AreLines};
-ghost use Rattle.indicatif_term.specs.Inside.Skips.{placed_height};
+ghost use Rattle.indicatif_term.specs.Inside.Changes.{placed_height};
 
 use crate::beside::height_of;
 use crate::counts::Counts;
+use crate::parting::Step;
 use crate::remembered::{Remembered, StandingLine};
 use crate::spare::Spare;
 use crate::window::Window;
@@ -25,9 +26,11 @@ impl StandingLine {
         text.push_str(&self.text)?;
         Ok(StandingLine {
             text,
+            before: spare.no_text(),
             rows: self.rows,
             last: self.last,
-            stays: false,
+            narrow: self.narrow,
+            step: Step::Whole,
             like: None,
         })
     }

@@ -2,9 +2,9 @@
 //!
 //! The rows that an engine has written are of three kinds, from the top: those *above*, which never change again; those
 //! *kept*, of bars that are gone; and the *live* ones, of the last frame. An engine remembers their counts and the lines of its
-//! last drawing, no text that was logged, so what it needs does not grow with that. A draw writes the lines that changed and leaves
-//! those that stay. Else, as for a log, it goes up to the first of the kept and live rows, empties them from there down, goes up
-//! again, and writes the new ones in their place. The rows above stand at every moment.
+//! last drawing, no text that was logged, so what it needs does not grow with that. A draw writes the lines that changed, or of them
+//! only the cells that differ, and leaves those that stay. Else, as for a log, it goes up to the first of the kept and live rows,
+//! empties them from there down, goes up again, and writes the new ones in their place. The rows above stand at every moment.
 ghost use Rattle.std.specs.Prelude.{◌≡◌, ◌∷◌, List, true, false, ◌≢◌, map, length, replicate, ◌+◌, ◌<◌, ◌≤◌, IfErr, IfSome, option_map, IsTrue, IsFalse, ◌++◌, [], ℕ, Err, false, ◌⊎◌, ◌↔◌, ◌==◌, ◌&&◌, IfOk};
 ghost use Rattle.indicatif_term.specs.Lists.{Lists, opening_lists};
 ghost use Rattle.indicatif_term.specs.Counts.{CountsOf};
@@ -13,6 +13,7 @@ ghost use Rattle.indicatif_term.specs.Standing.{texts};
 
 use crate::beside::{Room, below_blanks, height_of, lines_among, lines_within};
 use crate::carried::carried;
+use crate::changing::{Changes, write_changes};
 use crate::counts::{Counts, Keep, blanks_of};
 use crate::draw_target::{MultiProgressAlignment, ProgressDrawTarget};
 use crate::layout::plan_drawing;
@@ -23,7 +24,6 @@ use crate::painting::{Drawing, Painting, paint};
 use crate::recutting::Widths;
 use crate::remembered::{Remembered, StandingLine};
 use crate::renewed::{Last, NewLine, new_lines, put_new};
-use crate::skipping::{Changes, write_changes};
 use crate::spare::Spare;
 use crate::term_like::{Resize, TermLike};
 use crate::window::Window;
@@ -84,10 +84,10 @@ impl<T: TermLike + Drop> Engine<T> {
     ghost use Rattle.indicatif_term.specs.Engines.{engine_moves, engine_term, Fits, is_failure, Answers, Counted, Paints, lists_after};
     ghost use Rattle.indicatif_term.specs.Inside.Remembering.{Draws, Remembers, HasRoom, AreKnown, CanMove};
     ghost use Rattle.indicatif_term.specs.Inside.Moves.{moved_bytes};
-    ghost use Rattle.indicatif_term.specs.Inside.Skips.{PlacedLine, placed_height, change_bytes};
-    ghost use Rattle.indicatif_term.specs.Inside.Renewed.{AreFitting, AreInPlace, Renews};
+    ghost use Rattle.indicatif_term.specs.Inside.Changes.{PlacedLine, placed_height, change_bytes};
+    ghost use Rattle.indicatif_term.specs.Inside.Renewed.{AreFitting, AreInPlace, AreOver, Renews};
     ghost use Rattle.indicatif_term.specs.Inside.Places.{IsWithin};
-    ghost use Rattle.indicatif_term.specs.Standing.{placed};
+    ghost use Rattle.indicatif_term.specs.Standing.{placed, AreReady};
     ghost use Rattle.indicatif_term.specs.Shows.{IsOpening, Rests, resting};
     ghost use Rattle.indicatif_term.specs.Screen.{Screen};
     ghost use Rattle.indicatif_term.specs.Terminal.{Terminal};
@@ -453,7 +453,7 @@ impl<T: TermLike + Drop> Engine<T> {
         requires known { 0 < self.old.shown.width }
         requires suits { (r : Remembered) → Renews self.old.shown changed.items r → ∥ ((l : Lists) × Suits self.old.counts false r l) ∥₁ }
         ensures { (r : Remembered) × (ls : List StandingLine) × Renews self.old.shown changed.items r × Remembers self.old.counts r result self.new
-            × AreInPlace self.old.shown.width self.old.shown.lines.items ls × (texts ls ≡ texts r.lines.items)
+            × AreInPlace self.old.shown.width self.old.shown.lines.items ls × AreOver self.old.shown.width self.old.shown.lines.items ls × (texts ls ≡ texts r.lines.items)
             × ((front : List PlacedLine) (last : PlacedLine) → placed ls ≡ front ++ last ∷ [] →
             Draws (change_bytes self.old.shown.width 0 front last []) (T.view (engine_term self.old)) (T.view (engine_term self.new)) result)
             × (engine_moves self.new ≡ engine_moves self.old) }
@@ -490,6 +490,7 @@ impl<T: TermLike + Drop> Engine<T> {
         requires known { 0 < self.old.shown.width }
         requires suits { (r : Remembered) → Renews self.old.shown changed.items r → ∥ ((l : Lists) × Suits self.old.counts false r l) ∥₁ }
         ensures { (r : Remembered) × Renews self.old.shown changed.items r × Remembers self.old.counts r result self.new
+            × AreOver self.old.shown.width self.old.shown.lines.items r.lines.items
             × ((front : List PlacedLine) (last : PlacedLine) → placed r.lines.items ≡ front ++ last ∷ [] →
             Draws (change_bytes self.old.shown.width 0 front last []) (T.view (engine_term self.old)) (T.view (engine_term self.new)) result)
             × (engine_moves self.new ≡ engine_moves self.old) }
@@ -534,6 +535,7 @@ impl<T: TermLike + Drop> Engine<T> {
     fn rewrite(&mut self, next: Counts, shown: Remembered, room: Room) -> Result<(), Refusal>
         requires suits { ∥ ((l : Lists) × Suits next false shown l) ∥₁ }
         requires room { (rows : ℕ) × IsWithin shown.lines.items rows room × (rows ≤ 65535) }
+        requires ready { AreReady shown.lines.items }
         ensures writes { (front : List PlacedLine) (last : PlacedLine) (more : List PlacedLine) → placed shown.lines.items ≡ front ++ last ∷ more → length front + 1 ≡ room.lines →
             Draws (change_bytes shown.width room.free front last more)
             (T.view (engine_term self.old)) (T.view (engine_term self.new)) result }

@@ -7,6 +7,7 @@ ghost use Rattle.indicatif_term.specs.Standing.{texts, IsLine, AreLines};
 ghost use Rattle.indicatif_term.specs.Inside.Recutting.{is_space, without_spaces, fitting_count, new_pieces, cut_pieces, cut_line, cut_lines, shown_line, shown_lines, row_line, HasMore};
 
 use crate::marked::{MarkedChar, marked_chars};
+use crate::parting::Step;
 use crate::remembered::{Remembered, StandingLine};
 use indicatif_text::columns::Refusal;
 use std::alloc::Global;
@@ -210,9 +211,11 @@ fn line_of(alloc: Global, glyphs: &[MarkedChar], width: usize) -> Result<Standin
     }
     Ok(StandingLine {
         text,
+        before: String::new(alloc),
         rows: 1,
         last,
-        stays: false,
+        narrow: false,
+        step: Step::Whole,
         like: None,
     })
 }

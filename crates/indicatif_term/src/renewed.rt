@@ -1,17 +1,18 @@
 //! Frames whose lines stand in as many rows as those of the last drawing, so that a draw writes the lines that changed, and keeps
 //! all counts.
-ghost use Rattle.std.specs.Prelude.{◌≡◌, ◌<◌, ◌≤◌, true, ◌++◌, ◌∷◌, [], ℕ, List, IsTrue, IsFalse, IfSome, chars, map, length, string_bytes};
+ghost use Rattle.std.specs.Prelude.{◌≡◌, ◌<◌, ◌≤◌, true, ◌++◌, ◌∷◌, [], ℕ, List, get_or, IsTrue, IsFalse, IfSome, chars, map, length, string_bytes};
 ghost use Rattle.indicatif_text.specs.Columns.{has_wide, rows_of, last_columns};
 ghost use Rattle.indicatif_term.specs.Lists.{BarRows, lines_of};
 ghost use Rattle.indicatif_term.specs.Frames.{bar_lines, line_text, all_lines, some_wide};
 ghost use Rattle.indicatif_term.specs.Standing.{texts, IsLine, AreLines};
 ghost use Rattle.indicatif_term.specs.Inside.Plans.{IsSummed, IsLaidOut, frame_lines};
-ghost use Rattle.indicatif_term.specs.Inside.Renewed.{IsNew, ComesIn, AreFitting, AreInPlace, AreCompared, IsSettled, IsRenewed, renewed};
+ghost use Rattle.indicatif_term.specs.Inside.Renewed.{IsNew, ComesIn, FitsIn, AreFitting, AreInPlace, AreOver, AreCompared, IsSettled, IsRenewed, renewed};
 
+use crate::comparing::{Turn, compare};
 use crate::counts::Counts;
-use crate::layout::{Plan, RowCount, metrics_of, push_rows};
-use crate::like_ends::end_like;
+use crate::layout::{Plan, RowCount, push_rows};
 use crate::lines::Segment;
+use crate::parting::Step;
 use crate::remembered::{Remembered, StandingLine};
 use crate::spare::Spare;
 use crate::term_like::TermLike;
@@ -19,12 +20,12 @@ use crate::window::Window;
 use std::convert::AsStr;
 use std::mem::replace;
 
-/// A line that comes in the place of one that stands: the index of that, its text, and how many columns it takes of its last row.
+/// A line that comes in the place of one that stands: the index of that, its text, and what becomes of the one that stands.
 #[derive(Drop)]
 pub struct NewLine {
     pub at: usize,
     pub text: String,
-    pub last: usize,
+    pub turn: Turn,
 }
 
 /// What an engine remembers of its last drawing, and whether the next one may leave lines where they are.
@@ -68,7 +69,7 @@ pub fn new_lines<T: TermLike>(
     if !last.may_stay || !is_settled(last, window) {
         return None;
     }
-    compare(spare, last, frame, window)
+    compare_on(spare, last, frame, window)
 }
 
 /// Whether rows stand below no blank ones, with the cursor on the last of them, on a terminal of as many columns as then, and no kept
@@ -87,7 +88,7 @@ fn is_settled(last: Last<'_>, window: Window) -> bool
 }
 
 /// The same, of a terminal of this size on which the last drawing may stay.
-fn compare(
+fn compare_on(
     spare: &mut Spare,
     last: Last<'_>,
     frame: &[Segment],
@@ -231,7 +232,11 @@ fn compare_line(
         return false;
     }
     let rows = line.rows;
-    let place = Occupied { at, line };
+    let place = Occupied {
+        at,
+        line,
+        is_last: at + 1 == standing.len(),
+    };
     if !comes_in(&mut made.changed, spare, place, own.text, window) {
         return false;
     }
@@ -245,11 +250,12 @@ fn compare_line(
     }
 }
 
-/// A line that stands, and its index.
+/// A line that stands, its index, and whether it is the last one.
 #[derive(Clone, Copy)]
 struct Occupied<'a> {
     at: usize,
     line: &'a StandingLine,
+    is_last: bool,
 }
 
 /// Whether a text is that of a line that stands, or a new line in its place, which is added then.
@@ -278,9 +284,10 @@ fn push_new(
     window: Window,
 ) -> bool
     requires line { IsLine window.columns place.line.now }
-    ensures { IsTrue result → (n : NewLine) × (changed.new.items ≡ changed.old.items ++ n ∷ []) × IsNew window.columns place.entry.at place.entry.line.now.rows text.now n }
+    ensures { IsTrue result → (n : NewLine) × (changed.new.items ≡ changed.old.items ++ n ∷ [])
+        × IsNew window.columns place.entry.at place.entry.line.now.rows (string_bytes place.entry.line.now.text) text.now n }
 {
-    let Some(last) = last_in(place.line, text, window) else {
+    let Some(turn) = compare(place.line, text, window, place.is_last) else {
         return false;
     };
     let mut own = spare.take_text();
@@ -290,28 +297,9 @@ fn push_new(
     let line = NewLine {
         at: place.at,
         text: own,
-        last,
+        turn,
     };
     changed.push(line).is_ok()
-}
-
-/// How many columns a text takes of its last row, where it has as many rows as a line that stands. It isn't measured where only
-/// numbers at the end went on.
-fn last_in(line: &StandingLine, text: &str, window: Window) -> Option<usize>
-    requires { IsLine window.columns line.now }
-    ensures { IfSome result (λ last. (line.now.rows ≡ length (rows_of window.columns (chars text.now)))
-        × (last ≡ last_columns window.columns (chars text.now)) × IsFalse (has_wide window.columns (chars text.now))) }
-{
-    if end_like(line.text.as_str(), text) {
-        return Some(line.last);
-    }
-    let Ok(metrics) = metrics_of(text, window) else {
-        return None;
-    };
-    if metrics.height != line.rows {
-        return None;
-    }
-    Some(metrics.last_line_width)
 }
 
 /// Whether counts are the same.
@@ -335,6 +323,7 @@ pub fn put_new(lines: &mut Vec<StandingLine>, spare: &mut Spare, changed: Vec<Ne
     ensures texts { texts lines.new.items ≡ renewed (texts lines.old.items) changed.items }
     ensures in_place { (w : ℕ) → AreLines w lines.old.items → AreFitting w lines.old.items (length lines.old.items) changed.items →
         AreInPlace w lines.old.items lines.new.items }
+    ensures over { (w : ℕ) → AreFitting w lines.old.items (length lines.old.items) changed.items → AreOver w lines.old.items lines.new.items }
 {
     leave_all(lines);
     let mut changed = changed;
@@ -348,9 +337,10 @@ pub fn put_new(lines: &mut Vec<StandingLine>, spare: &mut Spare, changed: Vec<Ne
 fn leave_all(lines: &mut Vec<StandingLine>)
     ensures texts { texts lines.new.items ≡ texts lines.old.items }
     ensures in_place { (w : ℕ) → AreLines w lines.old.items → AreInPlace w lines.old.items lines.new.items }
+    ensures over { (w : ℕ) → AreOver w lines.old.items lines.new.items }
 {
     for at in 0..lines.len() {
-        lines[at].stays = true;
+        lines[at].step = Step::Leave;
     }
 }
 
@@ -358,12 +348,16 @@ fn leave_all(lines: &mut Vec<StandingLine>)
 fn put_line(lines: &mut Vec<StandingLine>, spare: &mut Spare, line: NewLine)
     requires within { line.at < length lines.old.items }
     ensures texts { texts lines.new.items ≡ renewed (texts lines.old.items) (line ∷ []) }
-    ensures in_place { (w : ℕ) (on : List StandingLine) → AreInPlace w on lines.old.items → AreFitting w on (length on) (line ∷ []) → AreInPlace w on lines.new.items }
+    ensures in_place { (w : ℕ) (on : List StandingLine) → AreInPlace w on lines.old.items → FitsIn w on (length on) line → AreInPlace w on lines.new.items }
+    ensures over { (w : ℕ) (on : List StandingLine) → AreOver w on lines.old.items → FitsIn w on (length on) line →
+        get_or (texts lines.old.items) line.at [] ≡ get_or (texts on) line.at [] → AreOver w on lines.new.items }
 {
-    let NewLine { at, text, last } = line;
+    let NewLine { at, text, turn } = line;
     let standing = &mut lines[at];
-    let before = replace(&mut standing.text, text);
-    standing.last = last;
-    standing.stays = false;
+    let old = replace(&mut standing.text, text);
+    let before = replace(&mut standing.before, old);
+    standing.last = turn.last;
+    standing.narrow = turn.narrow;
+    standing.step = turn.step;
     spare.store_text(before);
 }

@@ -3,6 +3,8 @@ ghost use Rattle.std.specs.Prelude.{◌≡◌, ◌^◌, ◌<◌, ◌⊎◌, ◌�
 ghost use Rattle.indicatif_term.specs.Calls.{TermView, Writes, move_bytes, line_bytes, clear_bytes, UP, DOWN, RIGHT, LEFT};
 ghost use Rattle.indicatif_term.specs.Resizes.{Resized, has_size};
 
+pub use crate::own_row::OwnRow;
+pub use crate::own_rows::OwnRows;
 pub use crate::term::{Term, write_whole};
 use indicatif_text::columns::Refusal;
 use std::io;

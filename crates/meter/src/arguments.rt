@@ -1,7 +1,8 @@
 //! What the arguments ask for.
 use clap::error::ErrorKind as WordsErrorKind;
 use clap::{Arg, ArgAction, ArgMatches, Command, Error, value_parser};
-use meter_parts::{Row, bytes_said, nanos_said, row_said};
+use indicatif_term::term_like::OwnRow;
+use meter_parts::{bytes_said, nanos_said, row_said};
 use std::alloc::{AllocError, AllocFailed, Global};
 use std::env::{self, Env};
 use std::io::ErrorKind;
@@ -17,6 +18,26 @@ pub struct Asked<'a> {
     pub look: Look<'a>,
     /// When it is shown.
     pub timing: Timing,
+    /// How bytes are handed on.
+    pub passing: Passing,
+}
+
+/// How bytes are handed on.
+#[derive(Clone, Copy, Drop)]
+pub struct Passing {
+    /// How many go at once at most.
+    pub block: usize,
+    /// Where it ends.
+    pub ends: Ends,
+}
+
+/// Where it ends.
+#[derive(Clone, Copy, Drop)]
+pub enum Ends {
+    /// Behind all inputs.
+    WithInputs,
+    /// After as many bytes as are to come, if that is known.
+    AtSize,
 }
 
 /// How it is shown.
@@ -26,6 +47,8 @@ pub struct Look<'a> {
     pub manner: Manner,
     /// What is counted.
     pub unit: Unit,
+    /// Which parts are shown.
+    pub parts: Parts,
     /// What stands before the numbers.
     pub name: Option<&'a str>,
     /// A template of its own.
@@ -33,7 +56,7 @@ pub struct Look<'a> {
     /// The columns of the terminal, where the machine isn't to be asked.
     pub columns: Option<u16>,
     /// The row, where others have rows too.
-    pub row: Option<Row>,
+    pub row: Option<OwnRow>,
 }
 
 /// Where it is shown.
@@ -54,8 +77,42 @@ pub enum Manner {
 pub enum Unit {
     /// Bytes.
     Bytes,
-    /// Line ends.
-    Lines,
+    /// Lines, each of which ends with this byte.
+    Lines(u8),
+}
+
+/// Which parts are shown.
+#[derive(Clone, Copy, Drop)]
+pub struct Parts {
+    /// How much went.
+    pub count: bool,
+    /// For how long.
+    pub elapsed: bool,
+    /// How fast lately.
+    pub rate: bool,
+    /// How fast on the whole.
+    pub mean: bool,
+    /// A bar, and the percent.
+    pub bar: bool,
+    /// When it will be over.
+    pub left: bool,
+}
+
+impl Parts {
+    /// All of them.
+    const ALL: Parts = Parts {
+        count: true,
+        elapsed: true,
+        rate: true,
+        mean: true,
+        bar: true,
+        left: true,
+    };
+
+    /// Whether there is none.
+    fn is_none(&self) -> bool {
+        !(self.count || self.elapsed || self.rate || self.mean || self.bar || self.left)
+    }
 }
 
 /// When it is shown, and how fast bytes go.
@@ -113,6 +170,12 @@ impl From<Error> for Unasked {
 /// A tenth of a second.
 const INTERVAL: u64 = 100_000_000;
 
+/// The version, which is that of the library's source.
+const VERSION: &str = "0.18.6";
+
+/// As many bytes as `cat` hands on at once.
+const BLOCK: usize = 131_072;
+
 /// The inputs, or an option.
 #[derive(Clone, Copy, Drop)]
 struct Choice {
@@ -139,6 +202,17 @@ enum Given {
     Row,
 }
 
+/// An option of `pv` that isn't there.
+#[derive(Clone, Copy, Drop)]
+struct Absent {
+    /// How it is given.
+    given: Given,
+    /// Its name.
+    name: &'static str,
+    /// What to say, with what is nearest.
+    instead: &'static str,
+}
+
 /// What can be asked for, in the order of the help.
 const CHOICES: &[Choice] = &[
     Choice {
@@ -149,12 +223,12 @@ const CHOICES: &[Choice] = &[
     Choice {
         name: "size",
         given: Given::Valued('s', "N"),
-        help: "How many bytes will come: 700, 10M or 10MiB (1024 x 1024 bytes each), 10MB (a million each)",
+        help: "How many bytes or lines will come: 700, 10M or 10MiB (1024 x 1024 each), 10MB (a million each)",
     },
     Choice {
         name: "rate-limit",
         given: Given::Valued('L', "N"),
-        help: "Copies at most N bytes a second",
+        help: "Copies at most N bytes a second, or lines with --lines",
     },
     Choice {
         name: "name",
@@ -182,9 +256,64 @@ const CHOICES: &[Choice] = &[
         help: "Draws on row K of N; other meters of the pipeline draw on the other rows",
     },
     Choice {
+        name: "progress",
+        given: Given::Flag('p'),
+        help: "Shows the bar and the percent; with one of -p -t -e -r -a -b nothing else is shown",
+    },
+    Choice {
+        name: "timer",
+        given: Given::Flag('t'),
+        help: "Shows for how long bytes go",
+    },
+    Choice {
+        name: "eta",
+        given: Given::Flag('e'),
+        help: "Shows the time that is left, and the time of the end",
+    },
+    Choice {
+        name: "fineta",
+        given: Given::Flag('I'),
+        help: "The same",
+    },
+    Choice {
+        name: "rate",
+        given: Given::Flag('r'),
+        help: "Shows how fast bytes went in the last seconds",
+    },
+    Choice {
+        name: "average-rate",
+        given: Given::Flag('a'),
+        help: "Shows how fast they went on the whole",
+    },
+    Choice {
+        name: "bytes",
+        given: Given::Flag('b'),
+        help: "Shows how many went",
+    },
+    Choice {
         name: "lines",
         given: Given::Flag('l'),
         help: "Counts lines, not bytes",
+    },
+    Choice {
+        name: "null",
+        given: Given::Flag('0'),
+        help: "Counts lines that end with NUL",
+    },
+    Choice {
+        name: "stop-at-size",
+        given: Given::Flag('S'),
+        help: "Ends after as many bytes as --size says",
+    },
+    Choice {
+        name: "buffer-size",
+        given: Given::Valued('B', "N"),
+        help: "Hands on at most N bytes at once (128K)",
+    },
+    Choice {
+        name: "no-splice",
+        given: Given::Flag('C'),
+        help: "Changes nothing: bytes are never spliced",
     },
     Choice {
         name: "numeric",
@@ -208,12 +337,63 @@ const CHOICES: &[Choice] = &[
     },
 ];
 
+/// What `pv` has and this program hasn't, and what to do in its place.
+const ABSENT: &[Absent] = &[
+    Absent {
+        given: Given::Flag('c'),
+        name: "cursor",
+        instead: "-c (--cursor) isn't there: --row K/N gives each meter of a pipeline its row",
+    },
+    Absent {
+        given: Given::Flag('E'),
+        name: "skip-errors",
+        instead: "-E (--skip-errors) isn't there: dd conv=sync,noerror skips what can't be read",
+    },
+    Absent {
+        given: Given::Valued('D', "SEC"),
+        name: "delay-start",
+        instead: "-D (--delay-start) isn't there: --wait counts from the first byte",
+    },
+    Absent {
+        given: Given::Valued('H', "N"),
+        name: "height",
+        instead: "-H (--height) isn't there: export LINES",
+    },
+    Absent {
+        given: Given::Valued('A', "N"),
+        name: "last-written",
+        instead: "-A (--last-written) isn't there: tee keeps what went",
+    },
+    Absent {
+        given: Given::Flag('T'),
+        name: "buffer-percent",
+        instead: "-T (--buffer-percent) isn't there: --buffer-size says how much is held",
+    },
+    Absent {
+        given: Given::Valued('d', "PID"),
+        name: "watchfd",
+        instead: "-d (--watchfd) isn't there: name the file, as meter FILE > COPY",
+    },
+    Absent {
+        given: Given::Valued('R', "PID"),
+        name: "remote",
+        instead: "-R (--remote) isn't there: end the other and begin anew",
+    },
+    Absent {
+        given: Given::Valued('P', "FILE"),
+        name: "pidfile",
+        instead: "-P (--pidfile) isn't there: sh -c 'echo $$ > FILE; exec meter' writes one",
+    },
+];
+
 /// The program's arguments, the first of which is its name.
 pub fn words_of<R: Env + AllocGlobal>(rt: &R) -> Result<Vec<String>, Unasked> {
     match env::args(rt) {
         Ok(words) => Ok(words.collect(rt.alloc())?),
         Err(e) if e.kind() == ErrorKind::OutOfMemory => Err(Unasked::Memory),
-        Err(_) => Err(Unasked::Value("the arguments can't be read")),
+        Err(_) => Err(Unasked::Value(
+            "an argument isn't UTF-8: write meter < FILE for a file of such a name",
+        )),
     }
 }
 
@@ -223,16 +403,20 @@ fn found<'a>(alloc: Global, words: &'a [String]) -> Result<ArgMatches<'a>, Error
         "Copies files or standard input to standard output, and shows the progress on standard error",
     );
     for choice in CHOICES {
-        command = command.arg(argument(alloc, choice))?;
+        let known = argument(alloc, choice.name, choice.given);
+        command = command.arg(known.help(choice.help))?;
     }
-    command.try_get_matches_from(words)
+    for absent in ABSENT {
+        let unknown = argument(alloc, absent.name, absent.given);
+        command = command.arg(unknown.hide(true))?;
+    }
+    command.version(VERSION).try_get_matches_from(words)
 }
 
-/// A choice as an argument.
-fn argument<'a>(alloc: Global, choice: &Choice) -> Arg<'a> {
-    let name = choice.name;
-    let named = Arg::new(alloc, name).help(choice.help);
-    match choice.given {
+/// An argument of this name that is given so.
+fn argument<'a>(alloc: Global, name: &'static str, given: Given) -> Arg<'a> {
+    let named = Arg::new(alloc, name);
+    match given {
         Given::Words => named.value_name("FILE").num_args(0..),
         Given::Flag(letter) => named.long(name).short(letter).action(ArgAction::SetTrue),
         Given::Valued(letter, value) => named.long(name).short(letter).value_name(value),
@@ -248,7 +432,20 @@ fn argument<'a>(alloc: Global, choice: &Choice) -> Arg<'a> {
 /// What these words ask for, the first of which is the program's name.
 pub fn asked_by<'a>(alloc: Global, words: &'a [String]) -> Result<Asked<'a>, Unasked> {
     let matches = found(alloc, words)?;
+    for absent in ABSENT {
+        if is_given(&matches, absent) {
+            return Err(Unasked::Value(absent.instead));
+        }
+    }
     asked_in(alloc, &matches)
+}
+
+/// Whether it was asked for what isn't there.
+fn is_given(matches: &ArgMatches<'_>, absent: &Absent) -> bool {
+    match absent.given {
+        Given::Flag(_) => matches.get_flag(absent.name),
+        _ => matches.get_str(absent.name).is_some(),
+    }
 }
 
 /// What is asked for by what was found.
@@ -266,7 +463,56 @@ fn asked_in<'a>(alloc: Global, matches: &ArgMatches<'a>) -> Result<Asked<'a>, Un
         )?,
         look: look_in(matches)?,
         timing: timing_in(matches)?,
+        passing: passing_in(matches)?,
     })
+}
+
+/// How bytes are to be handed on.
+fn passing_in(matches: &ArgMatches<'_>) -> Result<Passing, Unasked> {
+    let said = bytes_in(
+        matches,
+        "buffer-size",
+        "a buffer's size is a number as 700, 64K or 1MiB",
+    )?;
+    let block = match usize::try_from(said.unwrap_or(BLOCK as u64)) {
+        Ok(0) | Err(_) => return Err(Unasked::Value("a buffer of 0 bytes lets nothing go")),
+        Ok(block) => block,
+    };
+    let ends = if matches.get_flag("stop-at-size") {
+        Ends::AtSize
+    } else {
+        Ends::WithInputs
+    };
+    match (ends, unit_in(matches)) {
+        (Ends::AtSize, Unit::Lines(_)) => {
+            Err(Unasked::Value("-S counts bytes, and -l lines: head -n ends after some"))
+        }
+        _ => Ok(Passing { block, ends }),
+    }
+}
+
+/// What is to be counted.
+fn unit_in(matches: &ArgMatches<'_>) -> Unit {
+    if matches.get_flag("null") {
+        Unit::Lines(0)
+    } else if matches.get_flag("lines") {
+        Unit::Lines(b'\n')
+    } else {
+        Unit::Bytes
+    }
+}
+
+/// Which parts are to be shown: all of them where none is asked for.
+fn parts_in(matches: &ArgMatches<'_>) -> Parts {
+    let asked = Parts {
+        count: matches.get_flag("bytes"),
+        elapsed: matches.get_flag("timer"),
+        rate: matches.get_flag("rate"),
+        mean: matches.get_flag("average-rate"),
+        bar: matches.get_flag("progress"),
+        left: matches.get_flag("eta") || matches.get_flag("fineta"),
+    };
+    if asked.is_none() { Parts::ALL } else { asked }
 }
 
 /// The bytes that an option says, where it is given.
@@ -288,11 +534,8 @@ fn bytes_in(
 fn look_in<'a>(matches: &ArgMatches<'a>) -> Result<Look<'a>, Unasked> {
     Ok(Look {
         manner: manner_in(matches),
-        unit: if matches.get_flag("lines") {
-            Unit::Lines
-        } else {
-            Unit::Bytes
-        },
+        unit: unit_in(matches),
+        parts: parts_in(matches),
         name: matches.get_str("name"),
         format: matches.get_str("format"),
         columns: matches.get_one::<u16>("columns"),
@@ -314,7 +557,7 @@ fn manner_in(matches: &ArgMatches<'_>) -> Manner {
 }
 
 /// The row on which it is to be shown, if it is one.
-fn row_in(matches: &ArgMatches<'_>) -> Result<Option<Row>, Unasked> {
+fn row_in(matches: &ArgMatches<'_>) -> Result<Option<OwnRow>, Unasked> {
     let Some(text) = matches.get_str("row") else {
         return Ok(None);
     };
@@ -330,7 +573,7 @@ fn timing_in(matches: &ArgMatches<'_>) -> Result<Timing, Unasked> {
     let limit = bytes_in(
         matches,
         "rate-limit",
-        "a rate is a number of bytes a second as 700, 10M, 10MB or 1GiB",
+        "a rate is a number a second as 700, 10M, 10MB or 1GiB",
     )?;
     if limit == Some(0) {
         return Err(Unasked::Value("a rate of 0 lets nothing go"));

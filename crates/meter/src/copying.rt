@@ -1,31 +1,38 @@
 //! Inputs handed on, one after another.
-use crate::arguments::{Asked, Begins, Manner, Timing, Unit};
+use crate::arguments::{Asked, Begins, Ends, Manner, Timing, Unit};
 use crate::numbers::Numbers;
 use crate::shown::Bar;
 use indicatif::machine::MachineClock;
 use indicatif::{Clock, Refusal};
-use meter_parts::{Broken, Gauge, Pace, lines_in, pass_on};
-use std::fs::File;
-use std::io::{Error, Stdin, Stdout};
+use meter_parts::{Broken, Gauge, Pace, bytes_of_lines, lines_in, pass_on};
+use std::fs::{self, File};
+use std::io::{Error, Read, Stdin, Stdout};
+use std::os::unix::fs::MetadataExt;
 use std::rt::Files;
 use std::sync::Wait;
 use std::time::Duration;
 use std::{thread, time};
 
-/// The bytes of the buffer: as many as `cat` has.
-const BUFFER: usize = 131_072;
-
 /// The bytes in front of the buffer. The C library of Linux gives a block of this size from byte 16 of a page on, so that the
 /// buffer begins with a page, from and to which the system copies fastest.
 const FRONT: usize = 4_080;
 
-/// An input that failed: which of them, from 0, and why.
+/// An input that wasn't handed on, or not to its end: which of them, from 0, and why.
 #[derive(Clone, Copy, Drop)]
 pub struct Fault {
     /// The place among the files; 0 of standard input alone.
     pub input: usize,
     /// Why.
-    pub error: Error,
+    pub why: Why,
+}
+
+/// Why an input wasn't handed on.
+#[derive(Clone, Copy, Drop)]
+pub enum Why {
+    /// It failed.
+    Failed(Error),
+    /// It is the file that standard output goes to: it would grow as long as it is read.
+    IsOutput,
 }
 
 /// What became of the inputs.
@@ -60,15 +67,19 @@ struct Watch<'a, R: Wait + time::Clock + Copy + Drop> {
 }
 
 impl<R: Eprint + Wait + time::Clock + Copy + Drop> Gauge for Watch<'_, R> {
-    fn piece(&mut self, wanted: usize) -> usize {
+    fn piece(&mut self, bytes: &[u8]) -> usize {
         let Some(pace) = self.pace else {
-            return wanted;
+            return bytes.len();
         };
         let nanos = pace.wait(self.clock.now());
         if nanos > 0 {
             thread::sleep(self.rt, Duration::from_nanos(nanos));
         }
-        pace.piece(wanted)
+        let most = pace.piece(bytes.len());
+        match self.unit {
+            Unit::Bytes => most,
+            Unit::Lines(end) => bytes_of_lines(bytes, end, most),
+        }
     }
 
     fn went(&mut self, bytes: &[u8]) {
@@ -81,11 +92,14 @@ impl<R: Eprint + Wait + time::Clock + Copy + Drop> Gauge for Watch<'_, R> {
         }
         let count = match self.unit {
             Unit::Bytes => bytes.len() as u64,
-            Unit::Lines => lines_in(bytes),
+            Unit::Lines(end) => lines_in(bytes, end),
         };
         let _ = self.bar.inc(count);
         if let Some(pace) = &mut self.pace {
-            pace.went(bytes.len(), self.clock.now());
+            pace.went(
+                usize::try_from(count).unwrap_or(usize::MAX),
+                self.clock.now(),
+            );
         }
         if let Some(numbers) = &mut self.numbers {
             numbers.went(self.rt, self.clock.now(), count);
@@ -143,22 +157,38 @@ fn handed_on<R: Files + AllocGlobal + Eprint + Wait + time::Clock + Copy + Drop>
     size: Option<u64>,
     bar: &Bar<R>,
 ) -> Result<Copied, Refusal> {
-    let mut block = vec![in rt.alloc(); 0u8; FRONT + BUFFER]?;
+    let mut block = vec![in rt.alloc(); 0u8; asked.passing.block.saturating_add(FRONT)]?;
+    let front = FRONT.min(block.len());
     let mut watch = Watch::new(rt, bar, asked, size);
-    let copied = copy_files(rt, streams, &asked.files, &mut watch, &mut block[FRONT..])?;
+    let mut way = Way {
+        streams,
+        left: match (asked.passing.ends, size) {
+            (Ends::AtSize, Some(size)) => size,
+            _ => u64::MAX,
+        },
+        buffer: &mut block[front..],
+    };
+    let copied = copy_files(rt, &mut way, &asked.files, &mut watch)?;
     if let Some(numbers) = &mut watch.numbers {
         numbers.end(rt);
     }
     Ok(copied)
 }
 
-/// Hands these files on, or standard input where there is none, until the output fails.
+/// Where bytes come from and go to, through which buffer, and how many may go yet.
+#[derive(Drop)]
+struct Way<'b> {
+    streams: Streams,
+    left: u64,
+    buffer: &'b mut [u8],
+}
+
+/// Hands these files on, or standard input where there is none, until the output fails or all went that may.
 fn copy_files<R: Files + AllocGlobal, G: Gauge>(
     rt: &R,
-    streams: Streams,
+    way: &mut Way<'_>,
     files: &[&str],
     gauge: &mut G,
-    buffer: &mut [u8],
 ) -> Result<Copied, Refusal> {
     let mut copied = Copied {
         faults: Vec::new(rt.alloc()),
@@ -166,10 +196,10 @@ fn copy_files<R: Files + AllocGlobal, G: Gauge>(
     };
     let files = if files.is_empty() { &["-"] } else { files };
     for (input, name) in files.iter().enumerate() {
-        match copy_named(rt, streams, name, gauge, buffer) {
+        match copy_other(rt, way, name, gauge) {
             Ok(()) => {}
-            Err(Broken::Input(error)) => copied.faults.push(Fault { input, error })?,
-            Err(Broken::Output(error)) => {
+            Err(Stopped::Input(why)) => copied.faults.push(Fault { input, why })?,
+            Err(Stopped::Output(error)) => {
                 copied.output = Some(error);
                 break;
             }
@@ -178,23 +208,68 @@ fn copy_files<R: Files + AllocGlobal, G: Gauge>(
     Ok(copied)
 }
 
+/// What stopped an input.
+#[derive(Clone, Copy, Drop)]
+enum Stopped {
+    /// It.
+    Input(Why),
+    /// The output.
+    Output(Error),
+}
+
+/// Hands on the file of this name, unless it is that which standard output goes to.
+fn copy_other<R: Files, G: Gauge>(
+    rt: &R,
+    way: &mut Way<'_>,
+    name: &str,
+    gauge: &mut G,
+) -> Result<(), Stopped> {
+    if is_output(rt, name) {
+        return Err(Stopped::Input(Why::IsOutput));
+    }
+    match copy_named(rt, way, name, gauge) {
+        Ok(()) => Ok(()),
+        Err(Broken::Input(error)) => Err(Stopped::Input(Why::Failed(error))),
+        Err(Broken::Output(error)) => Err(Stopped::Output(error)),
+    }
+}
+
+/// Whether the file of this name is that which standard output goes to.
+fn is_output<R: Files>(rt: &R, name: &str) -> bool {
+    let path = if name == "-" { "/dev/stdin" } else { name };
+    match (fs::metadata(rt, path), fs::metadata(rt, "/dev/stdout")) {
+        (Ok(from), Ok(to)) => { to.is_file() && from.dev() == to.dev() && from.ino() == to.ino() }
+        _ => false,
+    }
+}
+
 /// Hands on the file of this name.
 fn copy_named<R: Files, G: Gauge>(
     rt: &R,
-    streams: Streams,
+    way: &mut Way<'_>,
     name: &str,
     gauge: &mut G,
-    buffer: &mut [u8],
 ) -> Result<(), Broken> {
-    let Streams {
-        mut input,
-        mut output,
-    } = streams;
     if name == "-" {
-        return pass_on(&mut input, &mut output, gauge, buffer);
+        return copy_from(way, way.streams.input, gauge);
     }
     match File::open(rt, name) {
-        Ok(mut file) => pass_on(&mut file, &mut output, gauge, buffer),
+        Ok(file) => copy_from(way, file, gauge),
         Err(error) => Err(Broken::Input(error)),
     }
+}
+
+/// Hands on what comes from an input, as far as it may go.
+fn copy_from<I: Read + Drop, G: Gauge>(
+    way: &mut Way<'_>,
+    input: I,
+    gauge: &mut G,
+) -> Result<(), Broken> {
+    let mut input = input.take(way.left);
+    let mut output = way.streams.output;
+    let passed = pass_on(&mut input, &mut output, gauge, way.buffer);
+    if way.left < u64::MAX {
+        way.left = input.limit();
+    }
+    passed
 }

@@ -1,7 +1,7 @@
 //! A pipe viewer: `producer | meter | consumer`, or `meter FILE .. > device`, hands its inputs on to standard output unchanged, and
 //! shows on standard error how much went, for how long, how fast in the last seconds and on the whole; with a size, which a file
 //! tells by itself, also how far it is, how long the rest will take and at what time of day it will be over. It draws ten times a
-//! second, also while nothing comes, and not at all where standard error is no terminal. docs/METER.md has its options beside those
+//! second, also while nothing comes, and not at all where standard error is no terminal. Its README.md has its options beside those
 //! of `pv`.
 //!
 //! The exit status is 0 where all bytes went; 1 where an input failed, 3 where the output did, and 4 where memory was refused, each
@@ -23,11 +23,12 @@ mod sizes;
 mod telling;
 
 use arguments::{Asked, Begins, Unasked, Unit};
-use copying::{Copied, Streams, copy_all};
+use copying::{Copied, Streams, Why, copy_all};
 use indicatif::Refusal;
 use indicatif::machine::Shares;
-use meter_parts::{Row, plain_text};
-use shown::{Bar, bar_for};
+use indicatif_term::term_like::OwnRow;
+use meter_parts::plain_text;
+use shown::{Bar, bar_for, parting_for};
 use sizes::size_of_all;
 use std::env::Env;
 use std::io::{ErrorKind, Stderr};
@@ -36,7 +37,7 @@ use std::rt::Files;
 use std::sync::Wait;
 use std::thread::join;
 use std::time::Clock;
-use telling::{tell_end, tell_until_finished};
+use telling::{Known, tell_end, tell_until_finished};
 
 fn main(rt: HostRuntime) -> ExitCode {
     let words = match arguments::words_of(&rt) {
@@ -60,7 +61,9 @@ fn main(rt: HostRuntime) -> ExitCode {
         copy_all(&rt, streams, &asked, size, &bar)
     } else {
         let copy = || copy_all(&rt, streams, &asked, size, &bar);
-        let tell = || tell_until_finished(&rt, &bar, &asked, size);
+        let parting = parting_for(&rt, rt.stderr(), &asked.look);
+        let known = Known { size, parting };
+        let tell = || tell_until_finished(&rt, &bar, &asked, known);
         // (where no thread can be made, `join` calls its second closure first, and `tell` waits for the end of `copy`)
         let ((), copied) = join(&rt, tell, copy);
         last_look(&rt, &asked, &bar);
@@ -77,7 +80,7 @@ fn size_for<R: Files>(rt: &R, asked: &Asked<'_>) -> Option<u64> {
     match (asked.size, asked.look.unit) {
         (Some(size), _) => Some(size),
         (None, Unit::Bytes) => size_of_all(rt, &asked.files),
-        (None, Unit::Lines) => None,
+        (None, Unit::Lines(_)) => None,
     }
 }
 
@@ -103,17 +106,17 @@ fn begun<R: Shares + Env + Eprint>(
     Ok(bar)
 }
 
-/// Rows for all meters that draw beside one another, below the cursor. They come by one write, since the others may draw already.
-fn make_room<R: AllocGlobal + Eprint>(rt: &R, row: Row) -> Result<(), Refusal> {
+/// As many rows above the cursor's as this meter goes up to its own. They come by one write, since the others may draw already.
+fn make_room<R: AllocGlobal + Eprint>(rt: &R, row: OwnRow) -> Result<(), Refusal> {
     let mut rows = String::new(rt.alloc());
-    for _ in 0..row.count() {
+    for _ in 0..row.below() {
         rows.push_str("\r\n")?;
     }
-    let _ = eprint!(rt; "{rows}\u{1b}[{}A", row.count());
+    let _ = eprint!(rt; "{rows}");
     Ok(())
 }
 
-/// The bar as it stands at the end, and the cursor on a row of its own below it.
+/// The bar as it stands at the end, and the cursor on a row of its own below it, or below all of them behind that of the last row.
 fn last_look<R: AllocGlobal + Env + Files + Eprint + Wait + Clock + Copy + Drop>(
     rt: &R,
     asked: &Asked<'_>,
@@ -121,11 +124,11 @@ fn last_look<R: AllocGlobal + Env + Files + Eprint + Wait + Clock + Copy + Drop>
 ) {
     let _ = bar.disable_steady_tick();
     let _ = tell_end(rt, bar);
-    let _ = bar.force_draw();
+    // (all rows are written anew, whatever another program wrote over them)
+    let _ = bar.suspend(|| ());
     let _ = match asked.look.row {
-        None => eprint!(rt; "\r\n"),
-        Some(row) if row.is_last() => eprint!(rt; "\u{1b}[{}B", row.count()),
-        Some(_) => Ok(()),
+        Some(row) if !row.is_last() => Ok(()),
+        _ => eprint!(rt; "\r\n"),
     };
 }
 
@@ -138,7 +141,10 @@ fn answered<R: AllocGlobal + Eprint>(rt: &R, asked: &Asked<'_>, copied: &Copied)
         };
         match plain_text(rt.alloc(), name) {
             Ok(name) => {
-                let _ = eprintln!(rt; "meter: {name}: {}", fault.error);
+                let _ = match fault.why {
+                    Why::Failed(error) => eprintln!(rt; "meter: {name}: {error}"),
+                    Why::IsOutput => eprintln!(rt; "meter: {name}: input file is output file"),
+                };
             }
             Err(_) => return refused(rt, &Refusal::Memory),
         }

@@ -1,24 +1,19 @@
 //! How the bytes are shown.
-use crate::arguments::{Asked, Look, Manner, Unit};
-use indicatif::machine::{MachineClock, facts_of, wants_colors};
-use indicatif::{
-    Clock, Facts, NoTracker, ProgressBar, ProgressDrawTarget, ProgressStyle, Refusal, Setup, Term,
-};
-use meter_parts::{Screen, StderrScreen, cut, plain_text};
+use crate::arguments::{Asked, Look, Manner, Parts, Unit};
+use indicatif::machine::{MachineClock, StderrTerm, facts_of, own_stderr, wants_colors};
+use indicatif::{Facts, NoTracker, ProgressBar, ProgressStyle, Refusal, Setup};
+use meter_parts::{cut, plain_text};
 use std::alloc::Global;
 use std::env::Env;
-use std::io::{BufWriter, Stderr};
+use std::io::Stderr;
 use std::sync::Wait;
 use std::time;
 
 /// A bar on standard error, which the thread that copies and the one that shows have in common.
-pub type Bar<R> = ProgressBar<StderrScreen, MachineClock<R>, R>;
+pub type Bar<R> = ProgressBar<StderrTerm, MachineClock<R>, R>;
 
-/// Terminals of fewer columns have a row for each number.
-const WIDE: u16 = 72;
-
-/// Drawings a second at most.
-const HZ: u8 = 20;
+/// Where rows have fewer columns, each number has a row.
+const WIDE: u16 = 71;
 
 /// A bar of this length or of none, shown as it is asked for; hidden where standard error is no terminal.
 ///
@@ -32,35 +27,49 @@ pub fn bar_for<R: AllocGlobal + Env + Wait + time::Clock + Copy + Drop>(
     let facts = facts_for(rt, errors, &asked.look)?;
     let style = style_for(rt.alloc(), &asked.look, size, facts.cols)?;
     let style = style.with_colors(wants_colors(rt, &errors)?)?;
-    let mut clock = MachineClock::new(*rt);
-    let Ok(writer) = BufWriter::new(rt.alloc(), errors) else {
-        return Err(Refusal::Memory);
+    let setup = Setup {
+        target: own_stderr(rt, errors, facts, asked.look.row)?,
+        clock: MachineClock::new(*rt),
     };
-    let screen = Screen::new(Term::new(writer, facts.rows, facts.cols), asked.look.row);
-    let target = ProgressDrawTarget::term(StderrScreen::new(screen), facts, HZ, clock.now())?;
-    let setup = Setup { target, clock };
     let bar = ProgressBar::styled(*rt, rt.alloc(), style, size, setup)?;
-    bar.with_prefix(no_rate(asked.look.unit))
+    bar.with_prefix(no_rate(&asked.look))
 }
 
 /// What stands for the rate before there is one.
-fn no_rate(unit: Unit) -> &'static str {
-    match unit {
+fn no_rate(look: &Look<'_>) -> &'static str {
+    match look.unit {
         Unit::Bytes => "0 B/s",
-        Unit::Lines => "0/s",
+        Unit::Lines(_) if look.parts.rate => "0/s",
+        Unit::Lines(_) => "",
     }
 }
 
-/// What is told of standard error.
+/// What parts the numbers: a space in one row, else a line end.
+pub fn parting_for<R: AllocGlobal + Env>(rt: &R, errors: Stderr, look: &Look<'_>) -> &'static str {
+    match facts_for(rt, errors, look) {
+        Ok(facts) => parting(look, facts.cols),
+        Err(_) => " ",
+    }
+}
+
+/// The same where rows have so many columns.
+fn parting(look: &Look<'_>, columns: u16) -> &'static str {
+    if columns >= WIDE || look.row.is_some() {
+        " "
+    } else {
+        "\n"
+    }
+}
+
+/// What is told of standard error: rows have one column less than the terminal, on whose last column the cursor waits.
 fn facts_for<R: AllocGlobal + Env>(
     rt: &R,
     errors: Stderr,
     look: &Look<'_>,
 ) -> Result<Facts, Refusal> {
     let mut facts = facts_of(rt, &errors)?;
-    if let Some(columns) = look.columns {
-        facts.cols = columns;
-    }
+    let columns = look.columns.unwrap_or(facts.cols);
+    facts.cols = columns.saturating_sub(1).max(1);
     if look.row.is_some() {
         facts.rows = 1;
     }
@@ -87,8 +96,73 @@ fn style_for(
     ProgressStyle::with_template(alloc, text.as_str())
 }
 
-/// The template of a bar of this length or of none: the name, what went, for how long, how fast lately and on the whole, and where
-/// there is a length how far it is.
+/// A part of the template.
+#[derive(Clone, Copy, Drop)]
+struct Field {
+    is_asked: bool,
+    text: &'static str,
+    /// How many columns it takes at most.
+    columns: u16,
+}
+
+/// The parts that stand in one row: what went, and for how long.
+fn first_fields(look: &Look<'_>) -> [Field; 2] {
+    let Parts { count, elapsed, .. } = look.parts;
+    let (text, columns) = match look.unit {
+        Unit::Bytes => ("{bytes}", 11),
+        Unit::Lines(_) => ("{human_pos}", 14),
+    };
+    [
+        Field {
+            is_asked: count,
+            text,
+            columns,
+        },
+        Field {
+            is_asked: elapsed,
+            text: "{elapsed_precise}",
+            columns: 8,
+        },
+    ]
+}
+
+/// The others: how fast lately and on the whole, and where there is a length how far it is and when it will be over. Where lines are
+/// counted both rates are the prefix, which has no decimals.
+fn other_fields(look: &Look<'_>, has_size: bool) -> [Field; 4] {
+    let Parts {
+        rate,
+        mean,
+        bar,
+        left,
+        ..
+    } = look.parts;
+    let is_bytes = matches!(look.unit, Unit::Bytes);
+    [
+        Field {
+            is_asked: rate || mean && !is_bytes,
+            text: "{prefix}",
+            columns: if is_bytes { 13 } else { 38 },
+        },
+        Field {
+            is_asked: mean && is_bytes,
+            text: "mean {bytes_per_sec}",
+            columns: 18,
+        },
+        Field {
+            is_asked: bar && has_size,
+            text: "[{wide_bar}] {percent}%",
+            columns: 12,
+        },
+        Field {
+            is_asked: left && has_size,
+            text: "{msg}",
+            columns: 13,
+        },
+    ]
+}
+
+/// The template of a bar of this length or of none: the name, and the parts that are asked for. In one row that is short, those that it
+/// has room for.
 fn push_template(
     alloc: Global,
     text: &mut String,
@@ -96,43 +170,43 @@ fn push_template(
     size: Option<u64>,
     columns: u16,
 ) -> Result<(), Refusal> {
-    let is_wide = columns >= WIDE;
-    let end = if is_wide || look.row.is_some() {
-        " "
-    } else {
-        "\n"
-    };
+    let parting = parting(look, columns);
+    let is_short = columns < WIDE && look.row.is_some();
+    let mut room = if is_short { columns } else { u16::MAX };
     if let Some(name) = look.name {
-        let room = if is_wide { columns / 8 } else { columns };
-        push_name(alloc, text, name, room)?;
-        text.push_str(end)?;
+        let most = if parting == " " { columns / 8 } else { columns };
+        push_name(alloc, text, name, most)?;
+        room = room.saturating_sub(most);
     }
-    let (count, rate) = match look.unit {
-        Unit::Bytes => ("{bytes}", "{bytes_per_sec}"),
-        Unit::Lines => ("{human_pos}", "{per_sec}"),
-    };
-    push_all(
+    let [count, elapsed] = first_fields(look);
+    push_fields(text, &[count], parting, &mut room)?;
+    push_fields(text, &[elapsed], " ", &mut room)?;
+    push_fields(
         text,
-        &[
-            count,
-            " {elapsed_precise}",
-            end,
-            "{prefix}",
-            end,
-            "mean ",
-            rate,
-        ],
-    )?;
-    match size {
-        Some(_) => push_all(text, &[end, "[{wide_bar}] {percent}%", end, "{msg}"]),
-        None => Ok(()),
-    }
+        &other_fields(look, size.is_some()),
+        parting,
+        &mut room,
+    )
 }
 
-/// These texts, one behind another.
-fn push_all(text: &mut String, parts: &[&str]) -> Result<(), Refusal> {
-    for part in parts {
-        text.push_str(part)?;
+/// These parts, as far as there is room, each behind a parting where something stands before it.
+fn push_fields(
+    text: &mut String,
+    fields: &[Field],
+    parting: &str,
+    room: &mut u16,
+) -> Result<(), Refusal> {
+    for field in fields {
+        let is_first = text.as_str().is_empty();
+        let wide = field.columns.saturating_add(if is_first { 0 } else { 1 });
+        if !field.is_asked || *room < wide {
+            continue;
+        }
+        *room -= wide;
+        if !is_first {
+            text.push_str(parting)?;
+        }
+        text.push_str(field.text)?;
     }
     Ok(())
 }

@@ -1,11 +1,11 @@
 //! How much will come.
 use std::fs::{self, File};
-use std::io::{Seek, SeekFrom};
+use std::io::{Read, Seek, SeekFrom};
 use std::os::unix::fs::FileTypeExt;
 use std::rt::Files;
 
-/// How many bytes these inputs have together, standard input where there is none; `None` where one doesn't tell. A file tells where it
-/// isn't empty, as those of /proc are, and a block device.
+/// How many bytes these inputs have together, standard input where there is none; `None` where one doesn't tell. A file tells, and a block
+/// device. One that says that it is empty, as those of /proc do, is read: it tells where nothing comes of it.
 pub fn size_of_all<R: Files>(rt: &R, files: &[&str]) -> Option<u64> {
     if files.is_empty() {
         return size_of(rt, "-");
@@ -25,10 +25,19 @@ fn size_of<R: Files>(rt: &R, name: &str) -> Option<u64> {
     };
     if told.file_type().is_block_device() {
         device_size(rt, path)
-    } else if told.is_file() && told.len() > 0 {
+    } else if told.is_file() && (told.len() > 0 || name != "-" && is_empty(rt, path)) {
         Some(told.len())
     } else {
         None
+    }
+}
+
+/// Whether nothing can be read of the file at this path.
+fn is_empty<R: Files>(rt: &R, path: &str) -> bool {
+    let mut byte = [0u8; 1];
+    match File::open(rt, path) {
+        Ok(mut file) => matches!(file.read(&mut byte), Ok(0)),
+        Err(_) => false,
     }
 }
 

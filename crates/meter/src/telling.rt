@@ -1,17 +1,19 @@
 //! What the bar is told each interval beside the count: how fast it went lately, when it will be over.
-use crate::arguments::{Asked, Begins, Timing, Unit};
+use crate::arguments::{Asked, Begins, Look, Timing, Unit};
 use crate::shown::Bar;
 use indicatif::machine::MachineClock;
-use indicatif::{Clock as Tells, Drawn, HumanBytes, HumanCount, HumanDuration, Refusal};
+use indicatif::{
+    Clock as Tells, Drawn, HumanBytes, HumanCount, HumanDuration, LastSeconds, Rate, Refusal,
+    Sample,
+};
 use jiff_core::Timestamp;
 use jiff_tz::{SystemTimeZone, TimeZoneDatabase};
-use meter_parts::{Done, Recent, TimeOfDay};
-use std::alloc::Global;
-use std::env::Env;
+use meter_parts::TimeOfDay;
+use std::env::{self, Env};
 use std::rt::Files;
 use std::sync::Wait;
-use std::thread;
 use std::time::{Clock, Duration};
+use std::{fs, thread};
 
 /// How often a thread looks whether the bar is finished.
 const SLICE: u64 = 5_000_000;
@@ -19,37 +21,54 @@ const SLICE: u64 = 5_000_000;
 /// A second.
 const SECOND: u64 = 1_000_000_000;
 
-/// Tells the bar of its rate and its end each interval, until it is finished.
+/// Where the system keeps its time zones.
+const ZONES: &str = "/usr/share/zoneinfo";
+
+/// What is known before the first byte.
+#[derive(Clone, Copy, Drop)]
+pub struct Known {
+    /// How much will come, if it is known.
+    pub size: Option<u64>,
+    /// What parts two numbers.
+    pub parting: &'static str,
+}
+
+/// Tells the bar of its rate and its end each interval, until it is finished. Once a second its rows are written anew.
 pub fn tell_until_finished<R: AllocGlobal + Env + Files + Wait + Clock + Copy + Drop>(
     rt: &R,
     bar: &Bar<R>,
     asked: &Asked<'_>,
-    size: Option<u64>,
+    known: Known,
 ) {
     let teller = Teller {
         rt,
         bar,
-        unit: asked.look.unit,
+        look: &asked.look,
         timing: asked.timing,
-        size,
+        known,
         zone: zone_seconds(rt),
     };
     let mut clock = MachineClock::new(*rt);
-    let mut recent = Recent::new(done_by(bar, clock.now()));
+    let begin = done_by(bar, clock.now());
+    let mut lately = LastSeconds::starting(begin);
+    let mut written = begin.moment;
     for _ in rt.forever() {
         if teller.is_over() {
             break;
         }
         let now = done_by(bar, clock.now());
-        recent.went_on(now);
-        let _ = teller.tell(&recent, now);
+        lately = lately.go_on(now);
+        if !teller.waits(now) {
+            let _ = teller.tell(lately, now);
+            written = teller.write_anew(written, now.moment);
+        }
     }
 }
 
 /// What is done by this moment.
-fn done_by<R: Wait + Clock + Copy + Drop>(bar: &Bar<R>, moment: u64) -> Done {
-    Done {
-        count: bar.position(),
+fn done_by<R: Wait + Clock + Copy + Drop>(bar: &Bar<R>, moment: u64) -> Sample {
+    Sample {
+        steps: bar.position(),
         moment,
     }
 }
@@ -59,9 +78,9 @@ fn done_by<R: Wait + Clock + Copy + Drop>(bar: &Bar<R>, moment: u64) -> Done {
 struct Teller<'a, R: Wait + Clock + Copy + Drop> {
     rt: &'a R,
     bar: &'a Bar<R>,
-    unit: Unit,
+    look: &'a Look<'a>,
     timing: Timing,
-    size: Option<u64>,
+    known: Known,
     zone: u64,
 }
 
@@ -83,30 +102,77 @@ impl<R: AllocGlobal + Wait + Clock + Copy + Drop> Teller<'_, R> {
         false
     }
 
-    /// Tells the bar: its prefix is the rate, its message the time that is left and the time of day of the end.
-    fn tell(&self, recent: &Recent, now: Done) -> Result<(), Refusal> {
-        if matches!(self.timing.begins, Begins::WithFirstByte) && now.count == 0 {
-            return Ok(());
+    /// Whether nothing is shown yet, since nothing came.
+    fn waits(&self, now: Sample) -> bool {
+        matches!(self.timing.begins, Begins::WithFirstByte) && now.steps == 0
+    }
+
+    /// Writes the bar's rows anew, where that was last done a second ago; when it was last done then. Any other drawing writes only what changed
+    /// of them, so what another program wrote in between would stand in the rest.
+    fn write_anew(&self, last: u64, now: u64) -> u64 {
+        if now.saturating_sub(last) < SECOND {
+            return last;
         }
-        let rate = rate_text(self.rt.alloc(), self.unit, recent.rate(now))?;
-        self.bar.set_prefix(rate.as_str())?;
-        if let Some(size) = self.size {
-            let left = recent.time_for(size.saturating_sub(now.count), now);
+        let _ = self.bar.suspend(|| ());
+        now
+    }
+
+    /// Tells the bar: its prefix is the rate, its message the time that is left and the time of day of the end.
+    fn tell(&self, lately: LastSeconds, now: Sample) -> Result<(), Refusal> {
+        let mut text = String::new(self.rt.alloc());
+        let rate = lately.rate(now);
+        self.push_rates(&mut text, rate.steps_a_second(), now.steps)?;
+        self.bar.set_prefix(text.as_str())?;
+        if let Some(size) = self.known.size {
+            let left = time_left(rate, size.saturating_sub(now.steps));
             let left = left_text(self.rt, left, self.zone)?;
             self.bar.set_message(left.as_str())?;
         }
         Ok(())
     }
+
+    /// The rate; of lines also that on the whole, which a template would show with decimals.
+    fn push_rates(&self, text: &mut String, rate: u64, count: u64) -> Result<(), Refusal> {
+        let is_own = self.look.format.is_none();
+        let parts = self.look.parts;
+        if matches!(self.look.unit, Unit::Bytes) {
+            text.write(HumanBytes(rate))?;
+            text.push_str("/s")?;
+            return Ok(());
+        }
+        if parts.rate || !is_own {
+            text.write(HumanCount(rate))?;
+            text.push_str("/s")?;
+        }
+        if parts.mean && is_own {
+            self.push_mean(text, count)?;
+        }
+        Ok(())
+    }
+
+    /// How many a second went since the start, parted from the rate.
+    fn push_mean(&self, text: &mut String, count: u64) -> Result<(), Refusal> {
+        let nanos = self.bar.elapsed();
+        let mean = Rate {
+            steps: count,
+            nanos,
+        };
+        if self.look.parts.rate {
+            text.push_str(self.known.parting)?;
+        }
+        text.push_str("mean ")?;
+        text.write(HumanCount(mean.steps_a_second()))?;
+        text.push_str("/s")?;
+        Ok(())
+    }
 }
 
-/// A rate as text.
-fn rate_text(alloc: Global, unit: Unit, rate: u64) -> Result<String, Refusal> {
-    let mut text = match unit {
-        Unit::Bytes => HumanBytes(rate).to_string(alloc)?,
-        Unit::Lines => HumanCount(rate).to_string(alloc)?,
-    };
-    text.push_str("/s")?;
-    Ok(text)
+/// The nanoseconds for so many more at this rate; none where it is none.
+fn time_left(rate: Rate, left: u64) -> Option<u64> {
+    match rate.steps {
+        0 => None,
+        _ => Some(rate.time_for(left)),
+    }
 }
 
 /// The time that is left and the time of day of the end; `stalled` where there is no rate.
@@ -162,15 +228,29 @@ fn zone_now<R: AllocGlobal + Env + Files + Clock>(rt: &R) -> Option<i32> {
     let nanos = i128::try_from(time.as_nanos()).ok()?;
     let now = Timestamp::from_nanosecond(nanos).ok()?;
     match SystemTimeZone::read(rt) {
-        Ok(zone) => seconds_in(&zone, rt.alloc(), now),
+        Ok(zone) => seconds_in(&zone, &named_zone(rt), now),
         Err(_) => None,
     }
 }
 
+/// The zone whose name `TZ` says, as a database; an empty one where the system has no such zone.
+fn named_zone<R: AllocGlobal + Env + Files>(rt: &R) -> TimeZoneDatabase {
+    let mut zones = TimeZoneDatabase::new(rt.alloc());
+    let Ok(said) = env::var(rt, "TZ") else {
+        return zones;
+    };
+    let name = said.as_str().trim_start_matches(':');
+    if let Ok(path) = format!(in rt.alloc(); "{ZONES}/{name}") {
+        if let Ok(bytes) = fs::read(rt, path.as_str()) {
+            let _ = zones.insert(name, bytes.as_slice());
+        }
+    }
+    zones
+}
+
 /// How many seconds a zone is ahead of UTC at this moment, where it is known.
-fn seconds_in(zone: &SystemTimeZone, alloc: Global, now: Timestamp) -> Option<i32> {
-    let database = TimeZoneDatabase::new(alloc);
-    match zone.time_zone(&database) {
+fn seconds_in(zone: &SystemTimeZone, zones: &TimeZoneDatabase, now: Timestamp) -> Option<i32> {
+    match zone.time_zone(zones) {
         Ok(told) => Some(told.to_offset(now).seconds),
         Err(_) => None,
     }

@@ -1,3 +1,2 @@
 mod PassingLemmas
 mod PlainLemmas
-mod ScreenLemmas

@@ -2,8 +2,6 @@
 //!
 //! - `passing`: bytes handed on from a reader to a writer (`pass_on`, `Gauge`).
 //! - `plain`: a text that a terminal can't take for a command (`plain_text`).
-//! - `screen`: a terminal whose width isn't known for sure (`Screen`). `stderr_screen`: one on standard error (`StderrScreen`).
-//! - `recent`: how fast it went lately (`Recent`).
 //! - `pace`: how fast bytes may go (`Pace`).
 //! - `said`: numbers that options say, and texts that are shown.
 #![tactic(auto)]
@@ -11,15 +9,9 @@
 mod pace;
 mod passing;
 mod plain;
-mod recent;
 mod said;
-mod screen;
-mod stderr_screen;
 
 pub use pace::Pace;
 pub use passing::{Broken, Gauge, pass_on};
 pub use plain::{cut, plain_text};
-pub use recent::{Done, Recent};
-pub use said::{TimeOfDay, bytes_said, lines_in, nanos_said, row_said};
-pub use screen::{Row, Screen};
-pub use stderr_screen::StderrScreen;
+pub use said::{TimeOfDay, bytes_of_lines, bytes_said, lines_in, nanos_said, row_said};

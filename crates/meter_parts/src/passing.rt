@@ -18,8 +18,8 @@ pub enum Broken {
 
 /// What is told of the bytes as they go on, and holds them up. Nothing that it does changes a byte.
 pub trait Gauge {
-    /// How many of so many bytes are to go at once. It may wait first. Of 0 one goes all the same.
-    fn piece(&mut self, wanted: usize) -> usize;
+    /// How many of these bytes are to go at once. It may wait first. Of 0 one goes all the same.
+    fn piece(&mut self, bytes: &[u8]) -> usize;
 
     /// These bytes went.
     fn went(&mut self, bytes: &[u8]);
@@ -109,7 +109,7 @@ fn write_some<W: Write, G: Gauge>(output: &mut W, gauge: &mut G, bytes: &[u8]) -
     ensures went { WriteAppends (W.contents output.old) (W.contents output.new) result bytes.now }
     ensures ends { IfErr result (λ error. IsFinal error) }
 {
-    let piece = gauge.piece(bytes.len()).clamp(1, bytes.len());
+    let piece = gauge.piece(bytes).clamp(1, bytes.len());
     match output.write(&bytes[..piece]) {
         Ok(0) => Err(Error::from(ErrorKind::WriteZero)),
         Ok(n) => {

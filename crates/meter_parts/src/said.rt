@@ -1,7 +1,7 @@
 //! Numbers that options say, and texts that are shown.
 ghost use Rattle.std.specs.Prelude.{◌<◌, IfSome};
 
-use crate::screen::Row;
+use indicatif_term::term_like::OwnRow;
 use std::fmt::{self, Display, Formatter};
 use std::time::Duration;
 
@@ -53,14 +53,28 @@ pub fn nanos_said(text: &str) -> Option<u64>
 }
 
 /// The row that a text says: `2/3` is the second of three.
-pub fn row_said(text: &str) -> Option<Row> {
+pub fn row_said(text: &str) -> Option<OwnRow> {
     let (number, of) = text.split_once('/')?;
-    Row::new(number.parse().ok()?, of.parse().ok()?)
+    OwnRow::new(number.parse().ok()?, of.parse().ok()?)
 }
 
-/// How many lines end in these bytes.
-pub fn lines_in(bytes: &[u8]) -> u64 {
-    bytes.iter().filter(|byte| **byte == b'\n').count() as u64
+/// How many lines end in these bytes, each by the byte `end`.
+pub fn lines_in(bytes: &[u8], end: u8) -> u64 {
+    bytes.iter().filter(|byte| **byte == end).count() as u64
+}
+
+/// How many bytes so many lines have at the front of these, all of them where fewer end there.
+pub fn bytes_of_lines(bytes: &[u8], end: u8, lines: usize) -> usize {
+    let mut left = lines;
+    for (at, byte) in bytes.iter().enumerate() {
+        if left == 0 {
+            return at;
+        }
+        if *byte == end {
+            left -= 1;
+        }
+    }
+    bytes.len()
 }
 
 /// A time of day, from its seconds: `14:05:09`. The options of a hole, as a width, are ignored.

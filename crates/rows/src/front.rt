@@ -9,7 +9,7 @@
 //!   these where they are wrapped. `polls`: those that are polled.
 //! - `lists`: lists that are wrapped. `loops`: loops with a bar of their own. `places`: the place that moves and seeks show.
 //! - `environment`: what an environment says of a terminal. `on_pane`: a board on a terminal of another size than it was told.
-//!   `metered`: the same on the terminal of `meter`. `pane`: the terminal of another size.
+//!   `pane`: that terminal. `plain`: a hidden bar as plain lines.
 mod bars;
 mod beside;
 mod bytes;
@@ -21,10 +21,10 @@ mod fronts;
 mod history;
 mod lists;
 mod loops;
-mod metered;
 mod on_pane;
 mod pane;
 mod places;
+mod plain;
 pub mod playing;
 mod polls;
 mod readings;

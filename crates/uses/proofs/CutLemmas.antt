@@ -8,8 +8,7 @@ use Rattle.unicode_width.specs.Width.{char_width}
 use Rattle.unicode_width.proofs.Computing.{unicode_width}
 use Rattle.indicatif_text.specs.Columns.{rows_of, visible, has_wide}
 use Rattle.indicatif_text.specs.declared.refusal.Drawn.{Drawn}
-use Rattle.indicatif_text.proofs.PrintedLemmas.{printed_is_plain}
-use Rattle.std.specs.Int.{IsInRange}
+use Rattle.indicatif_text.specs.ColumnLaws.{PrintedIsPlain}
 use Rattle.indicatif_term.specs.Frames.{logged_lines}
 use Rattle.indicatif_term.specs.Screen.{blank_screen}
 use Rattle.indicatif_term.specs.Lists.{all_rows, drawn, logged, cleared, shown_rows, lines_of, fitting, grouped}
@@ -23,7 +22,7 @@ use Rattle.indicatif_bar.specs.Commands.{BarRecord, Command}
 use Rattle.indicatif_board.specs.Boards.{BoardState, Call, Log, Answer, Drew, opening_board}
 use Rattle.indicatif_board.specs.Multi.{board_sizing}
 use Rattle.indicatif_board.specs.PlainBoardLaws.{IsPlainCall}
-use Rattle.uses.proofs.PlainLemmas.{first_name, first_plain, small, machine}
+use Rattle.uses.proofs.PlainLemmas.{first_name, first_plain, second_name, second_plain, printed_plain, small, machine}
 
 abbrev pub short_name : List ℕ
 short_name = codes "b"
@@ -66,18 +65,22 @@ pub none_above : (let s = resized 3 4 (blank_screen 4 10) in take s.row s.rows �
 unfolding resized recut char_width
 none_above = refl
 
-short_plain : IsPlainText short_name
-short_plain = printed_is_plain short_name (All-from_recursion (IsInRange 0x20 0x7E) short_name ((omega arith, omega arith), tt))
+short_plain : PrintedIsPlain → IsPlainText short_name
+short_plain law = printed_plain law short_name ((omega arith, omega arith), tt)
 
 -- each of the calls
 abbrev pub log_of : {K : Type 0} → List ℕ → List (Call (BarRecord K) (Command K) × ℕ)
 log_of text = (Log text, 0) ∷ []
 
-log_plain : {K : Type 0} (text : List ℕ) → All IsPlainText (text ∷ []) → logged_lines text ≡ text ∷ [] → All (λ call. IsPlainCall {K = K} call.0) (log_of text)
-log_plain {K} text plain one = All-from_recursion (λ call. IsPlainCall {K = K} call.0) (log_of text) (subst (All IsPlainText) (sym one) plain, tt)
+module _ (law : PrintedIsPlain) {K : Type 0} (m : Tracking K) where
+  log_plain : (text : List ℕ) → All IsPlainText (text ∷ []) → logged_lines text ≡ text ∷ [] → All (λ call. IsPlainCall m call.0) (log_of text)
+  log_plain text plain one = All-from_recursion (λ call. IsPlainCall m call.0) (log_of text) (subst (All IsPlainText) (sym one) plain, tt)
 
-pub first_log_plain : {K : Type 0} → All (λ call. IsPlainCall {K = K} call.0) (log_of first_name)
-first_log_plain = log_plain first_name (All-from_recursion IsPlainText (first_name ∷ []) (first_plain, tt)) refl
+  pub first_log_plain : All (λ call. IsPlainCall m call.0) (log_of first_name)
+  first_log_plain = log_plain first_name (All-from_recursion IsPlainText (first_name ∷ []) (first_plain law, tt)) refl
 
-pub short_log_plain : {K : Type 0} → All (λ call. IsPlainCall {K = K} call.0) (log_of short_name)
-short_log_plain = log_plain short_name (All-from_recursion IsPlainText (short_name ∷ []) (short_plain, tt)) refl
+  pub short_log_plain : All (λ call. IsPlainCall m call.0) (log_of short_name)
+  short_log_plain = log_plain short_name (All-from_recursion IsPlainText (short_name ∷ []) (short_plain law, tt)) refl
+
+  pub second_log_plain : All (λ call. IsPlainCall m call.0) (log_of second_name)
+  second_log_plain = log_plain second_name (All-from_recursion IsPlainText (second_name ∷ []) (second_plain law, tt)) refl

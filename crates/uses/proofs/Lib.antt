@@ -1,3 +1,4 @@
+mod BytesLemmas
 mod CutLemmas
 mod EngineLemmas
 mod ExactLemmas

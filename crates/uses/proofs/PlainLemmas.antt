@@ -15,10 +15,9 @@ use Rattle.indicatif_term.specs.Pictures.{row_text}
 use Rattle.indicatif_term.specs.Terminal.{blank_terminal}
 use Rattle.indicatif_term.specs.Memory.{MemoryTerm}
 use Rattle.indicatif_bar.specs.Machines.{Target, Machine, Leads, done_by, drawn_by}
-use Rattle.indicatif_text.proofs.PrintedLemmas.{printed_is_plain}
+use Rattle.indicatif_text.specs.ColumnLaws.{PrintedIsPlain}
 use Rattle.indicatif_bar.specs.StyleLaws.{IsPlainText}
-use Rattle.indicatif_bar.specs.PlainLaws.{ArePlainTrackers}
-use Rattle.indicatif_bar.specs.Trackers.{Tracking, writes_nothing}
+use Rattle.indicatif_bar.specs.Trackers.{Tracking}
 use Rattle.indicatif_bar.specs.Commands.{BarRecord, Command}
 use Rattle.indicatif_board.specs.Boards.{BoardState, Call, Log, Answer, Drew, board, opening_board}
 use Rattle.indicatif_board.specs.BoardBars.{board_bars}
@@ -66,22 +65,20 @@ module _ {K : Type 0} (m : Tracking K) where
 
 -- ---- such names are plain
 
-pub printed_plain : (text : List ℕ) → AllByRecursion (IsInRange 0x20 0x7E) text → IsPlainText text
-printed_plain text all = printed_is_plain text (All-from_recursion (IsInRange 0x20 0x7E) text all)
+pub printed_plain : PrintedIsPlain → (text : List ℕ) → AllByRecursion (IsInRange 0x20 0x7E) text → IsPlainText text
+printed_plain law text all = law text (All-from_recursion (IsInRange 0x20 0x7E) text all)
 
-pub first_plain : IsPlainText first_name
-first_plain = printed_plain first_name ((omega arith, omega arith), ((omega arith, omega arith), ((omega arith, omega arith), ((omega arith, omega arith), ((omega arith, omega arith), tt)))))
+pub first_plain : PrintedIsPlain → IsPlainText first_name
+first_plain law = printed_plain law first_name ((omega arith, omega arith), ((omega arith, omega arith), ((omega arith, omega arith), ((omega arith, omega arith), ((omega arith, omega arith), tt)))))
 
-second_plain : IsPlainText second_name
-second_plain = printed_plain second_name ((omega arith, omega arith), ((omega arith, omega arith), ((omega arith, omega arith), ((omega arith, omega arith), ((omega arith, omega arith), tt)))))
+pub second_plain : PrintedIsPlain → IsPlainText second_name
+second_plain law =
+    printed_plain law second_name ((omega arith, omega arith), ((omega arith, omega arith), ((omega arith, omega arith), ((omega arith, omega arith), ((omega arith, omega arith), tt)))))
 
 -- the calls
 abbrev pub name_logs : {K : Type 0} → List (Call (BarRecord K) (Command K) × ℕ)
 name_logs = (Log first_name, 0) ∷ (Log second_name, 0) ∷ []
 
-pub logs_plain : {K : Type 0} → All (λ call. IsPlainCall {K = K} call.0) name_logs
-logs_plain {K} = All-from_recursion (λ call. IsPlainCall {K = K} call.0) name_logs
-    (All-from_recursion IsPlainText (first_name ∷ []) (first_plain, tt), (All-from_recursion IsPlainText (second_name ∷ []) (second_plain, tt), tt))
-
-pub nothing_plain : {K : Type 0} → ArePlainTrackers (writes_nothing {K = K})
-nothing_plain k p now tab = printed_plain [] tt
+pub logs_plain : PrintedIsPlain → {K : Type 0} (m : Tracking K) → All (λ call. IsPlainCall m call.0) name_logs
+logs_plain law m = All-from_recursion (λ call. IsPlainCall m call.0) name_logs
+    (All-from_recursion IsPlainText (first_name ∷ []) (first_plain law, tt), (All-from_recursion IsPlainText (second_name ∷ []) (second_plain law, tt), tt))

@@ -1,8 +1,8 @@
 -- What stands above once a name was logged, whatever is done then and whatever fails.
-use Rattle.std.proofs.Common.{◌≡◌, ℕ, Bool, List, [], ◌∷◌, ◌++◌, length, map, take, drop, replicate, flat_map, refl, sym, ◌∙◌, ap, subst, append_assoc, append-nil, Option, Some, None, false}
+use Rattle.std.proofs.Common.{◌≡◌, ℕ, ◌+◌, arith, Bool, List, [], ◌∷◌, ◌++◌, length, map, take, drop, replicate, flat_map, refl, sym, ◌∙◌, ap, subst, append_assoc, append-nil, Option, Some, None, false}
 use Rattle.std.specs.List.{list_any, take-map}
 use Rattle.std.specs.Str.{chars}
-use Rattle.std.proofs.Math.Seq.{take-append_seam}
+use Rattle.std.proofs.Math.Seq.{take-append_seam, take-length}
 use Rattle.std.proofs.Math.Utf8.{encode}
 use Rattle.std.proofs.lemmas.List.{map-append, length-map, take-append-drop}
 use Rattle.unicode_width.specs.Width.{char_width}
@@ -15,6 +15,8 @@ use Rattle.indicatif_term.specs.Frames.{text_lines, logged_lines}
 use Rattle.indicatif_term.specs.Lists.{Lists, BarLines, all_rows, live_rows, drawn, logged, cleared, shown_rows, lines_of, fitting, grouped}
 use Rattle.indicatif_term.specs.Pictures.{row_text, picture_text}
 use Rattle.indicatif_term.specs.Screen.{Screen}
+use Rattle.indicatif_term.specs.Shows.{Placed, RowsStay, safe_rows}
+use Rattle.indicatif_term.specs.Terminal.{Terminal, after}
 use Rattle.indicatif_bar.specs.Commands.{BarRecord}
 use Rattle.indicatif_bar.specs.Machines.{Machine, Leads, drawn_by}
 use Rattle.indicatif_bar.specs.Runs.{Runs, AllPlain, Headline, broke}
@@ -33,6 +35,19 @@ headline_on m calls answers v (Some w) s new next run told head plain =
     let p = head plain in
     let same : w ≡ v = cc in
     (p.0, p.1, subst (λ u. Paints u p.0 (list_any (broke m) answers) (m.lists s) (m.lists next)) same p.2)
+
+-- rows above that a new terminal shows stay, after each byte of what is painted
+pub above_stays_at : (v v' : TermView) (broken : Bool) (l l' : Lists) (p : Paints v v' broken l l') (t : Terminal) → Placed v.columns v.rows l t × (safe_rows l t ≡ 0 + length l.above) → (k : ℕ) →
+    take (length l.above) (after t (take k p.bytes)).screen.rows ≡ take (length l.above) t.screen.rows
+above_stays_at v v' broken l l' p t placed k =
+    let safe : safe_rows l t ≡ length l.above = omega (arith, placed.1) in
+    subst (λ n. RowsStay n t p.bytes) safe (p.stays t placed.0) k
+
+-- and behind the last
+pub above_stays : (v v' : TermView) (broken : Bool) (l l' : Lists) (p : Paints v v' broken l l') (t : Terminal) → Placed v.columns v.rows l t × (safe_rows l t ≡ 0 + length l.above) →
+    take (length l.above) (after t p.bytes).screen.rows ≡ take (length l.above) t.screen.rows
+above_stays v v' broken l l' p t placed =
+    ap (λ xs. take (length l.above) (after t xs).screen.rows) (sym (take-length p.bytes)) ∙ above_stays_at v v' broken l l' p t placed (length p.bytes)
 
 -- a log leaves no failed lists
 pub logged_sound : (w h : ℕ) (bottom : Bool) (text : List (List ℕ)) (frame : List BarLines) (l : Lists) → (logged w h bottom text frame l).failed ≡ false

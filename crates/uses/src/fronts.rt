@@ -88,7 +88,7 @@ pub fn doubled<R: Threads + Sync, P: Moves + Drop>(
 
 /// Each number of each piece doubled, in order, by threads that count for a shared bar; `ZeroPieces` and `Memory` alone are refused.
 pub fn doubled_pieces<
-    R: Threads + Sync,
+    R: Threads + Wait + Sync,
     G: Gate,
     T: TermLike + Drop,
     C: Clock + Drop,

@@ -4,6 +4,7 @@
 //! - `texts`: a line's rows, an amount and a range as texts, and what is no template.
 //! - `drawings`: what a terminal shows after one drawing.
 //! - `runs`: what a terminal shows after a list of calls of a bar.
+//! - `rows`: the same where rows are left to the terminal.
 //! - `boards`: what a terminal shows after a list of calls of a board.
 //! - `engines`: what engines show of fixed lines, and how often a limiter allows at once.
 //! - `orders`: which bars stand in the order of a board.
@@ -16,7 +17,7 @@
 //! - `sizes`: that another size takes no memory where nothing stands.
 //! - `programs`: what a program prints, where its words and its input are known.
 //! - `sums`: what threads add up to.
-//! - `warnings`: that a warning on a board is one log of its line.
+//! - `warnings`: that a warning on a board is one log of its line, and that a line stands above the bars or elsewhere.
 #![tactic(auto)]
 
 pub mod answers;
@@ -31,6 +32,7 @@ pub mod loops;
 pub mod orders;
 pub mod plain;
 pub mod programs;
+pub mod rows;
 pub mod runs;
 pub mod sizes;
 pub mod sums;

@@ -1,19 +1,21 @@
 //! What stands where the texts are plain, with no premise on what the calls lead to.
-ghost use Rattle.std.specs.Prelude.{◌≡◌, ◌∷◌, [], ℕ, List, Some, map, replicate, All, IfOk, string_bytes, codes};
+ghost use Rattle.std.specs.Prelude.{◌≡◌, ◌≤◌, ◌∷◌, [], ℕ, List, Some, map, take, replicate, All, IfOk, IfSome, string_bytes, codes};
 ghost use Rattle.indicatif_term.specs.Calls.{TermView};
 ghost use Rattle.indicatif_term.specs.Engines.{Paints, is_failure};
 ghost use Rattle.indicatif_term.specs.Frames.{logged_lines};
 ghost use Rattle.indicatif_term.specs.Memory.{view_of};
+ghost use Rattle.indicatif_term.specs.Pictures.{picture_text};
+ghost use Rattle.indicatif_term.specs.Terminal.{after, blank_terminal};
 ghost use Rattle.indicatif_bar.specs.Commands.{BarRecord};
 ghost use Rattle.indicatif_bar.specs.Lone.{LoneState};
 ghost use Rattle.indicatif_bar.specs.LoneBars.{LoneIsIn, lone_known, lone_timed, record_of};
-ghost use Rattle.indicatif_bar.specs.PlainLaws.{ArePlainTrackers, IsPlainLoneCall};
+ghost use Rattle.indicatif_bar.specs.PlainLaws.{IsPlainLoneCall};
 ghost use Rattle.indicatif_bar.specs.StyleLaws.{IsPlainText};
 ghost use Rattle.indicatif_bar.specs.Trackers.{writes_nothing};
 ghost use Rattle.indicatif_board.specs.Boards.{End, Given, Insert, New};
 ghost use Rattle.indicatif_board.specs.BoardValues.{id_of};
 ghost use Rattle.indicatif_board.specs.Calls.{timed};
-ghost use Rattle.indicatif_board.specs.Multi.{LeadsBy};
+ghost use Rattle.indicatif_board.specs.Multi.{LeadsBy, terminal_of};
 ghost use Rattle.indicatif_board.specs.PlainBoardLaws.{IsPlainCall};
 ghost use Rattle.uses.specs.Plain.{HasPlainTexts};
 
@@ -30,11 +32,11 @@ use indicatif_board::multi::{BarId, Board, Call, Candidate};
 use indicatif_term::draw_target::ProgressDrawTarget;
 use indicatif_term::in_memory::InMemoryTerm;
 use indicatif_term::laws::{
-    a_new_terminal_is_an_opening, what_is_shown_is_read, where_a_terminal_stands,
+    a_new_terminal_is_an_opening, any_cut, what_is_shown_is_read, where_a_terminal_stands,
 };
-use indicatif_term::term_like::TermLike;
+use indicatif_term::term_like::{Term, TermLike};
 use indicatif_text::columns::{Drawn, Moment, Refusal};
-use indicatif_text::laws::template_or_refused;
+use indicatif_text::laws::{columns, template_or_refused};
 use std::alloc::Global;
 
 /// Two names logged on a new terminal of 4 rows and 10 columns, and the texts of the rows that stand then: they, and empty ones.
@@ -52,6 +54,7 @@ pub fn names_logged(alloc: Global) -> Result<Vec<String>, Refusal>
     );
     let _one = board.println("a.txt", 0)?;
     let _other = board.println("b.txt", 0)?;
+    columns();
     a_new_terminal_is_an_opening();
     what_a_board_run_reads::<NoTracker>();
     plain_texts_give_plain_runs::<NoTracker>();
@@ -81,6 +84,7 @@ pub fn names_cut(alloc: Global) -> Result<Vec<String>, Refusal>
     let _one = board.println("a.txt", 0)?;
     board.resize(4, 3)?;
     let _other = board.println("b", 0)?;
+    columns();
     a_new_terminal_is_an_opening();
     scripts_of_a_board::<NoTracker>();
     plain_texts_give_plain_runs::<NoTracker>();
@@ -156,7 +160,7 @@ pub fn name_stands<K: ProgressTracker>(
     bar: BarState<K>,
     calls: Vec<(LoneCall<K>, Moment)>,
 ) -> Result<Vec<String>, Refusal>
-    ensures { ArePlainTrackers K.means → HasPlainTexts bar → All (λ call. IsPlainLoneCall call.0) (map lone_timed calls.items) →
+    ensures { HasPlainTexts K.means bar → All (λ call. IsPlainLoneCall K.means call.0) (map lone_timed calls.items) →
         IfOk result (λ texts. (others : List (List ℕ)) × (map (λ text. string_bytes text) texts.items ≡ codes "a.txt" ∷ others)) }
 {
     let term = InMemoryTerm::new(alloc, 4, 10)?;
@@ -165,6 +169,7 @@ pub fn name_stands<K: ProgressTracker>(
     let _style = record.style();
     let _logged = bar.println("a.txt", 0)?;
     let _answers = bar.run(calls)?;
+    columns();
     a_new_terminal_is_an_opening();
     plain_texts_give_plain_lone_runs::<K>();
     where_a_terminal_stands();
@@ -185,7 +190,7 @@ pub fn name_stands_on<K: ProgressTracker>(
     alloc: Global,
     calls: Vec<(Call<K>, Moment)>,
 ) -> Result<Vec<String>, Refusal>
-    ensures { ArePlainTrackers K.means → All (λ call. IsPlainCall call.0) (map timed calls.items) →
+    ensures { All (λ call. IsPlainCall K.means call.0) (map timed calls.items) →
         IfOk result (λ texts. (others : List (List ℕ)) × (map (λ text. string_bytes text) texts.items ≡ codes "a.txt" ∷ others)) }
 {
     let term = InMemoryTerm::new(alloc, 4, 10)?;
@@ -196,6 +201,7 @@ pub fn name_stands_on<K: ProgressTracker>(
     );
     let _logged = board.println("a.txt", 0)?;
     let _answers = board.run(calls)?;
+    columns();
     a_new_terminal_is_an_opening();
     plain_texts_give_plain_runs::<K>();
     where_a_terminal_stands();
@@ -209,6 +215,48 @@ pub fn name_stands_on<K: ProgressTracker>(
     }
 }
 
+/// The bytes of two logs on a new board behind a writer, whose terminal has 4 rows and 10 columns; and how many of them the first log
+/// wrote. A new terminal that gets them has the first name in its first row after each byte from there on.
+///
+/// Refused: `Memory`.
+pub fn name_between_bytes(alloc: Global) -> Result<(usize, Vec<u8>), Refusal>
+    ensures { IfOk result (λ r. (k : ℕ) → r.0 ≤ k →
+        (others : List (List ℕ)) × (picture_text (after (blank_terminal 4 10) (take k r.1.items)).screen ≡ codes "a.txt" ∷ others)) }
+{
+    let writer = Vec::new(alloc);
+    let term = Term::new(writer, 4, 10);
+    let mut board: Board<NoTracker, Term<Vec<u8>>> = Board::new(
+        alloc,
+        ProgressDrawTarget::term_like(term),
+        0,
+    );
+    let _one = board.println("a.txt", 0)?;
+    let first = bytes_of(alloc, &board)?;
+    let _other = board.println("b.txt", 0)?;
+    let all = bytes_of(alloc, &board)?;
+    any_cut();
+    columns();
+    a_new_terminal_is_an_opening();
+    plain_texts_give_plain_runs::<NoTracker>();
+    where_a_terminal_stands();
+    what_is_shown_is_read();
+    let slice = first.as_slice();
+    Ok((slice.len(), all))
+}
+
+/// What the terminal of a board has got.
+fn bytes_of(alloc: Global, board: &Board<NoTracker, Term<Vec<u8>>>) -> Result<Vec<u8>, Refusal>
+    ensures { IfOk result (λ bytes. IfSome (terminal_of board.now) (λ term. term.writer.items ≡ bytes.items)) }
+{
+    match board.term() {
+        Some(term) => {
+            let bytes = Vec::from_slice(alloc, term.writer().as_slice())?;
+            Ok(bytes)
+        }
+        None => Err(Refusal::Memory),
+    }
+}
+
 /// Logs a text above a bar that is lent. Whatever was done with the bar before: where its texts, its trackers' and this one are plain,
 /// the call paints what the bar's rows come to.
 pub fn log_above_lent<K: ProgressTracker, T: TermLike + Drop>(
@@ -216,7 +264,7 @@ pub fn log_above_lent<K: ProgressTracker, T: TermLike + Drop>(
     text: &str,
     now: Moment,
 ) -> Result<Drawn, Refusal>
-    ensures { ArePlainTrackers K.means → HasPlainTexts (record_of bar.old) → All IsPlainText (logged_lines text.now) →
+    ensures { HasPlainTexts K.means (record_of bar.old) → All IsPlainText (logged_lines text.now) →
         (v : TermView) → lone_known T.view bar.old ≡ Some v →
         (s : LoneState (BarRecord K)) × (next : LoneState (BarRecord K)) × LoneIsIn bar.old s × LoneIsIn bar.new next
         × (v' : TermView) × (lone_known T.view bar.new ≡ Some v') × Paints v v' (is_failure result) s.lists next.lists }

@@ -5,6 +5,7 @@ use bars_run::cases::prints;
 use bars_run::laws::what_is_printed;
 use bars_run::run_bars;
 use indicatif_text::columns::Refusal;
+use indicatif_text::laws::columns;
 use std::alloc::Global;
 
 /// What `bars run 4 10` prints of a bar that says `x`, with a name logged above it: the name and the bar, and nothing else.
@@ -32,6 +33,7 @@ fn print_name(alloc: Global, words: &[String], input: &[u8], out: &mut Vec<u8>) 
     requires input { input.now ≡ codes "add x\ntick 1\nlog a.txt\n" }
     ensures printed { result ≡ 0 → out.new.items ≡ out.old.items ++ codes "a.txt\nx\n" }
 {
+    columns();
     what_is_printed();
     prints();
     let mut err = Vec::new(alloc);

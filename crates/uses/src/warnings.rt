@@ -1,9 +1,11 @@
-//! That a warning on a board is one log of its line, and nothing else.
-ghost use Rattle.std.specs.Prelude.{◌≡◌, ◌⊎◌, Err, codes};
+//! That a warning on a board is one log of its line, and nothing else; and that a line stands above the bars or elsewhere.
+ghost use Rattle.std.specs.Prelude.{◌≡◌, ◌⊎◌, ◌++◌, ◌∷◌, [], Ok, Err, codes};
+ghost use Rattle.std.specs.Io.KnownBytes.{Appends};
 ghost use Rattle.indicatif_board.specs.Boards.{Log, says};
 ghost use Rattle.indicatif_board.specs.Bridge.{bridge_bytes};
 ghost use Rattle.indicatif_board.specs.Multi.{LeadsBy, RecordsStay, board_id_of};
 
+use indicatif::written_if_hidden;
 use indicatif_bar::style::ProgressTracker;
 use indicatif_board::bridge::emit;
 use indicatif_board::multi::Board;
@@ -11,6 +13,7 @@ use indicatif_term::term_like::TermLike;
 use indicatif_text::columns::{Drawn, Moment, Refusal};
 use log::Level;
 use std::alloc::Global;
+use std::io::Write;
 
 /// Warns above the bars of a board that the disk is low: the line `WARN  low disk` is logged, or memory was refused for it and
 /// nothing has changed; each bar's record is as before.
@@ -26,4 +29,20 @@ pub fn warn_of_low_disk<K: ProgressTracker, T: TermLike + Drop>(
     ensures board_id { board_id_of board.new ≡ board_id_of board.old }
 {
     emit(alloc, board, Level::Warn, "low disk", now)
+}
+
+/// Says a line above the bars of a board, or in a writer where they are hidden. After `Yes` the line was logged, and the writer is as before;
+/// after `Hidden` the writer got it, if it tells its bytes. So a line is lost only where the call is refused.
+pub fn say<K: ProgressTracker, T: TermLike + Drop, W: Write>(
+    alloc: Global,
+    board: &mut Board<K, T>,
+    line: &str,
+    now: Moment,
+    out: &mut W,
+) -> Result<Drawn, Refusal>
+    ensures above { result ≡ Ok Drawn.Yes → LeadsBy K.means T.view board.old board.new (Log line.now) now (says (Ok Drawn.Yes)) × (out.new ≡ out.old) }
+    ensures written { result ≡ Ok Drawn.Hidden → Appends (W.contents out.old) (W.contents out.new) (line.now ++ 0x0a ∷ []) }
+{
+    let drawn = board.println(line, now);
+    written_if_hidden(alloc, drawn, line, out)
 }

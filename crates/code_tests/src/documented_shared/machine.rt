@@ -1,14 +1,17 @@
 //! What is asked of the machine.
 use crate::checks::Granted;
 use indicatif::machine::{
-    MachineClock, Shares, StderrBar, StderrBoard, StderrSetup, StreamTerm, TerminalSetup, facts_of,
-    on_stderr, sized_stderr, sized_target, style_on_stderr, told_setup, wants_colors,
+    MachineClock, Shares, StderrBar, StderrBoard, StderrSetup, StreamTerm, TerminalSetup,
+    UntilGone, facts_of, on_stderr, own_stderr, sized_stderr, sized_target, style_on_stderr,
+    told_setup, wants_colors,
 };
 use indicatif::{
-    BarState, Drawn, Facts, InMemoryTerm, LoneBar, MultiProgress, NoTracker, OwnRows, ProgressBar,
-    ProgressDrawTarget, ProgressIterator, ProgressStyle, Refusal, Resize, Term, TermLike,
+    BarState, Drawn, Facts, InMemoryTerm, LoneBar, MultiProgress, NoTracker, OwnRow, OwnRows,
+    ProgressBar, ProgressDrawTarget, ProgressIterator, ProgressStyle, Refusal, Resize, Term,
+    TermLike,
 };
-use std::io::{Stderr, Stdout};
+use std::io::{BufWriter, Stderr, Stdout};
+use std::process::Abort;
 use std::thread::sleep;
 use std::time::Duration;
 
@@ -51,9 +54,62 @@ fn rows_of_their_own(rt: HostRuntime) {
     let term = OwnRows::new(Term::new(writer, 24, 79));
     let target = ProgressDrawTarget::term(term, facts, 20, now).granted(rt);
     holds!(rt; target.is_hidden());
+    let writer = BufWriter::new(alloc, UntilGone::new(rt.stderr())).granted(rt);
+    let mut term = Term::new(writer, 24, 80);
+    holds!(rt; term.resize(24, 79).is_ok());
     let own = OwnRows::new(InMemoryTerm::new(alloc, 2, 3).granted(rt));
     let text = format!(in alloc; "{own:?}").granted(rt);
     holds!(rt; text.as_str().starts_with("OwnRows { term: InMemoryTerm { "));
+}
+
+/// Two letters, and nothing of a synchronized update; the same on the second of three rows, which goes up by one and back, and empties its row
+/// behind the told columns before that; and a target on standard error that is told one column less than the terminal has, where it is one.
+#[test]
+fn rows_beside_others(rt: HostRuntime) {
+    let rt = &rt;
+    let writer: Vec<u8> = Vec::new(rt.alloc());
+    let term = OwnRows::new(Term::new(writer, 24, 79)).unsynchronized();
+    let plain = "\u{1b}[?7lab\u{1b}[?7h\u{1b}[9999C ";
+    holds!(rt; drawn(rt, term).as_slice() == plain.as_bytes());
+    let writer: Vec<u8> = Vec::new(rt.alloc());
+    let row = OwnRow::new(2, 3); // the second of three
+    let row = row.expect(rt, "a row");
+    let term = OwnRows::on_row(Term::new(writer, 1, 79), row);
+    let beside =
+        "\u{1b}[?2026h\u{1b}[?7l\u{1b}[1A\rab\u{1b}[?7h\r\u{1b}[79C\u{1b}[K\u{1b}[1B\u{1b}[9999C \u{1b}[?2026l";
+    holds!(rt; drawn(rt, term).as_slice() == beside.as_bytes());
+    let mut facts = facts_of(rt, &rt.stderr()).granted(rt);
+    facts.cols = 59; // of 60
+    let hides = facts.hides();
+    let target = own_stderr(rt, rt.stderr(), facts, None).granted(rt);
+    same!(rt; target.is_hidden(), hides);
+}
+
+/// A row that is left for the one above is emptied behind the told columns, and the cursor goes on in its column. A cursor that was at the front
+/// of a row is there when the drawing has ended.
+#[test]
+fn rows_that_are_left(rt: HostRuntime) {
+    let rt = &rt;
+    let writer: Vec<u8> = Vec::new(rt.alloc());
+    let mut own = OwnRows::new(Term::new(writer, 24, 79)).unsynchronized();
+    own.write_str("ab").granted(rt);
+    own.move_cursor_up(1).granted(rt);
+    own.write_str("c").granted(rt);
+    own.write_str("\r").granted(rt);
+    own.move_cursor_down(1).granted(rt);
+    own.flush().granted(rt);
+    let up = "\u{1b}[?7lab\r\u{1b}[79C\u{1b}[K\u{1b}[1A\r\u{1b}[2Cc\r";
+    let down = "\r\u{1b}[79C\u{1b}[K\u{1b}[1B\u{1b}[?7h\r";
+    let wanted = format!(in rt.alloc(); "{up}{down}").granted(rt);
+    holds!(rt; own.term().writer().as_slice() == wanted.as_bytes());
+}
+
+/// The bytes of a drawing of two letters.
+fn drawn<R: Abort>(rt: &R, term: OwnRows<Term<Vec<u8>>>) -> Vec<u8> {
+    let mut own = term;
+    own.write_str("ab").granted(rt);
+    own.flush().granted(rt);
+    own.term().writer().clone().granted(rt)
 }
 
 /// How many bytes the last spinner text of a style has: it is a space.
@@ -130,13 +186,14 @@ fn shared_bars_on_standard_error(rt: HostRuntime) {
     holds!(rt; copy(&bar).is_ok());
     work(rt, &bar, 2).granted(rt);
     same!(rt; bar.position(), 3);
+    let is_gone = bar.with_term(|term| term.is_some_and(|shown| shown.is_gone()));
+    holds!(rt; !is_gone);
     let setup = on_stderr(rt).granted(rt);
     let is_hidden = setup.target.is_hidden();
     let board = board_on(*rt, setup).expect(rt, "granted");
     same!(rt; board.is_hidden(), is_hidden);
-    board.clear().granted(rt);
     board
-        .set_draw_target(sized_stderr(rt, 50, 132).granted(rt))
+        .move_to(sized_stderr(rt, 50, 132).granted(rt))
         .granted(rt);
     holds!(rt; board.is_hidden());
 }

@@ -150,7 +150,8 @@ fn characters(alloc: Global, numbers: &mut Numbers) -> Result<String, Refusal> {
             2 if at > 0 => "a\u{308}",
             3 => "\u{1b}[31mr\u{1b}[0m",
             4 => " ",
-            5 | 6 => "b",
+            5 => "b",
+            6 => "\u{1b}[36mb\u{1b}[34md\u{1b}[0m\u{1b}[0m",
             7 => "c",
             _ => "d",
         })?;

@@ -10,7 +10,7 @@ use Rattle.indicatif_bar.specs.Trackers.{Tracking}
 use Rattle.indicatif_bar.specs.Commands.{BarRecord, Command, FinishUsingStyle}
 use Rattle.indicatif_bar.specs.Progress.{Progress, is_finished}
 use Rattle.indicatif_bar.specs.Lone.{LoneState, LoneCall, Obey}
-use Rattle.indicatif_bar.specs.LoneBars.{LoneIsIn, LoneLeadsBy, LoneSuspends, CallDone, record_of, lone_terminal}
+use Rattle.indicatif_bar.specs.LoneBars.{LoneIsIn, LoneLeadsBy, CallDone, record_of, lone_terminal}
 use Rattle.indicatif_bar.specs.declared.state.commands.Change.{Change as Changed}
 use Rattle.indicatif_bar.specs.declared.lone.LoneBar.{LoneBar}
 use Rattle.indicatif_board.specs.Boards.{Drop}
@@ -25,12 +25,6 @@ abbrev pub LoneIsSomewhere : {K T : Type 0} → LoneBar K T → Type 0
 LoneIsSomewhere {K} b = (s : LoneState (BarRecord K)) × LoneIsIn b s
 
 module _ {K T : Type 0} (m : Tracking K) (view : T → TermView) where
-  -- a bar that was in a state was suspended at this moment, with this answer: its record is as before, and its step
-  pub record SuspendedBy (old new : LoneBar K T) (now : ℕ) (answer : Result Drawn Refusal) : Type 0 where
-    pub was : LoneIsSomewhere old
-    pub bar : record_of new ≡ record_of old
-    pub leads : LoneSuspends m view old new now answer
-
   -- a bar that was in a state made a call at this moment, with this answer: what became of its record, and its step
   pub record MadeBy (old new : LoneBar K T) (call : LoneCall (Command K)) (now : ℕ) (answer : Result Drawn Refusal) : Type 0 where
     pub was : LoneIsSomewhere old
@@ -53,11 +47,6 @@ module _ {K T C : Type 0} where
       (IsTrue (is_finished (record_of old).progress) → new ≡ Alone old)
       × (IsFalse (is_finished (record_of old).progress) → (bar : LoneBar K T) × (new ≡ Alone bar) × Makes m view old bar (Obey FinishUsingStyle) answer)
   BarEnds m view (Member member) answer new = (new ≡ Member member) × SharedDraws K (Drop (id_of member.id)) answer
-
-  -- the same of a bar that is suspended
-  abbrev pub BarSuspends : Tracking K → (T → TermView) → AnyBar K T C → Result Drawn Refusal → AnyBar K T C → Type 0
-  BarSuspends m view (Alone old) answer new = (bar : LoneBar K T) × (new ≡ Alone bar) × (now : ℕ) × SuspendedBy m view old bar now answer
-  BarSuspends m view (Member member) answer new = (new ≡ Member member) × CanDraw answer
 
   -- what was read of the bar's state: alone, of the one there; on a board, of some bar's, if the board has the bar
   abbrev pub ReadsBy : {A : Type 0} → (Progress → A → Type 0) → AnyBar K T C → Option A → Type 0
@@ -84,14 +73,17 @@ module _ {K T C : Type 0} where
   IsOf R (Alone bar) change = R (record_of bar).progress change
   IsOf R (Member member) change = ((shown : Progress) × R shown change) ⊎ (change ≡ unchanged)
 
-  -- another target was asked for: alone, the bar is as it was, on that; a board's bar stands alone on that, and the others were
-  -- drawn, or it stays where it was
+  -- a board's bar was to have another target: it stands alone on that, and the others were drawn; or it stays where it was
+  abbrev pub BarLeaves : AnyBar K T C → Option T → Result Drawn Refusal → AnyBar K T C → Type 0
+  BarLeaves old term answer new =
+      ((bar : LoneBar K T) × (new ≡ Alone bar) × (lone_terminal bar ≡ term) × CanDraw answer)
+      ⊎ ((e : Refusal) × (answer ≡ Err e) × (new ≡ old) × IsMissing e)
+
+  -- another target was asked for: alone, the bar is as it was, on that; a board's bar leaves its board for it
   abbrev pub BarTurns : AnyBar K T C → Option T → Result Drawn Refusal → AnyBar K T C → Type 0
   BarTurns (Alone old) term answer new =
       (bar : LoneBar K T) × (new ≡ Alone bar) × (record_of bar ≡ record_of old) × (lone_terminal bar ≡ term) × (answer ≡ Ok Limited)
-  BarTurns (Member member) term answer new =
-      ((bar : LoneBar K T) × (new ≡ Alone bar) × (lone_terminal bar ≡ term) × CanDraw answer)
-      ⊎ ((e : Refusal) × (answer ≡ Err e) × (new ≡ Member member) × IsMissing e)
+  BarTurns (Member member) term answer new = BarLeaves (Member member) term answer new
 
   -- a text of the bar isn't told: there is no memory for it, or the board hasn't the bar
   abbrev pub IsUntold : AnyBar K T C → Refusal → Type 0

@@ -9,7 +9,7 @@ use Rattle.indicatif_term.specs.Lists.{opening_lists}
 use Rattle.indicatif_term.specs.DrawTargets.{term_of, limiter_of}
 use Rattle.indicatif_bar.specs.Trackers.{Tracking}
 use Rattle.indicatif_bar.specs.Commands.{BarRecord}
-use Rattle.indicatif_board.specs.Boards.{BoardState, Id, Location, Entrant, Answer, Given, Done, Drew, Refused, Clear, Redraw, Insert, Remove, drawn_of}
+use Rattle.indicatif_board.specs.Boards.{BoardState, Id, Location, Entrant, Answer, Given, Done, Drew, Refused, Clear, Insert, Remove, drawn_of}
 use Rattle.indicatif_board.specs.Multi.{LeadsBy, IsIn, RecordsStay, terminal_of, moves_of}
 use Rattle.indicatif_board.specs.Recorded.{Record, AddsCall}
 use Rattle.indicatif_board.specs.declared.multi.Board.{Board}
@@ -43,12 +43,6 @@ module _ {K T : Type 0} (m : Tracking K) (view : T → TermView) where
   abbrev pub BoardTakes : AnyBoard K T → Location → Entrant (BarRecord K) → ℕ → Result Id Refusal → AnyBoard K T → Type 0
   BoardTakes old at entrant now taken new = (told : Answer) × (taken ≡ given_by told) × BoardMakes m view old (Insert at entrant) now told new
 
-  -- one that was suspended was cleared and drawn again at the same moment; or the clear was refused, and nothing drawn
-  abbrev pub BoardSuspends : AnyBoard K T → ℕ → Result Drawn Refusal → AnyBoard K T → Type 0
-  BoardSuspends old now drawn new =
-      ((cleared : Drawn) × (between : AnyBoard K T) × BoardDraws old Clear now (Ok cleared) between × BoardDraws between Redraw now drawn new)
-      ⊎ ((e : Refusal) × (drawn ≡ Err e) × BoardDraws old Clear now (Err e) new)
-
 module _ {K T : Type 0} where
   -- a board is on another target: that is its terminal, its bars' records are as before, and nothing was drawn there yet
   pub record StandsOn (target : Option (T × Option Limiter)) (old new : Board K T) : Type 0 where
@@ -72,3 +66,10 @@ module _ {K T : Type 0} where
   abbrev pub BoardMoves : AnyBoard K T → Bool → Result Unit Refusal → AnyBoard K T → Type 0
   BoardMoves (Open old) on answer new = (answer ≡ Ok tt) × (b : Board K T) × (new ≡ Open b) × MovesSo on old b
   BoardMoves (Recorded old) on answer new = (answer ≡ Err RecordedTarget) × (new ≡ Recorded old)
+
+-- another target was asked for, and the rows to be taken back: a board without a history was cleared with this answer, and is on that target
+-- then; one with its history refuses it, and stays
+abbrev pub BoardMovesTo : {K T : Type 0} → Tracking K → (T → TermView) → AnyBoard K T → Option (T × Option Limiter) → ℕ → Result Drawn Refusal → AnyBoard K T → Type 0
+BoardMovesTo {K} {T} m view old target now answer new =
+    ((between : AnyBoard K T) × (turned : Result Unit Refusal) × BoardDraws m view old Clear now answer between × BoardTurns between target turned new)
+    ⊎ ((answer ≡ Err RecordedTarget) × (new ≡ old))

@@ -1,28 +1,30 @@
 //! The terminal behind standard error.
 ghost use Rattle.std.specs.Prelude.{◌≡◌, false};
-ghost use Rattle.indicatif.specs.StderrTerm.{quiet_rows, stderr_target};
+ghost use Rattle.indicatif.specs.StderrTerm.{stderr_target};
 
-use crate::own_rows::OwnRows;
+use crate::machine::until_gone::UntilGone;
 use indicatif_term::draw_target::ProgressDrawTarget;
-use indicatif_term::term_like::{Resize, Term, TermLike};
+use indicatif_term::term_like::{OwnRows, Resize, Term, TermLike};
 use indicatif_text::columns::Refusal;
 use std::io::{self, BufWriter, Stderr};
 
 /// The terminal behind standard error: an `OwnRows` over a `Term` behind a buffer, in a type without parameters. A proof compares it by
-/// its name alone. So each function that calls a bar on it is proved faster than one whose bar is on a `StreamTerm`.
+/// its name alone. So each function that calls a bar on it is proved faster than one whose bar is on a `StreamTerm`. It tells what that
+/// `OwnRows` tells: of standard error nothing but its size and its faults, since that tells no bytes. Once the terminal has gone, what is
+/// written is dropped, and each call succeeds (`UntilGone`).
 ///
 /// ```
 /// type Logger<R> = Logged<R, LogBridge<StderrTerm, MachineClock<HostRuntime>, R>>;
 /// ```
 #[derive(Drop)]
 pub struct StderrTerm {
-    rows: OwnRows<Term<BufWriter<Stderr>>>,
+    rows: OwnRows<Term<BufWriter<UntilGone<Stderr>>>>,
 }
 
 impl StderrTerm {
     /// A target on an `OwnRows` over standard error, as one on a `StderrTerm`.
     pub(crate) fn target(
-        target: ProgressDrawTarget<OwnRows<Term<BufWriter<Stderr>>>>,
+        target: ProgressDrawTarget<OwnRows<Term<BufWriter<UntilGone<Stderr>>>>>,
     ) -> ProgressDrawTarget<StderrTerm>
         ensures { result ≡ stderr_target target }
     {
@@ -33,10 +35,19 @@ impl StderrTerm {
             }
         }
     }
+
+    /// Whether a drawing has found that the terminal has gone.
+    ///
+    /// ```
+    /// let is_gone = bar.with_term(|term| term.is_some_and(|shown| shown.is_gone()));
+    /// ```
+    pub fn is_gone(&self) -> bool {
+        self.rows.term().writer().get_ref().is_gone()
+    }
 }
 
 impl TermLike for StderrTerm {
-    ghost view = { λ shown. quiet_rows shown.rows };
+    ghost view = { λ shown. ⟦<OwnRows<Term<BufWriter<UntilGone<Stderr>>>> as TermLike>⟧.view shown.rows };
 
     fn width(&self) -> u16 {
         self.rows.width()
@@ -83,7 +94,7 @@ impl TermLike for StderrTerm {
     }
 }
 
-/// As an `OwnRows` takes it: no byte is written. Where `COLUMNS` said no number, tell it one column less than there are.
+/// As an `OwnRows` takes it: no byte is written. Of one that `on_stderr` made, tell it one column less than there are.
 impl Resize for StderrTerm {
     ghost takes_memory = { false };
 

@@ -1,5 +1,5 @@
 //! What threads answer at the items of a list.
-ghost use Rattle.std.specs.Prelude.{◌≡◌, ◌≤◌, ◌<◌, ◌++◌, [], ℕ, Err, IfOk, IfErr, OnOk, IsOkAnd, length, All};
+ghost use Rattle.std.specs.Prelude.{◌≡◌, ◌≤◌, ◌<◌, [], ℕ, Err, IfOk, IfErr, OnOk, length, All};
 ghost use Rattle.std.specs.List.{AllZip};
 ghost use Rattle.std.specs.Fn.{FnReturnsAt};
 ghost use Rattle.std.specs.Thread.{IsSync, IsSend};
@@ -10,7 +10,7 @@ ghost use Rattle.indicatif.specs.Parallel.{Blocks};
 use crate::moves::Moves;
 use crate::parallel::claims::Claims;
 use crate::parallel::course::Course;
-use crate::parallel::piece::{Piece, in_order};
+use crate::parallel::piece::{Piece, in_order, together};
 use indicatif_text::columns::Refusal;
 use rayon::current_num_threads;
 use std::alloc::{AllocError, Global};
@@ -96,19 +96,6 @@ fn pieces_of_all<
     { own_pieces(alloc, items, claims, f, course) };
     let (rest, (made, course)) = join(rt, theirs, mine);
     (together(made, rest), course)
-}
-
-// The pieces of both.
-fn together<A: Drop>(
-    first: Result<Vec<Piece<A>>, AllocError>,
-    second: Result<Vec<Piece<A>>, AllocError>,
-) -> Result<Vec<Piece<A>>, AllocError>
-    ensures { IfOk result (λ made. IsOkAnd first (λ front. IsOkAnd second (λ back. made.items ≡ front.items ++ back.items))) }
-{
-    let mut made = first?;
-    let mut rest = second?;
-    made.append(&mut rest)?;
-    Ok(made)
 }
 
 // The answers at the parts that the thread with the bar took. The bar is moved behind each part.

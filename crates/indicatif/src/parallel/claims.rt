@@ -59,6 +59,18 @@ impl Claims {
         Some(Part { start, end })
     }
 
+    /// The place of the next item, if one is left, where items are taken one by one.
+    pub fn take_one(&self) -> Option<usize>
+        ensures { IfSome result (λ place. place < self.now.items) }
+    {
+        let place = self.taken.fetch_add(1, Ordering::SeqCst) as usize;
+        if place < self.items {
+            Some(place)
+        } else {
+            None
+        }
+    }
+
     /// The items of this part were met.
     pub fn tell(&self, part: &Part) {
         let count = part.end - part.start;

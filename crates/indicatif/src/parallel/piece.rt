@@ -1,5 +1,5 @@
 //! Answers at a part of a list, and how they are put in order.
-ghost use Rattle.std.specs.Prelude.{◌≡◌, ◌⊎◌, ◌≤◌, ◌++◌, [], IfOk, All, length, take, drop, ◌-◌};
+ghost use Rattle.std.specs.Prelude.{◌≡◌, ◌⊎◌, ◌≤◌, ◌++◌, [], IfOk, IsOkAnd, All, length, take, drop, ◌-◌};
 ghost use Rattle.std.specs.List.{AllZip};
 ghost use Rattle.std.specs.Fn.{FnReturnsAt};
 ghost use Rattle.indicatif.specs.Inside.ListPieces.{IsPiece};
@@ -58,7 +58,7 @@ impl<A: Drop> Piece<A> {
 }
 
 /// The answers of `f` at items.
-fn answers_of<T, A: Drop, F: Fn(&T) -> A>(
+pub fn answers_of<T, A: Drop, F: Fn(&T) -> A>(
     alloc: Global,
     items: &[T],
     f: &F,
@@ -70,6 +70,19 @@ fn answers_of<T, A: Drop, F: Fn(&T) -> A>(
     for item in items {
         made.push_reserved(f(item));
     }
+    Ok(made)
+}
+
+/// What two threads made, that of the first in front.
+pub fn together<X: Drop>(
+    first: Result<Vec<X>, AllocError>,
+    second: Result<Vec<X>, AllocError>,
+) -> Result<Vec<X>, AllocError>
+    ensures { IfOk result (λ made. IsOkAnd first (λ front. IsOkAnd second (λ back. made.items ≡ front.items ++ back.items))) }
+{
+    let mut made = first?;
+    let mut rest = second?;
+    made.append(&mut rest)?;
     Ok(made)
 }
 

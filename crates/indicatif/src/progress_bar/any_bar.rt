@@ -3,6 +3,7 @@ ghost use Rattle.std.specs.Prelude.{◌≡◌, Some, None, MatchResult, IfOk, If
 ghost use Rattle.std.specs.Fn.{FnOnceReturnsAt};
 ghost use Rattle.indicatif.specs.Inside.AnyBar.{ReadsBy, LooksSo, IsUnfinished, IsUntold};
 
+use crate::progress_bar::board_cell::SharedBoard;
 use crate::progress_bar::member_bar::{MemberBar, told_of};
 use indicatif_bar::lone::LoneBar;
 use indicatif_bar::state::{BarState, ProgressState};
@@ -11,7 +12,7 @@ use indicatif_board::multi::{BarId, Candidate};
 use indicatif_term::term_like::TermLike;
 use indicatif_text::columns::{Clock, Refusal};
 use std::alloc::Global;
-use std::sync::Wait;
+use std::sync::{Arc, Wait};
 
 /// A bar alone, or on a board.
 #[derive(Drop)]
@@ -143,6 +144,14 @@ impl<K: Tracks, T: TermLike + Drop, C: Clock + Drop> AnyBar<K, T, C> {
         match self {
             AnyBar::Alone(_) => None,
             AnyBar::Member(member) => Some(member.id),
+        }
+    }
+
+    /// Its board; `None` where it stands alone, or another owner of the board finds no memory.
+    pub fn board(&self) -> Option<SharedBoard<K, T, C>> {
+        match self {
+            AnyBar::Alone(_) => None,
+            AnyBar::Member(member) => Arc::try_clone(&member.board).ok(),
         }
     }
 

@@ -1,11 +1,12 @@
 //! A board without its history, or with it.
-ghost use Rattle.std.specs.Prelude.{◌≡◌, ℕ, Some, None, IfOk, IfErr, Ok, Err, MatchResult};
+ghost use Rattle.std.specs.Prelude.{◌≡◌, ◌⊎◌, ℕ, Some, None, IfOk, IfErr, IfSome, Ok, Err, MatchResult};
 ghost use Rattle.indicatif_bar.specs.Commands.{command_of};
 ghost use Rattle.indicatif_board.specs.Boards.{Tell, Remove, Refused, drawn_of};
 ghost use Rattle.indicatif_board.specs.BoardValues.{id_of};
 ghost use Rattle.indicatif_board.specs.Calls.{call_of, answer_of};
-ghost use Rattle.indicatif.specs.Fronts.{CanDraw};
-ghost use Rattle.indicatif.specs.Inside.AnyBoard.{BoardMakes, BoardDraws, BoardRemoves, BoardSuspends, BoardTurns, BoardMoves, refused_with};
+ghost use Rattle.indicatif_board.specs.Recorded.{IsOneRun};
+ghost use Rattle.indicatif.specs.Fronts.{CanClear};
+ghost use Rattle.indicatif.specs.Inside.AnyBoard.{BoardMakes, BoardDraws, BoardRemoves, BoardTurns, BoardMoves, BoardMovesTo, refused_with};
 ghost use Rattle.indicatif.specs.Inside.SharedBoards.{SharedAnswers, SharedDraws, given_by};
 
 use indicatif_bar::state::{BarCommand, BarState};
@@ -96,6 +97,21 @@ impl<K: Tracks, T: TermLike + Drop> AnyBoard<K, T> {
         }
     }
 
+    /// Takes the bars' rows back, whatever that answers, and is on another target from now on; the old one is given up. A board with its
+    /// history keeps its rows and its target.
+    #[tactic(auto, unfolding(crate::specs::Inside::SharedBoards::SharedDraws))]
+    pub fn move_to(&mut self, target: ProgressDrawTarget<T>, now: Moment) -> Result<Drawn, Refusal>
+        ensures moves { BoardMovesTo K.means T.view self.old target now result self.new }
+        ensures can { CanClear result ⊎ (result ≡ Err Refusal.RecordedTarget) }
+    {
+        if let AnyBoard::Recorded(_) = self {
+            return Err(Refusal::RecordedTarget);
+        }
+        let cleared = self.draw(Call::Clear, now);
+        let _ = self.set_draw_target(target);
+        cleared
+    }
+
     /// Whether draws write over what stands, by moves of the cursor alone. A board with its history isn't told.
     pub fn set_move_cursor(&mut self, on: bool) -> Result<(), Refusal>
         ensures moves { BoardMoves self.old on result self.new }
@@ -118,30 +134,16 @@ impl<K: Tracks, T: TermLike + Drop> AnyBoard<K, T> {
         }
     }
 
-    /// The board with its history; `None` where it keeps none.
-    pub fn as_recorded(&self) -> Option<&Recorded<K, T>> {
+    /// The board with its history, which is one run; `None` where it keeps none.
+    pub fn as_recorded(&self) -> Option<&Recorded<K, T>>
+        ensures run { IfSome result (λ r. IsOneRun K.means r.now) }
+    {
         match self {
             AnyBoard::Open(_) => None,
-            AnyBoard::Recorded(record) => Some(record),
-        }
-    }
-
-    /// Clears the board, calls `f`, and draws the board again at the same moment; where the clear was refused, `f` is called all
-    /// the same.
-    pub fn suspend<F: FnOnce() -> A, A>(&mut self, now: Moment, f: F) -> (A, Result<Drawn, Refusal>)
-        requires { F.pre f }
-        ensures value { F.post f result.0 }
-        ensures made { BoardSuspends K.means T.view self.old now result.1 self.new }
-        ensures drawn { CanDraw result.1 }
-    {
-        let cleared = self.draw(Call::Clear, now);
-        let value = f();
-        match cleared {
-            Ok(_) => {
-                let drawn = self.draw(Call::Redraw, now);
-                (value, drawn)
+            AnyBoard::Recorded(record) => {
+                record.replays();
+                Some(record)
             }
-            Err(refusal) => (value, Err(refusal)),
         }
     }
 }

@@ -68,7 +68,16 @@ impl<T: TermLike + Drop, C: Clock + Drop, R: Wait + Clone + Drop, K: Tracks> Pro
         }
     }
 
-    /// At this position, which doesn't count for the rate: for work that was begun before. Asks for no draw.
+    /// At this position, for work that was begun before. Asks for no draw.
+    ///
+    /// The rate counts from 0 all the same: at 80, and five steps in the next second, it is 85 a second. `tick` and then `reset_eta` begin
+    /// the count here.
+    ///
+    /// ```
+    /// let bar = bar.with_position(80)?.with_elapsed(60_000_000_000)?; // one minute ago, 80 steps
+    /// bar.tick()?;
+    /// bar.reset_eta()?; // five steps in the next second are 5 a second
+    /// ```
     ///
     /// Refused: on a board alone, as each command there; this owner is given up.
     pub fn with_position(self, position: u64) -> Result<Self, Refusal>
@@ -80,7 +89,8 @@ impl<T: TermLike + Drop, C: Clock + Drop, R: Wait + Clone + Drop, K: Tracks> Pro
         }
     }
 
-    /// So many nanoseconds after its start.
+    /// So many nanoseconds after its start. Neither the rate nor the time left counts them; where a position comes with them, see
+    /// `with_position`.
     ///
     /// Refused: `ElapsedBeyondClock`, where they are more than the moment; this owner is given up.
     pub fn with_elapsed(self, nanos: u64) -> Result<Self, Refusal>

@@ -2,7 +2,8 @@
 ghost use Rattle.std.specs.Prelude.{◌≡◌, IfErr};
 
 use crate::progress_bar::ProgressBar;
-use crate::progress_bar::locked_bar::{LockedBar, SharedBar};
+use crate::progress_bar::locked_bar::LockedBar;
+use crate::progress_bar::shared_bar::SharedBar;
 use indicatif_bar::lone::LoneBar;
 use indicatif_bar::state::BarState;
 use indicatif_bar::style::{ProgressStyle, Tracks};

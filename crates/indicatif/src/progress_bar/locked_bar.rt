@@ -1,5 +1,5 @@
 //! What the lock of a shared bar keeps.
-ghost use Rattle.std.specs.Prelude.{◌≡◌, ◌<◌, ℕ, Some, None, Ok, Err, true, false, IsTrue, IsFalse, IfOk, IfErr};
+ghost use Rattle.std.specs.Prelude.{◌≡◌, ◌≢◌, ◌<◌, ◌-◌, ℕ, Some, None, Ok, Err, true, false, IsTrue, IsFalse, IfOk, IfErr, MatchResult};
 ghost use Rattle.std.specs.Fn.{FnOnceReturnsAt};
 ghost use Rattle.indicatif_term.specs.DrawTargets.{term_of};
 ghost use Rattle.indicatif_bar.specs.Commands.{Update, SetTicker, SetPosition, FinishUsingStyle, command_of};
@@ -8,16 +8,21 @@ ghost use Rattle.indicatif_bar.specs.LoneBars.{record_of};
 ghost use Rattle.indicatif_bar.specs.Progress.{eta, per_sec, duration, elapsed, is_finished};
 ghost use Rattle.indicatif_bar.specs.declared.state.commands.Change.{Change as Changed};
 ghost use Rattle.indicatif.specs.Fronts.{IsMissing, MemoryOrForeign};
-ghost use Rattle.indicatif.specs.Inside.AnyBar.{MadeBy, BarMakes, BarSuspends, BarEnds, BarTurns, IsOf, IsUnfinished, Measures};
+ghost use Rattle.indicatif.specs.Inside.Requests.{BarTries, BarHalts, BarRedraws, BarMovesTo, IfMade, LeavesSo, MatchTried};
+ghost use Rattle.indicatif.specs.Inside.AnyBar.{MadeBy, BarMakes, BarEnds, BarLeaves, BarTurns, IsOf, IsUnfinished, Measures};
 ghost use Rattle.indicatif.specs.Inside.LockedBar.{OwnerJoins, OwnerLeaves};
 ghost use Rattle.indicatif.specs.Inside.PositionChange.{position_command};
 ghost use Rattle.indicatif.specs.Inside.TextCommand.{text_call};
 ghost use Rattle.indicatif.specs.Seek.{after_move};
 
+mod told;
+
 use crate::progress_bar::any_bar::AnyBar;
-use crate::progress_bar::locked_board::{LockedBoard, SharedBoard};
-use crate::progress_bar::member_bar::MemberBar;
+use crate::progress_bar::board_cell::{BoardCell, SharedBoard};
+use crate::progress_bar::member_bar::{Leaving, MemberBar};
+use crate::progress_bar::pause::Pause;
 use crate::progress_bar::position_change::PositionChange;
+use crate::progress_bar::request::Tried;
 use crate::progress_bar::text_command::TextCommand;
 use crate::progress_bar::ticker::Ticker;
 use crate::seek::SeekMax;
@@ -29,20 +34,14 @@ use indicatif_term::draw_target::ProgressDrawTarget;
 use indicatif_term::term_like::TermLike;
 use indicatif_text::columns::{Clock, Drawn, Moment, Refusal};
 use std::alloc::Global;
-use std::sync::{Condvar, Mutex, Wait};
+use std::sync::{Arc, Wait};
 
-/// The lock of a bar, and what waits for the bar to change.
-#[derive(Drop)]
-pub struct SharedBar<K: Tracks, T: Drop, C> {
-    pub lock: Mutex<LockedBar<K, T, C>>,
-    pub changed: Condvar,
-}
-
-/// A bar, its clock and ticker, and how many own it.
+/// A bar, its clock and ticker, how many own it, and whether it is in a pause of its own.
 pub struct LockedBar<K: Tracks, T: Drop, C> {
     owners: u64,
     pub ticker: Ticker,
     clock: C,
+    paused: bool,
     bar: AnyBar<K, T, C>,
 }
 
@@ -52,6 +51,7 @@ impl<K: Tracks, T: Drop, C: Drop> Drop for LockedBar<K, T, C> {
             owners: _,
             ticker: _,
             clock: _,
+            paused: _,
             bar: _,
         } = self;
     }
@@ -66,8 +66,14 @@ impl<K: Tracks, T: Drop, C> LockedBar<K, T, C> {
             owners: 1,
             ticker: Ticker::new(),
             clock,
+            paused: false,
             bar: AnyBar::Alone(bar),
         }
+    }
+
+    /// Whether it is in a pause of its own: what draws waits then.
+    pub fn is_paused(&self) -> bool {
+        self.paused
     }
 
     /// One owner more; not where there is none left, or the count is at its end.
@@ -81,46 +87,81 @@ impl<K: Tracks, T: Drop, C> LockedBar<K, T, C> {
         true
     }
 
-    /// One owner less; whether it was the last.
-    fn leave(&mut self) -> bool
-        ensures owners { OwnerLeaves result self.old.owners self.new.owners }
+    /// One owner less.
+    fn leave(&mut self)
+        ensures owners { self.new.owners ≡ self.old.owners - 1 }
         ensures bar { self.new.bar ≡ self.old.bar }
     {
-        let last = self.owners == 1;
         self.owners = self.owners.saturating_sub(1);
-        last
     }
+}
+
+/// What a pause of a bar begins with.
+pub enum Halt<K: Tracks, T: Drop, C> {
+    /// The bar stands alone, and its pause has begun.
+    Alone(Pause),
+    /// It stands on this board, whose pause is to begin at this moment.
+    OnBoard(Moment, SharedBoard<K, T, C>),
+    /// There is no memory to hand its board out.
+    NoMemory,
 }
 
 /// A call of a bar that stands alone follows one of `bar`, which tells that it is in some state: clauses speak of that.
 impl<K: Tracks, T: TermLike + Drop, C: Clock + Drop> LockedBar<K, T, C> {
     /// A command of the bar.
-    pub fn tell<R: Wait>(&mut self, rt: &R, command: BarCommand<K>) -> Result<Drawn, Refusal>
-        ensures bar { BarMakes K.means T.view self.old.bar (Lone.Obey (command_of command)) result self.new.bar }
+    pub fn tell<R: Wait>(
+        &mut self,
+        rt: &R,
+        command: BarCommand<K>,
+    ) -> Tried<Result<Drawn, Refusal>, BarCommand<K>>
+        ensures bar { BarTries K.means T.view self.old.bar (Lone.Obey (command_of command)) result command self.new.bar }
         ensures ticker { self.new.ticker ≡ self.old.ticker }
     {
         let now = self.clock.now();
         match &mut self.bar {
             AnyBar::Alone(bar) => {
                 bar.bar();
-                bar.call(LoneCall::Bar(command), now)
+                Tried::Made(bar.call(LoneCall::Bar(command), now))
             }
             AnyBar::Member(member) => member.tell(rt, command, now),
         }
     }
 
-    /// A change of the position.
-    #[inline(always)]
-    pub fn move_by<R: Wait>(&mut self, rt: &R, change: PositionChange) -> Result<Drawn, Refusal>
-        ensures { BarMakes K.means T.view self.old.bar (Lone.Obey (position_command change)) result self.new.bar }
+    /// Whether a ticker is installed, which asks for no draw: it is told so also in a pause of its board.
+    fn set_ticker<R: Wait>(&mut self, rt: &R, installed: bool) -> Result<Drawn, Refusal>
+        ensures bar { BarMakes K.means T.view self.old.bar (Lone.Obey (SetTicker installed)) result self.new.bar }
+        ensures ticker { self.new.ticker ≡ self.old.ticker }
     {
+        let now = self.clock.now();
+        let command = BarCommand::SetTicker(installed);
+        match &mut self.bar {
+            AnyBar::Alone(bar) => {
+                bar.bar();
+                bar.call(LoneCall::Bar(command), now)
+            }
+            AnyBar::Member(member) => member.tell_at_once(rt, command, now),
+        }
+    }
+
+    /// A change of the position, unless the bar or its board is in a pause.
+    #[inline(always)]
+    pub fn move_by<R: Wait>(
+        &mut self,
+        rt: &R,
+        change: PositionChange,
+    ) -> Tried<Result<Drawn, Refusal>, ()>
+        ensures { IfMade result (λ answer. BarMakes K.means T.view self.old.bar (Lone.Obey (position_command change)) answer self.new.bar) }
+    {
+        if self.paused {
+            return Tried::ComeAgain(());
+        }
         let now = self.clock.now();
         match &mut self.bar {
             AnyBar::Alone(bar) => {
                 bar.bar();
-                change.apply_to(bar, now)
+                Tried::Made(change.apply_to(bar, now))
             }
-            AnyBar::Member(member) => member.tell(rt, change.command(), now),
+            AnyBar::Member(member) => member.move_by(rt, change, now),
         }
     }
 
@@ -130,13 +171,18 @@ impl<K: Tracks, T: TermLike + Drop, C: Clock + Drop> LockedBar<K, T, C> {
         rt: &R,
         seeks: &mut SeekMax<5, 10>,
         n: u64,
-    ) -> Result<Drawn, Refusal>
-        ensures seeks { (position : ℕ) × (place : ℕ) × ((place, seeks.new) ≡ after_move 5 10 seeks.old position n)
-            × BarMakes K.means T.view self.old.bar (Lone.Obey (SetPosition place)) result self.new.bar }
+    ) -> Tried<Result<Drawn, Refusal>, ()>
+        ensures { MatchTried result (λ answer. (position : ℕ) × (place : ℕ) × ((place, seeks.new) ≡ after_move 5 10 seeks.old position n)
+            × BarMakes K.means T.view self.old.bar (Lone.Obey (SetPosition place)) answer self.new.bar) (λ _. seeks.new ≡ seeks.old) }
     {
-        let position = self.bar.read(rt, |state| state.pos());
-        let place = seeks.update_seq(position.unwrap_or(0), n);
-        self.move_by(rt, PositionChange::To(place))
+        let now = self.clock.now();
+        match &mut self.bar {
+            AnyBar::Alone(bar) => {
+                let place = seeks.update_seq(bar.bar().state().pos(), n);
+                Tried::Made(PositionChange::To(place).apply_to(bar, now))
+            }
+            AnyBar::Member(member) => member.place_after(rt, seeks, n, now),
+        }
     }
 
     /// A call with a text.
@@ -145,14 +191,14 @@ impl<K: Tracks, T: TermLike + Drop, C: Clock + Drop> LockedBar<K, T, C> {
         rt: &R,
         told: TextCommand,
         text: &str,
-    ) -> Result<Drawn, Refusal>
-        ensures { BarMakes K.means T.view self.old.bar (text_call told text.now) result self.new.bar }
+    ) -> Tried<Result<Drawn, Refusal>, ()>
+        ensures { IfMade result (λ answer. BarMakes K.means T.view self.old.bar (text_call told text.now) answer self.new.bar) }
     {
         let now = self.clock.now();
         match &mut self.bar {
             AnyBar::Alone(bar) => {
                 bar.bar();
-                told.apply_to(bar, text, now)
+                Tried::Made(told.apply_to(bar, text, now))
             }
             AnyBar::Member(member) => member.tell_text(rt, told, text, now),
         }
@@ -164,62 +210,92 @@ impl<K: Tracks, T: TermLike + Drop, C: Clock + Drop> LockedBar<K, T, C> {
         &mut self,
         rt: &R,
         f: F,
-    ) -> Result<Drawn, Refusal>
+    ) -> Tried<Result<Drawn, Refusal>, F>
         requires { F.IsAlwaysCallable f }
-        ensures { (change : Changed) × BarMakes K.means T.view self.old.bar (Lone.Obey (Update change.pos change.len)) result self.new.bar
-            × IsOf (FnOnceReturnsAt F.FnOnce f) self.old.bar change }
+        ensures { MatchTried result (λ answer. (change : Changed) × BarMakes K.means T.view self.old.bar (Lone.Obey (Update change.pos change.len)) answer self.new.bar
+            × IsOf (FnOnceReturnsAt F.FnOnce f) self.old.bar change) (λ again. again ≡ f) }
     {
         let now = self.clock.now();
         match &mut self.bar {
             AnyBar::Alone(bar) => {
                 bar.bar();
-                bar.update(f, now)
+                Tried::Made(bar.update(f, now))
             }
             AnyBar::Member(member) => member.update(rt, f, now),
         }
     }
 
-    /// Calls `f` with the bar's rows, or those of all bars of its board, taken back, and draws them again.
-    pub fn suspend<R: Wait, F: FnOnce() -> A, A>(
-        &mut self,
-        rt: &R,
-        f: F,
-    ) -> (A, Result<Drawn, Refusal>)
-        requires { F.pre f }
-        ensures value { F.post f result.0 }
-        ensures bar { BarSuspends K.means T.view self.old.bar result.1 self.new.bar }
+    /// Begins a pause of a bar that stands alone: its rows are taken back. Of a board's bar the board is handed out, for a pause of that.
+    pub fn halt(&mut self) -> Halt<K, T, C>
+        ensures { BarHalts K.means T.view self.old.bar result self.new.bar }
     {
         let now = self.clock.now();
         match &mut self.bar {
             AnyBar::Alone(bar) => {
-                bar.bar();
-                bar.suspend(now, f)
+                self.paused = true;
+                Halt::Alone(pause_of(bar, now))
             }
-            AnyBar::Member(member) => member.suspend(rt, now, f),
+            AnyBar::Member(member) => match Arc::try_clone(&member.board) {
+                Ok(board) => Halt::OnBoard(now, board),
+                Err(_) => Halt::NoMemory,
+            },
+        }
+    }
+
+    /// Ends the pause of a bar that stands alone: it is drawn again by force, at the moment at which the pause began. Where the clear was
+    /// refused, nothing is drawn, and the answer is that refusal.
+    pub fn resume<R: Wait>(&mut self, rt: &R, pause: Pause) -> Result<Drawn, Refusal>
+        ensures { MatchResult pause.cleared (λ _. BarRedraws K.means T.view self.old.bar result self.new.bar)
+            (λ e. (result ≡ Err e) × (self.new.bar ≡ self.old.bar)) }
+    {
+        let Pause { now, cleared } = pause;
+        self.paused = false;
+        match cleared {
+            Ok(_) => self.redraw(rt, now),
+            Err(refusal) => Err(refusal),
+        }
+    }
+
+    /// Draws the bar, or all bars of its board, by force.
+    fn redraw<R: Wait>(&mut self, rt: &R, now: Moment) -> Result<Drawn, Refusal>
+        ensures { BarRedraws K.means T.view self.old.bar result self.new.bar }
+    {
+        match &mut self.bar {
+            AnyBar::Alone(bar) => {
+                bar.bar();
+                bar.force_draw(now)
+            }
+            AnyBar::Member(member) => member.redraw(rt, now),
         }
     }
 
     /// One owner less; whether it was the last, and then the bar ends too.
-    pub fn release<R: Wait>(&mut self, rt: &R) -> bool
-        ensures owners { OwnerLeaves result self.old.owners self.new.owners }
-        ensures last { (result ≡ true) → (answer : _) × BarEnds K.means T.view self.old.bar answer self.new.bar }
-        ensures others { (result ≡ false) → self.new.bar ≡ self.old.bar }
+    pub fn release<R: Wait>(&mut self, rt: &R) -> Tried<bool, ()>
+        ensures owners { MatchTried result (λ last. OwnerLeaves last self.old.owners self.new.owners) (λ _. self.new.owners ≡ self.old.owners) }
+        ensures last { result ≡ Tried.Made true → (answer : _) × BarEnds K.means T.view self.old.bar answer self.new.bar }
+        ensures others { (result ≢ Tried.Made true) → self.new.bar ≡ self.old.bar }
     {
-        let last = self.leave();
-        if last {
-            let _ = self.end(rt);
+        if self.owners != 1 {
+            self.leave();
+            return Tried::Made(false);
         }
-        last
+        match self.end(rt) {
+            Tried::Made(_) => {
+                self.leave();
+                Tried::Made(true)
+            }
+            Tried::ComeAgain(()) => Tried::ComeAgain(()),
+        }
     }
 
     /// What the last owner runs: a bar that stands alone and isn't finished is finished by its stored finish, a board's is dropped.
-    fn end<R: Wait>(&mut self, rt: &R) -> Result<Drawn, Refusal>
-        ensures ends { BarEnds K.means T.view self.old.bar result self.new.bar }
+    fn end<R: Wait>(&mut self, rt: &R) -> Tried<Result<Drawn, Refusal>, ()>
+        ensures ends { MatchTried result (λ answer. BarEnds K.means T.view self.old.bar answer self.new.bar) (λ _. self.new.bar ≡ self.old.bar) }
         ensures owners { self.new.owners ≡ self.old.owners }
     {
         let now = self.clock.now();
         match &mut self.bar {
-            AnyBar::Alone(bar) => finish_unfinished(bar, now),
+            AnyBar::Alone(bar) => Tried::Made(finish_unfinished(bar, now)),
             AnyBar::Member(member) => member.lose_owner(rt, now),
         }
     }
@@ -232,7 +308,7 @@ impl<K: Tracks, T: TermLike + Drop, C: Clock + Drop> LockedBar<K, T, C> {
         ensures refused { IfErr result (λ e. (self.new.ticker ≡ self.old.ticker)
             × BarMakes K.means T.view self.old.bar (Lone.Obey (SetTicker true)) (Err e) self.new.bar) }
     {
-        self.tell(rt, BarCommand::SetTicker(true))?;
+        self.set_ticker(rt, true)?;
         self.ticker.install(number);
         Ok(())
     }
@@ -244,7 +320,7 @@ impl<K: Tracks, T: TermLike + Drop, C: Clock + Drop> LockedBar<K, T, C> {
         ensures refused { IfErr result (λ e. (self.new.ticker ≡ self.old.ticker)
             × BarMakes K.means T.view self.old.bar (Lone.Obey (SetTicker false)) (Err e) self.new.bar) }
     {
-        self.tell(rt, BarCommand::SetTicker(false))?;
+        self.set_ticker(rt, false)?;
         self.ticker.disable();
         Ok(())
     }
@@ -330,20 +406,64 @@ impl<K: Tracks, T: TermLike + Drop, C: Clock + Drop> LockedBar<K, T, C> {
         &mut self,
         rt: &R,
         target: ProgressDrawTarget<T>,
-    ) -> Result<Drawn, Refusal>
-        ensures { BarTurns self.old.bar (term_of target) result self.new.bar }
+    ) -> Tried<Result<Drawn, Refusal>, ProgressDrawTarget<T>>
+        ensures { MatchTried result (λ answer. BarTurns self.old.bar (term_of target) answer self.new.bar)
+            (λ again. (again ≡ target) × (self.new.bar ≡ self.old.bar)) }
     {
         match &mut self.bar {
             AnyBar::Alone(bar) => {
                 let _ = bar.set_draw_target(target);
-                Ok(Drawn::Limited)
+                Tried::Made(Ok(Drawn::Limited))
             }
             AnyBar::Member(member) => {
                 let now = self.clock.now();
-                let (bar, drawn) = member.leave(rt, now)?;
-                self.stand(AnyBar::Alone(LoneBar::new(bar, target)));
-                drawn
+                let leaving = member.leave(rt, now);
+                self.stand_after(leaving, target)
             }
+        }
+    }
+
+    /// The same, but a bar that stands alone is cleared first, whatever that answers; the answer is the clear's.
+    pub fn move_to<R: Wait>(
+        &mut self,
+        rt: &R,
+        target: ProgressDrawTarget<T>,
+    ) -> Tried<Result<Drawn, Refusal>, ProgressDrawTarget<T>>
+        ensures { MatchTried result (λ answer. BarMovesTo K.means T.view self.old.bar (term_of target) answer self.new.bar)
+            (λ again. (again ≡ target) × (self.new.bar ≡ self.old.bar)) }
+    {
+        let now = self.clock.now();
+        match &mut self.bar {
+            AnyBar::Alone(bar) => {
+                bar.bar();
+                let cleared = bar.clear(now);
+                let _ = bar.set_draw_target(target);
+                Tried::Made(cleared)
+            }
+            AnyBar::Member(member) => {
+                let leaving = member.leave(rt, now);
+                self.stand_after(leaving, target)
+            }
+        }
+    }
+
+    /// A bar that has left its board stands alone on this target.
+    fn stand_after(
+        &mut self,
+        leaving: Leaving<K>,
+        target: ProgressDrawTarget<T>,
+    ) -> Tried<Result<Drawn, Refusal>, ProgressDrawTarget<T>>
+        requires { LeavesSo leaving }
+        ensures { MatchTried result (λ answer. BarLeaves self.old.bar (term_of target) answer self.new.bar)
+            (λ again. (again ≡ target) × (self.new.bar ≡ self.old.bar)) }
+    {
+        match leaving {
+            Leaving::Left(bar, drawn) => {
+                self.stand(AnyBar::Alone(LoneBar::new(bar, target)));
+                Tried::Made(drawn)
+            }
+            Leaving::Stays(refusal) => Tried::Made(Err(refusal)),
+            Leaving::Later => Tried::ComeAgain(target),
         }
     }
 
@@ -371,11 +491,7 @@ impl<K: Tracks, T: TermLike + Drop, C: Clock + Drop> LockedBar<K, T, C> {
 
     /// Takes the bar out of the order of a board; it stands alone from now on, and is hidden. One that stands alone stays.
     #[tactic(auto, using(crate::proofs::AnswerLemmas::removed_so))]
-    pub fn take_out<R: Wait>(
-        &mut self,
-        rt: &R,
-        board: &Mutex<LockedBoard<K, T, C>>,
-    ) -> Result<(), Refusal>
+    pub fn take_out<R: Wait>(&mut self, rt: &R, board: &BoardCell<K, T, C>) -> Result<(), Refusal>
         ensures { IfErr result MemoryOrForeign }
     {
         let Some(id) = self.bar.id() else {
@@ -388,6 +504,16 @@ impl<K: Tracks, T: TermLike + Drop, C: Clock + Drop> LockedBar<K, T, C> {
         }
         Ok(())
     }
+}
+
+/// Takes the rows of a bar back that stands alone.
+fn pause_of<K: Tracks, T: TermLike + Drop>(bar: &mut LoneBar<K, T>, now: Moment) -> Pause
+    ensures made { MadeBy K.means T.view bar.old bar.new Lone.Clear now result.cleared }
+    ensures now { result.now ≡ now }
+{
+    bar.bar();
+    let cleared = bar.clear(now);
+    Pause { now, cleared }
 }
 
 /// A bar that stands alone and isn't finished is finished by its stored finish.

@@ -1,35 +1,42 @@
 //! What the lock of a shared board keeps.
-ghost use Rattle.std.specs.Prelude.{◌≡◌, ℕ, Some, None, IfErr, Ok, Err, MatchResult};
-ghost use Rattle.indicatif_board.specs.Boards.{Insert, Remove, Refused};
+ghost use Rattle.std.specs.Prelude.{◌≡◌, ◌⊎◌, ℕ, Some, None, IfOk, IfErr, Ok, Err, MatchResult};
+ghost use Rattle.indicatif_board.specs.Boards.{Insert, Remove, Clear, Redraw, Refused};
 ghost use Rattle.indicatif_board.specs.BoardValues.{id_of};
 ghost use Rattle.indicatif_board.specs.Calls.{call_of, entrant_of, place_at};
-ghost use Rattle.indicatif.specs.Fronts.{CanDraw};
-ghost use Rattle.indicatif.specs.Inside.AnyBoard.{BoardDraws, BoardTakes, BoardRemoves, BoardSuspends};
+ghost use Rattle.indicatif.specs.Fronts.{CanClear, CanDraw};
+ghost use Rattle.indicatif.specs.Inside.AnyBoard.{BoardDraws, BoardTakes, BoardRemoves, BoardMovesTo};
 ghost use Rattle.indicatif.specs.Inside.SharedBoards.{SharedAnswers, SharedDraws};
 
 use crate::progress_bar::any_board::{AnyBoard, id_given};
+use crate::progress_bar::pause::Pause;
 use indicatif_bar::state::BarState;
 use indicatif_bar::style::Tracks;
 use indicatif_board::multi::{BarId, Call, Candidate, InsertLocation};
+use indicatif_term::draw_target::ProgressDrawTarget;
 use indicatif_term::term_like::TermLike;
-use indicatif_text::columns::{Clock, Drawn, Refusal};
-use std::alloc::Global;
-use std::sync::{Arc, Mutex};
+use indicatif_text::columns::{Clock, Drawn, Moment, Refusal};
 
-/// A board and its clock.
+/// A board, its clock, and whether it is in a pause.
 #[derive(Drop)]
 pub struct LockedBoard<K: Tracks, T: Drop, C> {
     pub board: AnyBoard<K, T>,
     clock: C,
+    paused: bool,
 }
-
-/// A board that bars and others share.
-pub type SharedBoard<K, T, C> = Arc<Mutex<LockedBoard<K, T, C>>, Global>;
 
 impl<K: Tracks, T: Drop, C> LockedBoard<K, T, C> {
     /// A board with its clock.
     pub fn new(board: AnyBoard<K, T>, clock: C) -> LockedBoard<K, T, C> {
-        LockedBoard { board, clock }
+        LockedBoard {
+            board,
+            clock,
+            paused: false,
+        }
+    }
+
+    /// Whether it is in a pause: what draws waits then.
+    pub fn is_paused(&self) -> bool {
+        self.paused
     }
 }
 
@@ -75,14 +82,47 @@ impl<K: Tracks, T: TermLike + Drop, C: Clock + Drop> LockedBoard<K, T, C> {
         self.board.remove(id, now)
     }
 
-    /// Clears the board, calls `f`, and draws the board again.
-    pub fn suspend<F: FnOnce() -> A, A>(&mut self, f: F) -> (A, Result<Drawn, Refusal>)
-        requires { F.pre f }
-        ensures value { F.post f result.0 }
-        ensures made { (now : ℕ) × BoardSuspends K.means T.view self.old.board now result.1 self.new.board }
-        ensures drawn { CanDraw result.1 }
+    /// Takes the bars' rows back and is on another target from now on, at one moment.
+    pub fn move_to(&mut self, target: ProgressDrawTarget<T>) -> Result<Drawn, Refusal>
+        ensures moves { (now : ℕ) × BoardMovesTo K.means T.view self.old.board target now result self.new.board }
+        ensures can { CanClear result ⊎ (result ≡ Err Refusal.RecordedTarget) }
     {
         let now = self.clock.now();
-        self.board.suspend(now, f)
+        self.board.move_to(target, now)
+    }
+
+    /// Begins a pause: the bars' rows are taken back.
+    pub fn pause(&mut self) -> Pause
+        ensures { BoardDraws K.means T.view self.old.board Clear result.now result.cleared self.new.board }
+    {
+        let now = self.clock.now();
+        self.pause_at(now)
+    }
+
+    /// The same at this moment.
+    #[tactic(auto, unfolding(crate::specs::Inside::SharedBoards::SharedDraws))]
+    pub fn pause_at(&mut self, now: Moment) -> Pause
+        ensures made { BoardDraws K.means T.view self.old.board Clear now result.cleared self.new.board }
+        ensures now { result.now ≡ now }
+    {
+        let cleared = self.board.draw(Call::Clear, now);
+        self.paused = true;
+        Pause { now, cleared }
+    }
+
+    /// Ends a pause: the bars are drawn again by force, at the moment at which it began. Where the clear was refused, nothing is drawn, and
+    /// the answer is that refusal.
+    #[tactic(auto, using(crate::proofs::AnswerLemmas::clear_is_draw), unfolding(crate::specs::Inside::SharedBoards::SharedDraws))]
+    pub fn resume(&mut self, pause: Pause) -> Result<Drawn, Refusal>
+        ensures drawn { IfOk pause.cleared (λ _. BoardDraws K.means T.view self.old.board Redraw pause.now result self.new.board) }
+        ensures refused { IfErr pause.cleared (λ e. (result ≡ Err e) × (self.new.board ≡ self.old.board)) }
+        ensures can { CanDraw result }
+    {
+        let Pause { now, cleared } = pause;
+        self.paused = false;
+        match cleared {
+            Ok(_) => self.board.draw(Call::Redraw, now),
+            Err(refusal) => Err(refusal),
+        }
     }
 }

@@ -1,17 +1,24 @@
 //! A shared bar that is on a board.
-ghost use Rattle.std.specs.Prelude.{◌≡◌, ◌⊎◌, MatchResult};
+ghost use Rattle.std.specs.Prelude.{◌≡◌, ◌⊎◌, ℕ};
 ghost use Rattle.std.specs.Fn.{FnOnceReturnsAt};
-ghost use Rattle.indicatif_bar.specs.Commands.{Update, command_of};
+ghost use Rattle.indicatif_bar.specs.Commands.{Update, SetPosition, command_of};
 ghost use Rattle.indicatif_bar.specs.Progress.{Progress};
 ghost use Rattle.indicatif_bar.specs.declared.state.commands.Change.{Change as Changed};
 ghost use Rattle.indicatif_board.specs.Boards.{Tell, Drop as Dropped};
 ghost use Rattle.indicatif_board.specs.BoardValues.{id_of};
-ghost use Rattle.indicatif.specs.Fronts.{CanDraw, IsMissing, unchanged};
+ghost use Rattle.indicatif.specs.Fronts.{CanDraw, unchanged};
+ghost use Rattle.indicatif.specs.Inside.Requests.{IfMade, LeavesSo, MatchTried};
+ghost use Rattle.indicatif.specs.Inside.PositionChange.{position_command};
 ghost use Rattle.indicatif.specs.Inside.SharedBoards.{SharedDraws, on_board};
 ghost use Rattle.indicatif.specs.Inside.TextCommand.{text_call};
+ghost use Rattle.indicatif.specs.Seek.{after_move};
 
-use crate::progress_bar::locked_board::SharedBoard;
+use crate::progress_bar::any_board::AnyBoard;
+use crate::progress_bar::board_cell::SharedBoard;
+use crate::progress_bar::position_change::PositionChange;
+use crate::progress_bar::request::Tried;
 use crate::progress_bar::text_command::TextCommand;
+use crate::seek::SeekMax;
 use indicatif_bar::state::{BarCommand, BarState, Change, ProgressState};
 use indicatif_bar::style::Tracks;
 use indicatif_board::multi::{BarId, Call};
@@ -54,6 +61,14 @@ fn change_by<K: Tracks, F: FnOnce(&ProgressState) -> Change>(
     }
 }
 
+/// A bar's position, or 0 where there is no bar.
+fn position_of<K: Tracks>(bar: Result<&BarState<K>, Refusal>) -> u64 {
+    match bar {
+        Ok(bar) => bar.state().pos(),
+        Err(_) => 0,
+    }
+}
+
 /// What a closure answers of the state that it is shown.
 pub fn told_of<F: FnOnce(&ProgressState) -> A, A>(shown: &ProgressState, f: F) -> A
     requires { F.IsAlwaysCallable f }
@@ -62,9 +77,35 @@ pub fn told_of<F: FnOnce(&ProgressState) -> A, A>(shown: &ProgressState, f: F) -
     f(shown)
 }
 
+/// What became of a bar that was to leave its board.
+pub enum Leaving<K: Tracks> {
+    /// It has left; what the draw of the others answered.
+    Left(BarState<K>, Result<Drawn, Refusal>),
+    /// It can't leave.
+    Stays(Refusal),
+    /// The board is in a pause. Nothing was done.
+    Later,
+}
+
+/// Each call is handed back where the board is in a pause.
 impl<K: Tracks, T: TermLike + Drop, C: Clock + Drop> MemberBar<K, T, C> {
     /// A command of the bar.
     pub fn tell<R: Wait>(
+        &self,
+        rt: &R,
+        command: BarCommand<K>,
+        now: Moment,
+    ) -> Tried<Result<Drawn, Refusal>, BarCommand<K>>
+        ensures { MatchTried result (λ answer. SharedDraws K (Tell (id_of self.now.id) (command_of command)) answer) (λ again. again ≡ command) }
+    {
+        match self.board.try_turn(rt) {
+            Some(mut locked) => Tried::Made(locked.board.tell(self.id, command, now)),
+            None => Tried::ComeAgain(command),
+        }
+    }
+
+    /// The same also in a pause, for a command that asks for no draw.
+    pub fn tell_at_once<R: Wait>(
         &self,
         rt: &R,
         command: BarCommand<K>,
@@ -75,20 +116,69 @@ impl<K: Tracks, T: TermLike + Drop, C: Clock + Drop> MemberBar<K, T, C> {
         self.board.lock(rt).board.tell(self.id, command, now)
     }
 
+    /// A change of the position.
+    pub fn move_by<R: Wait>(
+        &self,
+        rt: &R,
+        change: PositionChange,
+        now: Moment,
+    ) -> Tried<Result<Drawn, Refusal>, ()>
+        ensures { IfMade result (λ answer. SharedDraws K (Tell (id_of self.now.id) (position_command change)) answer) }
+    {
+        match self.board.try_turn(rt) {
+            Some(mut locked) => Tried::Made(locked.board.tell(self.id, change.command(), now)),
+            None => Tried::ComeAgain(()),
+        }
+    }
+
+    /// Draws the bars of the board by force, also in a pause.
+    #[tactic(auto, unfolding(crate::specs::Inside::SharedBoards::SharedDraws))]
+    pub fn redraw<R: Wait>(&self, rt: &R, now: Moment) -> Result<Drawn, Refusal>
+        ensures { CanDraw result }
+    {
+        self.board.lock(rt).board.draw(Call::Redraw, now)
+    }
+
     /// A command that sets what the closure answers of the bar's state, or nothing where the board hasn't the bar.
     pub fn update<R: Wait, F: FnOnce(&ProgressState) -> Change>(
         &self,
         rt: &R,
         f: F,
         now: Moment,
-    ) -> Result<Drawn, Refusal>
+    ) -> Tried<Result<Drawn, Refusal>, F>
         requires { F.IsAlwaysCallable f }
-        ensures { (change : Changed) × SharedDraws K (Tell (id_of self.now.id) (Update change.pos change.len)) result
-            × (((shown : Progress) × FnOnceReturnsAt F.FnOnce f shown change) ⊎ (change ≡ unchanged)) }
+        ensures { MatchTried result (λ answer. (change : Changed) × SharedDraws K (Tell (id_of self.now.id) (Update change.pos change.len)) answer
+            × (((shown : Progress) × FnOnceReturnsAt F.FnOnce f shown change) ⊎ (change ≡ unchanged))) (λ again. again ≡ f) }
     {
-        let mut locked = self.board.lock(rt);
-        let change = change_by(locked.board.as_board().bar(self.id), f);
-        locked.board.tell(self.id, BarCommand::Update(change), now)
+        match self.board.try_turn(rt) {
+            Some(mut locked) => {
+                let change = change_by(locked.board.as_board().bar(self.id), f);
+                Tried::Made(locked.board.tell(self.id, BarCommand::Update(change), now))
+            }
+            None => Tried::ComeAgain(f),
+        }
+    }
+
+    /// The bar is placed after `n` more from its position, as `seeks` says; it counts from 0 where the board hasn't the bar.
+    pub fn place_after<R: Wait>(
+        &self,
+        rt: &R,
+        seeks: &mut SeekMax<5, 10>,
+        n: u64,
+        now: Moment,
+    ) -> Tried<Result<Drawn, Refusal>, ()>
+        ensures { MatchTried result (λ answer. (position : ℕ) × (place : ℕ) × ((place, seeks.new) ≡ after_move 5 10 seeks.old position n)
+            × SharedDraws K (Tell (id_of self.now.id) (SetPosition place)) answer) (λ _. seeks.new ≡ seeks.old) }
+    {
+        match self.board.try_turn(rt) {
+            Some(mut locked) => {
+                let position = position_of(locked.board.as_board().bar(self.id));
+                let place = seeks.update_seq(position, n);
+                let command = BarCommand::SetPosition(place);
+                Tried::Made(locked.board.tell(self.id, command, now))
+            }
+            None => Tried::ComeAgain(()),
+        }
     }
 
     /// A call with a text, of which the board is handed a copy.
@@ -98,56 +188,54 @@ impl<K: Tracks, T: TermLike + Drop, C: Clock + Drop> MemberBar<K, T, C> {
         told: TextCommand,
         text: &str,
         now: Moment,
-    ) -> Result<Drawn, Refusal>
-        ensures { SharedDraws K (on_board (id_of self.now.id) (text_call told text.now)) result }
+    ) -> Tried<Result<Drawn, Refusal>, ()>
+        ensures { IfMade result (λ answer. SharedDraws K (on_board (id_of self.now.id) (text_call told text.now)) answer) }
     {
-        match String::from_str(self.alloc, text) {
-            Ok(text) => {
-                let call = told.call(self.id, text);
-                self.board.lock(rt).board.draw(call, now)
-            }
-            Err(_) => Err(Refusal::Memory),
+        let Ok(text) = String::from_str(self.alloc, text) else {
+            return Tried::Made(Err(Refusal::Memory));
+        };
+        match self.board.try_turn(rt) {
+            Some(mut locked) => Tried::Made(locked.board.draw(told.call(self.id, text), now)),
+            None => Tried::ComeAgain(()),
         }
-    }
-
-    /// Calls `f` with the rows of all bars of the board taken back, and draws them again.
-    pub fn suspend<R: Wait, F: FnOnce() -> A, A>(
-        &self,
-        rt: &R,
-        now: Moment,
-        f: F,
-    ) -> (A, Result<Drawn, Refusal>)
-        requires { F.pre f }
-        ensures value { F.post f result.0 }
-        ensures drawn { CanDraw result.1 }
-    {
-        self.board.lock(rt).board.suspend(now, f)
     }
 
     /// The bar's owner is gone.
-    pub fn lose_owner<R: Wait>(&self, rt: &R, now: Moment) -> Result<Drawn, Refusal>
-        ensures { SharedDraws K (Dropped (id_of self.now.id)) result }
+    pub fn lose_owner<R: Wait>(&self, rt: &R, now: Moment) -> Tried<Result<Drawn, Refusal>, ()>
+        ensures { IfMade result (λ answer. SharedDraws K (Dropped (id_of self.now.id)) answer) }
     {
-        self.board.lock(rt).board.draw(Call::Drop(self.id), now)
+        match self.board.try_turn(rt) {
+            Some(mut locked) => Tried::Made(locked.board.draw(Call::Drop(self.id), now)),
+            None => Tried::ComeAgain(()),
+        }
     }
 
-    /// Takes the bar out of the order and draws the others by force; the bar, and what that draw answered.
-    #[tactic(auto, using(crate::proofs::AnswerLemmas::stays_so), unfolding(crate::specs::Inside::SharedBoards::SharedDraws))]
-    pub fn leave<R: Wait>(
-        &self,
-        rt: &R,
-        now: Moment,
-    ) -> Result<(BarState<K>, Result<Drawn, Refusal>), Refusal>
-        ensures { MatchResult result (λ left. CanDraw left.1) IsMissing }
+    /// Takes the bar out of the order and draws the others by force.
+    pub fn leave<R: Wait>(&self, rt: &R, now: Moment) -> Leaving<K>
+        ensures { LeavesSo result }
     {
-        let mut locked = self.board.lock(rt);
-        match locked.board.remove(self.id, now) {
-            Ok(Some(bar)) => {
-                let drawn = locked.board.draw(Call::Redraw, now);
-                Ok((bar, drawn))
-            }
-            Ok(None) => Err(Refusal::NotMember),
-            Err(refusal) => Err(refusal),
+        match self.board.try_turn(rt) {
+            Some(mut locked) => left(&mut locked.board, self.id, now),
+            None => Leaving::Later,
         }
+    }
+}
+
+/// Takes a bar out of a board's order and draws the others by force.
+#[tactic(auto, using(crate::proofs::AnswerLemmas::stays_so), unfolding(crate::specs::Inside::SharedBoards::SharedDraws))]
+fn left<K: Tracks, T: TermLike + Drop>(
+    board: &mut AnyBoard<K, T>,
+    id: BarId,
+    now: Moment,
+) -> Leaving<K>
+    ensures { LeavesSo result }
+{
+    match board.remove(id, now) {
+        Ok(Some(bar)) => {
+            let drawn = board.draw(Call::Redraw, now);
+            Leaving::Left(bar, drawn)
+        }
+        Ok(None) => Leaving::Stays(Refusal::NotMember),
+        Err(refusal) => Leaving::Stays(refusal),
     }
 }

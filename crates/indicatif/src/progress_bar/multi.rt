@@ -1,10 +1,12 @@
 //! Several bars on one target, which threads share.
-ghost use Rattle.std.specs.Prelude.{◌≡◌, IfErr};
+ghost use Rattle.std.specs.Prelude.{◌≡◌, ◌⊎◌, Err, IfErr, IfSome};
+ghost use Rattle.indicatif_board.specs.Recorded.{IsOneRun};
 ghost use Rattle.indicatif.specs.Fronts.{CanClear, CanDraw, IsMissing, MemoryOrForeign};
 
 use crate::progress_bar::ProgressBar;
 use crate::progress_bar::any_board::AnyBoard;
-use crate::progress_bar::locked_board::{LockedBoard, SharedBoard};
+use crate::progress_bar::board_cell::{BoardCell, SharedBoard};
+use crate::progress_bar::locked_board::LockedBoard;
 use indicatif_bar::style::{NoTracker, Tracks};
 use indicatif_board::multi::{Board, Call, InsertLocation, Recorded};
 use indicatif_term::draw_target::{MultiProgressAlignment, ProgressDrawTarget, Setup};
@@ -12,7 +14,7 @@ use indicatif_term::term_like::TermLike;
 use indicatif_text::columns::{Clock, Drawn, Refusal};
 use std::alloc::{AllocError, Global};
 use std::fmt::{self, Debug, Formatter};
-use std::sync::{Arc, Mutex, Wait};
+use std::sync::{Arc, Wait};
 
 /// A board that threads share: several bars on one target, in an order. A clone is the same board.
 ///
@@ -144,7 +146,7 @@ impl<T: TermLike + Drop, C: Clock + Drop, R: Wait + Clone + Drop, K: Tracks> Mul
     fn shared(rt: R, alloc: Global, board: LockedBoard<K, T, C>) -> Result<Self, Refusal>
         ensures { IfErr result (λ e. e ≡ Refusal.Memory) }
     {
-        match Arc::new(alloc, Mutex::new(board)) {
+        match Arc::new(alloc, BoardCell::new(board)) {
             Ok(board) => Ok(MultiProgress { board, alloc, rt }),
             Err(_) => Err(Refusal::Memory),
         }
@@ -153,17 +155,17 @@ impl<T: TermLike + Drop, C: Clock + Drop, R: Wait + Clone + Drop, K: Tracks> Mul
     /// Adds a bar after all others, and hands its owner back. A bar that stood alone leaves its target, and what it drew there stays. A
     /// bar that is already on this board stays where it is.
     ///
-    /// Refused: `ForeignBar` for a bar of another board, which may have the same id; `Memory`. The board is as before then, and this
-    /// owner is given up as by `ProgressBar::release`: if it was the only one, its bar is finished by its stored finish, and leaves the
-    /// board that has it.
+    /// Refused: `ForeignBar` for a bar of another board; `NotMember` if that has the same id, or if the bar was lost to such a one; `Memory`.
+    /// The board is as before then, and this owner is given up as by `ProgressBar::release`: if it was the only one, its bar is finished by
+    /// its stored finish, and leaves the board that has it.
     ///
     /// ```
     /// let bar = board.add(bar)?; // it is drawn among the board's bars from now on
     /// ```
     pub fn add(&self, bar: ProgressBar<T, C, R, K>) -> Result<ProgressBar<T, C, R, K>, Refusal>
-        ensures { IfErr result MemoryOrForeign }
+        ensures { IfErr result IsMissing }
     {
-        self.take_in_alone(InsertLocation::End, bar)
+        self.take_in(InsertLocation::End, bar)
     }
 
     /// Takes a bar in where `index` bars stand before it, or behind all others where there are fewer; else as `add`.
@@ -172,9 +174,9 @@ impl<T: TermLike + Drop, C: Clock + Drop, R: Wait + Clone + Drop, K: Tracks> Mul
         index: usize,
         bar: ProgressBar<T, C, R, K>,
     ) -> Result<ProgressBar<T, C, R, K>, Refusal>
-        ensures { IfErr result MemoryOrForeign }
+        ensures { IfErr result IsMissing }
     {
-        self.take_in_alone(InsertLocation::Index(index), bar)
+        self.take_in(InsertLocation::Index(index), bar)
     }
 
     /// Takes a bar in where `count` bars stand behind it, or before all others where there are fewer; else as `add`.
@@ -183,9 +185,9 @@ impl<T: TermLike + Drop, C: Clock + Drop, R: Wait + Clone + Drop, K: Tracks> Mul
         count: usize,
         bar: ProgressBar<T, C, R, K>,
     ) -> Result<ProgressBar<T, C, R, K>, Refusal>
-        ensures { IfErr result MemoryOrForeign }
+        ensures { IfErr result IsMissing }
     {
-        self.take_in_alone(InsertLocation::FromBack(count), bar)
+        self.take_in(InsertLocation::FromBack(count), bar)
     }
 
     /// Takes a bar in right before the anchor; else as `add`.
@@ -218,23 +220,6 @@ impl<T: TermLike + Drop, C: Clock + Drop, R: Wait + Clone + Drop, K: Tracks> Mul
         }
     }
 
-    /// Takes a bar in where no other is named. One that stands on a board, but not on this one, is another board's, also where both have
-    /// the same id.
-    #[tactic(auto, using(crate::proofs::FrontLemmas::memory_or_foreign, crate::proofs::FrontLemmas::foreign_or_memory))]
-    fn take_in_alone(
-        &self,
-        at: InsertLocation,
-        bar: ProgressBar<T, C, R, K>,
-    ) -> Result<ProgressBar<T, C, R, K>, Refusal>
-        ensures { IfErr result MemoryOrForeign }
-    {
-        match self.take_in(at, bar) {
-            Ok(bar) => Ok(bar),
-            Err(Refusal::Memory) => Err(Refusal::Memory),
-            Err(_) => Err(Refusal::ForeignBar),
-        }
-    }
-
     /// Takes a bar in at a place.
     #[tactic(auto, using(crate::proofs::FrontLemmas::memory_missing))]
     fn take_in(
@@ -262,8 +247,8 @@ impl<T: TermLike + Drop, C: Clock + Drop, R: Wait + Clone + Drop, K: Tracks> Mul
         bar.take_out(&self.board)
     }
 
-    /// Writes the text's lines above the bars, by force; the bars go on below them. On a hidden target the text is dropped: print it
-    /// yourself where `is_hidden` says so.
+    /// Writes the text's lines above the bars, by force; the bars go on below them. On a hidden target the text is dropped: `println_or`
+    /// writes it elsewhere there.
     ///
     /// Refused: as `Board::println`; `Memory` also for a copy of the text, on a hidden target too, and where the history has no room. Nothing
     /// has changed then.
@@ -272,7 +257,7 @@ impl<T: TermLike + Drop, C: Clock + Drop, R: Wait + Clone + Drop, K: Tracks> Mul
         ensures { CanDraw result }
     {
         match String::from_str(self.alloc, text) {
-            Ok(text) => self.board.lock(&self.rt).draw(Call::Log(text)),
+            Ok(text) => self.board.turn(&self.rt).draw(Call::Log(text)),
             Err(_) => Err(Refusal::Memory),
         }
     }
@@ -285,17 +270,22 @@ impl<T: TermLike + Drop, C: Clock + Drop, R: Wait + Clone + Drop, K: Tracks> Mul
     pub fn clear(&self) -> Result<Drawn, Refusal>
         ensures { CanClear result }
     {
-        self.board.lock(&self.rt).draw(Call::Clear)
+        self.board.turn(&self.rt).draw(Call::Clear)
     }
 
-    /// Takes the bars' rows back, calls `f` once, and draws the bars again by force; the lock is held meanwhile. Answers what `f`
-    /// gave, and what the draw answered; where the clear was refused, no draw is made, and the answer is that refusal.
+    /// Takes the bars' rows back, calls `f` once, and draws the bars again by force, at the moment of the clear. Answers what `f` gave, and
+    /// what the draw answered; where the clear was refused, no draw is made, and the answer is that refusal.
+    ///
+    /// It is a pause of the board. Meanwhile the readings of the board and of its bars answer, also in `f` itself. A call that draws, or
+    /// changes a bar, waits for the end of the pause: from another thread it goes on then, and one that `f` itself makes, of any bar of this
+    /// board, waits for ever. So does another pause of this board in `f`, and the drop of a bar's last owner. To take bars in or out, or to
+    /// set a steady ticker, waits for nothing, and draws nothing before the pause ends.
     pub fn suspend<F: FnOnce() -> A, A>(&self, f: F) -> (A, Result<Drawn, Refusal>)
         requires { F.pre f }
         ensures value { F.post f result.0 }
         ensures drawn { CanDraw result.1 }
     {
-        self.board.lock(&self.rt).suspend(f)
+        self.board.suspend(&self.rt, f)
     }
 
     /// Whether bars stand at the top of what is taken back, or at its bottom, from the next draw on.
@@ -305,7 +295,7 @@ impl<T: TermLike + Drop, C: Clock + Drop, R: Wait + Clone + Drop, K: Tracks> Mul
     pub fn set_alignment(&self, alignment: MultiProgressAlignment) -> Result<(), Refusal>
         ensures { IfErr result (λ e. e ≡ Refusal.Memory) }
     {
-        self.board.lock(&self.rt).draw(Call::Align(alignment))?;
+        self.board.turn(&self.rt).draw(Call::Align(alignment))?;
         Ok(())
     }
 
@@ -315,7 +305,23 @@ impl<T: TermLike + Drop, C: Clock + Drop, R: Wait + Clone + Drop, K: Tracks> Mul
     pub fn set_draw_target(&self, target: ProgressDrawTarget<T>) -> Result<(), Refusal>
         ensures { IfErr result (λ e. e ≡ Refusal.RecordedTarget) }
     {
-        self.board.lock(&self.rt).board.set_draw_target(target)
+        self.board.turn(&self.rt).board.set_draw_target(target)
+    }
+
+    /// Takes the bars' rows back, by force, and goes to another target, on which the bars begin anew with their next draw: one call, so that
+    /// no other thread draws on the old target in between, and nothing of the bars stays there. The old target is given up. Answers what the
+    /// clear answers; whatever that is, the board stands on the new target.
+    ///
+    /// ```
+    /// board.move_to(ProgressDrawTarget::hidden())?; // the bars are gone from the terminal
+    /// ```
+    ///
+    /// Refused: as `clear`; `RecordedTarget` for a board that keeps its history, and nothing has changed then, and the new target is given
+    /// up.
+    pub fn move_to(&self, target: ProgressDrawTarget<T>) -> Result<Drawn, Refusal>
+        ensures { CanClear result ⊎ (result ≡ Err Refusal.RecordedTarget) }
+    {
+        self.board.turn(&self.rt).move_to(target)
     }
 
     /// Whether draws write the bars' lines over the old ones, by moves of the cursor alone: up to the first row, to its front, and each
@@ -331,7 +337,7 @@ impl<T: TermLike + Drop, C: Clock + Drop, R: Wait + Clone + Drop, K: Tracks> Mul
     pub fn set_move_cursor(&self, on: bool) -> Result<(), Refusal>
         ensures { IfErr result (λ e. e ≡ Refusal.RecordedTarget) }
     {
-        self.board.lock(&self.rt).board.set_move_cursor(on)
+        self.board.turn(&self.rt).board.set_move_cursor(on)
     }
 
     /// Whether the target is hidden: nothing is drawn until another is set.
@@ -339,7 +345,8 @@ impl<T: TermLike + Drop, C: Clock + Drop, R: Wait + Clone + Drop, K: Tracks> Mul
         self.board.lock(&self.rt).board.as_board().is_hidden()
     }
 
-    /// Lends the terminal to `f` under the lock; `None` where the target is hidden.
+    /// Lends the terminal to `f` under the lock; `None` where the target is hidden. A call of this board in `f`, or of any bar of it, waits
+    /// for ever.
     pub fn with_term<F: FnOnce(Option<&T>) -> A, A>(&self, f: F) -> A
         requires { F.IsAlwaysCallable f }
         ensures { (shown : _) × F.post f shown result }
@@ -349,7 +356,8 @@ impl<T: TermLike + Drop, C: Clock + Drop, R: Wait + Clone + Drop, K: Tracks> Mul
         f(shown)
     }
 
-    /// Lends the board with its history to the reader under the lock; `None` where it keeps none.
+    /// Lends the board with its history to the reader under the lock; `None` where it keeps none. What the reader is lent is one run: it
+    /// may ask for that (`RecordReader`). A call of this board in the reader, or of any bar of it, waits for ever.
     pub fn with_record<F: RecordReader<T, K>>(&self, reader: F) -> F::Found {
         let locked = self.board.lock(&self.rt);
         reader.read(locked.board.as_recorded())
@@ -419,7 +427,9 @@ impl<T: TermLike + Drop, C: Clock + Clone + Drop, R: Wait + Clone + Drop, K: Tra
     }
 }
 
-/// What reads a board's history: a closure as a type, with what it holds as its fields.
+/// What reads a board's history: a closure as a type, with what it holds as its fields. What it is lent is a history of one run, from
+/// the board's opening on (`IsOneRun`), whichever threads made the calls. Law `what_a_history_says` tells what follows from that; a type
+/// of one's own, with an invariant, takes it out of the lock.
 ///
 /// ```
 /// #[derive(Drop)]
@@ -438,7 +448,8 @@ pub trait RecordReader<T: Drop, K: Tracks> {
     type Found;
 
     /// What it finds of a history, if there is one.
-    fn read(self, record: Option<&Recorded<K, T>>) -> Self::Found;
+    fn read(self, history: Option<&Recorded<K, T>>) -> Self::Found
+        requires { IfSome history (λ r. IsOneRun K.means r.now) };
 }
 
 /// The same board. Refused: want of memory.

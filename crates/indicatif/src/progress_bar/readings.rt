@@ -1,7 +1,5 @@
 //! What is read of a shared bar.
-ghost use Rattle.std.specs.Prelude.{◌≡◌, ℕ, IfErr};
-ghost use Rattle.indicatif_bar.specs.Progress as Figures;
-ghost use Rattle.indicatif_bar.specs.Progress.{Progress};
+ghost use Rattle.std.specs.Prelude.{◌≡◌, IfErr};
 ghost use Rattle.indicatif.specs.Fronts.{IsMissing};
 
 use crate::progress_bar::ProgressBar;
@@ -24,7 +22,8 @@ impl<T: TermLike + Drop, C: Clock + Drop, R: Wait + Clone + Drop, K: Tracks> Pro
         self.state.lock.lock(&self.rt).bar().read(&self.rt, f)
     }
 
-    /// Lends the terminal to `f` under the lock; `None` where the target is hidden.
+    /// Lends the terminal to `f` under the lock; `None` where the target is hidden. A call of this bar in `f`, or of any bar of its board,
+    /// waits for ever.
     pub fn with_term<F: FnOnce(Option<&T>) -> A, A>(&self, f: F) -> A
         requires { F.IsAlwaysCallable f }
         ensures { (shown : _) × F.post f shown result }
@@ -103,31 +102,23 @@ impl<T: TermLike + Drop, C: Clock + Drop, R: Wait + Clone + Drop, K: Tracks> Pro
 
     /// The nanoseconds that are left, by the rate so far, at most 2^64 - 1; 0 where the bar is finished, has no length or no rate, or
     /// its board hasn't it.
-    pub fn eta(&self) -> u64
-        ensures { (p : Progress) × (now : ℕ) × (result ≡ Figures.eta p now) }
-    {
+    pub fn eta(&self) -> u64 {
         self.state.lock.lock(&self.rt).eta(&self.rt)
     }
 
     /// The rate so far; no steps where its board hasn't the bar.
-    pub fn per_sec(&self) -> Rate
-        ensures { (p : Progress) × (now : ℕ) × (result ≡ Figures.per_sec p now) }
-    {
+    pub fn per_sec(&self) -> Rate {
         self.state.lock.lock(&self.rt).per_sec(&self.rt)
     }
 
     /// The nanoseconds that all of it takes, by the rate so far, at most 2^64 - 1, and 0 without a length; of a finished bar those
     /// that it took. 0 where its board hasn't the bar.
-    pub fn duration(&self) -> u64
-        ensures { (p : Progress) × (now : ℕ) × (result ≡ Figures.duration p now) }
-    {
+    pub fn duration(&self) -> u64 {
         self.state.lock.lock(&self.rt).duration(&self.rt)
     }
 
     /// The nanoseconds since the start; 0 where its board hasn't the bar.
-    pub fn elapsed(&self) -> u64
-        ensures { (p : Progress) × (now : ℕ) × (result ≡ Figures.elapsed p now) }
-    {
+    pub fn elapsed(&self) -> u64 {
         self.state.lock.lock(&self.rt).elapsed(&self.rt)
     }
 }

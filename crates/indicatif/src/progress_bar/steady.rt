@@ -6,7 +6,8 @@ ghost use Rattle.indicatif_bar.specs.Lone as Lone;
 ghost use Rattle.indicatif.specs.Fronts.{CanAnswer};
 
 use crate::progress_bar::ProgressBar;
-use crate::progress_bar::locked_bar::SharedBar;
+use crate::progress_bar::request::Tried;
+use crate::progress_bar::shared_bar::{SharedBar, wait_for_board};
 use indicatif_bar::state::BarCommand;
 use indicatif_bar::style::Tracks;
 use indicatif_term::term_like::TermLike;
@@ -25,15 +26,19 @@ fn run_ticker<K: Tracks, T: TermLike + Drop, C: Clock + Drop, R: Wait + time::Cl
     interval: Duration,
 ) {
     for _ in rt.forever() {
-        let mut locked = cell.lock.lock(rt);
+        let mut locked = cell.turn(rt);
         if !locked.ticks_by(rt, number) {
             break;
         }
-        let _ = locked.tell(rt, BarCommand::TickerTick);
-        let (locked, _) = cell
-            .changed
-            .wait_timeout_while(rt, locked, interval, |locked| locked.awaits(number));
-        drop(locked);
+        match locked.tell(rt, BarCommand::TickerTick) {
+            Tried::Made(_) => {
+                let (locked, _) = cell
+                    .changed
+                    .wait_timeout_while(rt, locked, interval, |locked| locked.awaits(number));
+                drop(locked);
+            }
+            Tried::ComeAgain(_) => wait_for_board(rt, locked),
+        }
     }
 }
 
@@ -71,7 +76,7 @@ impl<
         let Ok(rt) = self.rt.clone() else {
             return Err(Refusal::Memory);
         };
-        let mut locked = self.state.lock.lock(&self.rt);
+        let mut locked = self.state.turn(&self.rt);
         let Some(number) = locked.ticker.begin() else {
             return Err(Refusal::Memory);
         };
@@ -105,7 +110,7 @@ impl<T: TermLike + Drop, C: Clock + Drop, R: Wait + Clone + Drop, K: Tracks> Pro
     pub fn disable_steady_tick(&self) -> Result<(), Refusal>
         ensures { IfErr result (λ e. CanAnswer K (Lone.Obey (Command.SetTicker false)) (Err e)) }
     {
-        let mut locked = self.state.lock.lock(&self.rt);
+        let mut locked = self.state.turn(&self.rt);
         if let Err(refusal) = locked.disable_ticker(&self.rt) {
             return Err(refusal);
         }

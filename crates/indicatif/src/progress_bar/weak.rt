@@ -1,6 +1,6 @@
 //! A shared bar without an owner.
 use crate::progress_bar::ProgressBar;
-use crate::progress_bar::locked_bar::SharedBar;
+use crate::progress_bar::shared_bar::SharedBar;
 use indicatif_bar::style::{NoTracker, Tracks};
 use indicatif_term::term_like::TermLike;
 use indicatif_text::columns::Clock;

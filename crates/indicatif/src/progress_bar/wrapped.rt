@@ -129,7 +129,7 @@ impl<
     R: Wait + Clone + Drop,
     K: Tracks,
 > ProgressBarIter<I, ProgressBar<W, C, R, K>> {
-    /// Another position of the bar, which the rate doesn't count.
+    /// Another position of the bar. The rate counts it with the next step: `ProgressBar::with_position` says what to do about that.
     ///
     /// Refused: on a board alone, as each command there.
     pub fn with_position(self, position: u64) -> Result<Self, Refusal>

@@ -171,7 +171,7 @@ impl<K: Tracks, T: TermLike + Drop> LoneBar<K, T> {
         self.obey(ask, now)
     }
 
-    /// Another position. No draw is asked, and the rate doesn't count it.
+    /// Another position. No draw is asked. The rate counts it with the next step, unless a tick and `reset_eta` follow.
     pub fn with_position(&mut self, position: u64, now: Moment) -> Result<Drawn, Refusal>
         ensures obeys { Obeys K.means T.view self.old self.new (PutPosition position) now result }
         ensures limited { result ≡ Ok Drawn.Limited }

@@ -347,7 +347,7 @@ impl<K: Tracks> BarState<K> {
         self.set_style(style, now)
     }
 
-    /// Another position. No draw is asked, and the rate doesn't count it.
+    /// Another position. No draw is asked. The rate counts it with the next step, unless a tick and `reset_eta` follow.
     pub fn with_position(&mut self, position: u64, now: Moment) -> Ask
         ensures { (self.new, result) ≡ obeyed K.means (PutPosition position) self.old now }
     {

@@ -1,7 +1,8 @@
 -- The lines that a plan shows.
-use Rattle.std.specs.Prelude.{◌≡◌, ℕ, ◌≤◌, false, IsFalse, List, [], ◌∷◌, length, take, drop, string_bytes, Option, IfSome}
+use Rattle.std.specs.Prelude.{◌≡◌, ℕ, ◌≤◌, false, IsTrue, IsFalse, List, [], ◌∷◌, length, take, drop, string_bytes, Option, IfSome}
 use Rattle.std.specs.List.{AllByRecursion}
 use Rattle.indicatif_text.specs.Columns.{has_wide, rows_of, last_columns}
+use Rattle.indicatif_term.specs.Inside.Edits.{AreSingle}
 use Rattle.indicatif_term.specs.Standing.{texts, AreLines}
 use Rattle.indicatif_term.specs.declared.layout.Plan.{Plan}
 use Rattle.indicatif_term.specs.declared.beside.SizedLine.{SizedLine}
@@ -12,6 +13,7 @@ pub record IsSized (w : ℕ) (line : List ℕ) (l : SizedLine) : Type 0 where
   pub rows_are : l.rows ≡ length (rows_of w line)
   pub last_is : l.last ≡ last_columns w line
   pub narrow : IsFalse (has_wide w line)
+  pub single : IsTrue l.narrow → AreSingle line
 
 -- the line of that index, if there is one, has these bytes
 abbrev pub IsLike : List StandingLine → List ℕ → Option ℕ → Type 0

@@ -3,7 +3,7 @@ use Rattle.std.specs.Prelude.{◌≡◌, ℕ, ◌+◌, ◌-◌, ◌*◌, ◌==�
 use Rattle.std.specs.List.{AllByRecursion}
 use Rattle.indicatif_text.specs.Columns.{width_of, columns_of, visible}
 use Rattle.indicatif_term.specs.Calls.{UP, move_bytes}
-use Rattle.indicatif_term.specs.Inside.Skips.{PlacedLine}
+use Rattle.indicatif_term.specs.Inside.Changes.{PlacedLine}
 use Rattle.indicatif_term.specs.declared.remembered.StandingLine.{StandingLine}
 
 -- a line with the spaces that fill its last row

@@ -2,7 +2,7 @@
 use Rattle.std.specs.Prelude.{◌≡◌, ℕ, ◌+◌, ◌<◌, ◌≤◌, List, length, take, drop, chars, string_bytes}
 use Rattle.indicatif_text.specs.Columns.{rows_of}
 use Rattle.indicatif_term.specs.Shows.{looks_of}
-use Rattle.indicatif_term.specs.Inside.Skips.{placed_height, AreSitting}
+use Rattle.indicatif_term.specs.Inside.Changes.{placed_height, AreSitting}
 use Rattle.indicatif_term.specs.Standing.{placed, standing_rows}
 use Rattle.indicatif_term.specs.declared.remembered.StandingLine.{StandingLine}
 use Rattle.indicatif_term.specs.declared.beside.Place.{Place}

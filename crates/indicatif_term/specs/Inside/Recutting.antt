@@ -1,5 +1,5 @@
 -- Lines that are cut anew: each of their rows becomes lines of one row.
-use Rattle.std.specs.Prelude.{◌≡◌, ◌<◌, ℕ, ◌+◌, ◌-◌, Bool, ◌&&◌, ◌==◌, nat_le, List, [], ◌∷◌, ◌++◌, map, filter, flat_map, length, suc, chars, string_bytes, sum, min, take, drop, if◌then◌else◌}
+use Rattle.std.specs.Prelude.{false, ◌≡◌, ◌<◌, ℕ, ◌+◌, ◌-◌, Bool, ◌&&◌, ◌==◌, nat_le, List, [], ◌∷◌, ◌++◌, map, filter, flat_map, length, suc, chars, string_bytes, sum, min, take, drop, if◌then◌else◌}
 use Rattle.std.specs.List.{list_all}
 use Rattle.indicatif_text.specs.Columns.{Cell, Glyph, glyph_width, columns_in, glyphs_of, pieces_of, visible}
 use Rattle.indicatif_term.specs.Pictures.{is_empty}
@@ -72,16 +72,17 @@ pub record LineShown : Type 0 where
   pub text : List ℕ
   pub rows : ℕ
   pub last : ℕ
+  pub narrow : Bool
 
 abbrev pub shown_line : StandingLine → LineShown
-shown_line l = record { text = chars (string_bytes l.text); rows = l.rows; last = l.last }
+shown_line l = record { text = chars (string_bytes l.text); rows = l.rows; last = l.last; narrow = l.narrow }
 
 abbrev pub shown_lines : List StandingLine → List LineShown
 shown_lines ls = map shown_line ls
 
 -- the line of one row that has these glyphs
 abbrev pub row_line : List Glyph → LineShown
-row_line gs = record { text = piece_text gs; rows = 1; last = columns_in gs }
+row_line gs = record { text = piece_text gs; rows = 1; last = columns_in gs; narrow = false }
 
 -- lines to which those of more rows were added, and how many each of these rows became
 pub record HasMore (old new : CutLines) (pieces : List (List (List Glyph))) : Type 0 where

@@ -1,12 +1,12 @@
 -- A frame whose lines stand in as many rows as those of the last drawing, and the lines of it that are others.
-use Rattle.std.specs.Prelude.{◌≡◌, ◌⊎◌, ℕ, ◌<◌, ◌≤◌, Bool, false, IsTrue, IsFalse, List, [], ◌∷◌, ◌++◌, map, length, take, set, get_or, chars, string_bytes}
-use Rattle.std.specs.List.{AllByRecursion}
-use Rattle.indicatif_text.specs.Columns.{has_wide, rows_of, last_columns}
-use Rattle.indicatif_term.specs.Lists.{Lists, drawn}
+use Rattle.std.specs.Prelude.{◌≡◌, ◌⊎◌, ℕ, suc, ◌<◌, ◌≤◌, false, IsTrue, IsFalse, List, [], ◌∷◌, ◌++◌, map, length, take, set, get_or, chars, string_bytes}
+use Rattle.indicatif_text.specs.Columns.{Cell, has_wide, rows_of, last_columns}
 use Rattle.indicatif_term.specs.Frames.{bar_lines, all_lines, some_wide}
-use Rattle.indicatif_term.specs.Standing.{texts, IsLine}
-use Rattle.indicatif_term.specs.Counts.{CountsOf}
-use Rattle.indicatif_term.specs.Remembered.{AreRemembered}
+use Rattle.indicatif_term.specs.Shows.{looks_of}
+use Rattle.indicatif_term.specs.Standing.{placed_of, texts, IsLine}
+use Rattle.indicatif_term.specs.Inside.Edits.{AreSingle}
+use Rattle.indicatif_term.specs.Inside.Changes.{Becomes, Ends}
+use Rattle.indicatif_term.specs.Inside.Parting.{IsTurned, IsReady}
 use Rattle.indicatif_term.specs.Inside.Plans.{IsPlan, frame_lines}
 use Rattle.indicatif_term.specs.declared.counts.Counts.{Counts}
 use Rattle.indicatif_term.specs.declared.layout.Plan.{Plan}
@@ -17,18 +17,20 @@ use Rattle.indicatif_term.specs.declared.renewed.NewLine.{NewLine}
 
 -- ---- new lines in the place of others
 
--- a line of this text is as it is measured, in so many rows, and comes in the place of that index
-pub record IsNew (w at rows : ℕ) (text : List ℕ) (n : NewLine) : Type 0 where
+-- a line of this text is as it is measured, in so many rows, and comes in the place of that index, where an old text stands
+pub record IsNew (w at rows : ℕ) (old text : List ℕ) (n : NewLine) : Type 0 where
   pub at_is : n.at ≡ at
   pub text_is : string_bytes n.text ≡ text
   pub rows_are : rows ≡ length (rows_of w (chars text))
-  pub last_is : n.last ≡ last_columns w (chars text)
+  pub last_is : n.turn.last ≡ last_columns w (chars text)
   pub narrow : IsFalse (has_wide w (chars text))
+  pub single : IsTrue n.turn.narrow → AreSingle (chars text)
+  pub turned : IsTurned w n.turn.step old text
 
 -- a line of that index is of this text, or a new one of this text comes in its place
 abbrev pub ComesIn : ℕ → ℕ → StandingLine → List ℕ → List NewLine → List NewLine → Type 0
 ComesIn w at x text new new' =
-    ((string_bytes x.text ≡ text) × (new' ≡ new)) ⊎ ((n : NewLine) × (new' ≡ new ++ n ∷ []) × IsNew w at x.rows text n)
+    ((string_bytes x.text ≡ text) × (new' ≡ new)) ⊎ ((n : NewLine) × (new' ≡ new ++ n ∷ []) × IsNew w at x.rows (string_bytes x.text) text n)
 
 -- how many rows lines have
 abbrev pub heights : List StandingLine → List ℕ
@@ -36,27 +38,42 @@ heights ls = map (λ (l : StandingLine). l.rows) ls
 
 -- a new line has as many rows as the one in its place, one of the first of these
 abbrev pub FitsIn : ℕ → List StandingLine → ℕ → NewLine → Type 0
-FitsIn w on count n = (n.at < count) × IsNew w n.at (get_or (heights on) n.at 0) (string_bytes n.text) n
+FitsIn w on count n = (n.at < count) × IsNew w n.at (get_or (heights on) n.at 0) (get_or (texts on) n.at []) (string_bytes n.text) n
+
+-- new lines, each below the one before it, from a place on
+abbrev pub AreFittingFrom : ℕ → List StandingLine → ℕ → ℕ → List NewLine → Type 0
+AreFittingFrom w on from count [] = Unit {0}
+AreFittingFrom w on from count (n ∷ new) = (from ≤ n.at) × FitsIn w on count n × AreFittingFrom w on (suc n.at) count new
 
 abbrev pub AreFitting : ℕ → List StandingLine → ℕ → List NewLine → Type 0
-AreFitting w on count new = AllByRecursion (FitsIn w on count) new
+AreFitting w on count new = AreFittingFrom w on 0 count new
 
 -- texts with those of new lines in their places
 abbrev pub renewed : List (List ℕ) → List NewLine → List (List ℕ)
 renewed ts [] = ts
 renewed ts (n ∷ new) = set (renewed ts new) n.at (string_bytes n.text)
 
--- a line in the place of another, with as many rows; the same, where it stays
+-- a line in the place of another, with as many rows
 pub record IsInPlace (w : ℕ) (o l : StandingLine) : Type 0 where
   pub rows_are : l.rows ≡ o.rows
   pub line : IsLine w l
-  pub same : IsTrue l.stays → string_bytes l.text ≡ string_bytes o.text
+
+-- what becomes of a line makes another of it, and can be written
+pub record IsOver (w : ℕ) (o l : StandingLine) : Type 0 where
+  pub becomes : (stood : List (List Cell)) → stood ≡ looks_of (rows_of w (chars (string_bytes o.text))) → Becomes w (placed_of l).change stood (string_bytes l.text)
+  pub ready : IsReady l.step (string_bytes l.before) (string_bytes l.text)
+  pub waiting : IsTrue (placed_of l).waits → Ends w (placed_of l).change (string_bytes l.text)
 
 -- lines in the place of others
 abbrev pub AreInPlace : ℕ → List StandingLine → List StandingLine → Type 0
 AreInPlace w [] [] = Unit {0}
 AreInPlace w (o ∷ on) (l ∷ ls) = IsInPlace w o l × AreInPlace w on ls
 AreInPlace w _ _ = ⊥
+
+abbrev pub AreOver : ℕ → List StandingLine → List StandingLine → Type 0
+AreOver w [] [] = Unit {0}
+AreOver w (o ∷ on) (l ∷ ls) = IsOver w o l × AreOver w on ls
+AreOver w _ _ = ⊥
 
 -- what is remembered, with new lines in their places
 pub record Renews (r : Remembered) (new : List NewLine) (r' : Remembered) : Type 0 where

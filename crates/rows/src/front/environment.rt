@@ -169,7 +169,7 @@ fn push_target(target: ProgressDrawTarget<StreamTerm<Stream>>, got: &mut Got) {
 fn turns_wrap_off(term: &mut StreamTerm<Stream>) -> io::Result<bool> {
     term.write_str("a")?;
     term.flush()?;
-    let written = &term.term().writer().get_ref().bytes;
+    let written = &term.term().writer().get_ref().get_ref().bytes;
     Ok(written.first() == Some(&0x1b))
 }
 

@@ -1,7 +1,7 @@
 //! A board on a pane of another size than it was told.
 //!
 //! `told ROWS COLS on ROWS COLS` begins with a board that is told the first size, on a pane of the second one; `trusted ROWS COLS on ROWS
-//! COLS` with one whose rows are left to the terminal. Then
+//! COLS` with one whose rows are left to the terminal; `row K/N ROWS COLS on ROWS COLS` with one on row K of N. Then
 //!
 //! - `size ROWS COLS`: the board is told another size. `pane ROWS COLS`: the pane gets another one. `target ROWS COLS`: the board goes on
 //!   there on a target of this size, whose rows are left to the terminal.
@@ -10,6 +10,7 @@
 //! - Any other step is a call of the board or of a bar.
 use crate::front::pane::{Pane, Wire};
 use indicatif::{Answer, Board, NoTracker, OwnRows, ProgressDrawTarget, Term, TermLike};
+use meter_parts::row_said;
 use scripts::boards::{BOARD_ID, board_call, push_answer};
 use scripts::got::{Bad, Got};
 use scripts::row::{At, headed};
@@ -32,9 +33,15 @@ pub struct OnPane {
 /// A board without bars.
 pub fn begin(alloc: Global, name: &str, rest: &str) -> Result<Box<OnPane>, Bad> {
     let at = At { alloc, now: 0 };
-    let (pane, term) = Pane::told(alloc, rest)?;
-    let term = match name {
-        "trusted" => OwnRows::left_to_terminal(term),
+    let (row, sizes) = match name {
+        "row" => headed(rest),
+        _ => ("", rest),
+    };
+    let (pane, term) = Pane::told(alloc, sizes)?;
+    let term = match (name, row_said(row)) {
+        ("trusted", _) => OwnRows::left_to_terminal(term),
+        ("row", Some(row)) => OwnRows::on_row(term, row),
+        ("row", None) => return Err(Bad::Step),
         _ => OwnRows::new(term),
     };
     let target = ProgressDrawTarget::term_like(term);

@@ -1,7 +1,8 @@
-//! A terminal whose wrap can be turned off and on: a screen, and DEC's private mode 7 before it (ESC `[?7l`, ESC `[?7h`).
+//! A terminal whose wrap can be turned off and on: a screen, and DEC's private mode 7 before it (ESC `[?7l`, ESC `[?7h`). It also knows how
+//! to empty a row from the cursor on (ESC `[K`).
 //!
 //! With the wrap off a character on the last column leaves the cursor there, so that the next one takes its place; one of two columns
-//! that would begin there is passed over. So does tmux.
+//! that would begin there is passed over. So does tmux. Synchronized updates (DEC's private mode 2026) change nothing.
 use indicatif::{Refusal, Term, width};
 use scripts::got::{Bad, Got};
 use scripts::row::{Words, headed};
@@ -82,7 +83,7 @@ impl Pane {
         for _ in 0..text.len() {
             rest = match self.switched(rest) {
                 Some(behind) => behind,
-                None => self.show_first(rest)?,
+                None => self.show_next(rest)?,
             };
         }
         Ok(())
@@ -94,7 +95,31 @@ impl Pane {
         let on = text.strip_prefix("\u{1b}[?7h");
         self.wraps
             .set(self.wraps.get() && off.is_none() || on.is_some());
-        off.or(on)
+        off.or(on).or(behind_update(text))
+    }
+
+    /// Empties the row from the cursor on, where the text begins with that (ESC `[K`), or shows what it begins with; what stands behind it.
+    fn show_next<'a>(&self, text: &'a str) -> io::Result<&'a str> {
+        match text.strip_prefix("\u{1b}[K") {
+            Some(behind) => self.empty_behind(behind),
+            None => self.show_first(text),
+        }
+    }
+
+    /// Empties the row from the cursor on, where this stands behind the sequence that asks for it.
+    fn empty_behind<'a>(&self, text: &'a str) -> io::Result<&'a str> {
+        let columns = self.columns.get().saturating_sub(self.column());
+        self.feed_times(b" ", columns)?;
+        self.feed_times(b"\x1b[1D", columns)?;
+        Ok(text)
+    }
+
+    /// Hands bytes to the screen so many times.
+    fn feed_times(&self, bytes: &[u8], times: u16) -> io::Result<()> {
+        for _ in 0..times {
+            self.screen.feed(bytes)?;
+        }
+        Ok(())
     }
 
     /// Shows the first character, or the escape sequence at the front; what stands behind it.
@@ -151,6 +176,13 @@ impl Pane {
         let text = c.encode_utf8(&mut bytes);
         self.screen.feed(text.as_bytes())
     }
+}
+
+/// What stands behind the sequence with which a synchronized update begins or ends, where the text begins with that: a pane shows all as it
+/// comes.
+fn behind_update(text: &str) -> Option<&str> {
+    let begun = text.strip_prefix("\u{1b}[?2026h");
+    begun.or(text.strip_prefix("\u{1b}[?2026l"))
 }
 
 /// The writer that leads to a pane. It takes texts whole.

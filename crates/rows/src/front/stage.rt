@@ -5,10 +5,10 @@ use crate::front::bytes::{self, OverCounted};
 use crate::front::fronts::World;
 use crate::front::lists::{self, List};
 use crate::front::loops::Looped;
-use crate::front::metered::Metered;
 use crate::front::on_pane::OnPane;
 use crate::front::places::Places;
-use crate::front::{beside, environment, fronts, loops, metered, on_pane, places};
+use crate::front::plain::Plain;
+use crate::front::{beside, environment, fronts, loops, on_pane, places, plain};
 use scripts::got::{Bad, Got};
 use scripts::row::headed;
 use std::alloc::Global;
@@ -28,7 +28,7 @@ pub enum On<R: Wait + Copy + Clone + Drop> {
     Loop(Box<Looped>),
     Places(Box<Places>),
     Pane(Box<OnPane>),
-    Metered(Box<Metered>),
+    Plain(Box<Plain>),
 }
 
 /// What is played on, and the machine.
@@ -49,8 +49,8 @@ impl<R: AllocGlobal + RandomSource + Wait + Copy + Clone + Drop> Stage<R> {
             "list" => on!(List, lists::begin(self.alloc, rest)),
             "loop" => on!(Loop, loops::begin(self.alloc, rest)),
             "places" => on!(Places, places::begin(self.alloc, rest)),
-            "told" | "trusted" => on!(Pane, on_pane::begin(self.alloc, name, rest)),
-            "metered" => on!(Metered, metered::begin(self.alloc, rest)),
+            "plain" => on!(Plain, plain::begin(self.alloc, rest)),
+            "told" | "trusted" | "row" => on!(Pane, on_pane::begin(self.alloc, name, rest)),
             _ => return None,
         })
     }
@@ -70,7 +70,7 @@ impl<
             On::Loop(world) => world.step(step, got),
             On::Places(world) => world.step(step, got),
             On::Pane(world) => world.step(step, got),
-            On::Metered(world) => world.step(step, got),
+            On::Plain(world) => world.step(step, got),
         }
     }
 }

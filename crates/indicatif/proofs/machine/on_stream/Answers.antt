@@ -1,6 +1,5 @@
-use Rattle.indicatif.specs.Machine.{columns_by}
 use Rattle.indicatif.proofs.machine.on_stream.Goals as goal
 
 pub returns-clause-target : goal.returns-clause-target
 returns-clause-target g c =
-    (c.in_ok-told.told, record c.in_ok-facts.facts { cols = columns_by c.in_ok-told.told }, c.in_ok-target.ensures.target)
+    (c.in_ok-told.told.cols, record c.in_ok-told.told { cols = c.own_columns.result }, (c.own_columns.ensures, c.in_ok-target.ensures.target))

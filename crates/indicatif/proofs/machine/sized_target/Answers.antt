@@ -1,10 +1,9 @@
-use Rattle.std.proofs.Common.{Some, refl}
+use Rattle.std.proofs.Common.{refl}
 use Rattle.std.proofs.lemmas.Result.{IfOk-weaker}
-use Rattle.indicatif.specs.Machine.{columns_by}
 use Rattle.indicatif.proofs.machine.sized_target.Goals as goal
 
 pub returns-clause-target : goal.returns-clause-target
 returns-clause-target g c =
-    let facts = c.in_ok-facts_of.field-0 in
-    let told = record facts { rows = c.args.rows; cols = columns_by (Some c.args.cols) } in
-    IfOk-weaker c.target_on.result _ _ (λ t e. (told, refl, e)) c.target_on.ensures.target
+    let facts = record c.in_ok-facts_of.field-0 { rows = c.args.rows; cols = c.args.cols } in
+    let behind = c.in_ok-behind.ensures.term in
+    IfOk-weaker c.term.result _ _ (λ t e. (facts, refl, refl, (behind.0, c.now.result, rw (c.left_to_terminal.ensures, behind.1) at e))) c.term.ensures.target

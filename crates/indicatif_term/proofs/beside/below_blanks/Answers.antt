@@ -1,8 +1,9 @@
-use Rattle.std.proofs.Common.{arith, ◌≡◌, refl, sym, ◌∙◌, ap, subst, false, None, append-nil, append_assoc, ◌++◌, ◌∷◌, []}
+use Rattle.std.proofs.Common.{arith, ◌≡◌, refl, sym, ◌∙◌, ap, subst, true, None, append-nil, append_assoc, ◌++◌, ◌∷◌, []}
 use Rattle.std.specs.Prelude.{string_bytes}
 use Rattle.std.proofs.lemmas.List.{map-append}
 use Rattle.indicatif_term.specs.Standing.{texts, IsLine, AreLines}
 use Rattle.indicatif_term.specs.Inside.Layouts.{IsLike, AreLike}
+use Rattle.indicatif_term.specs.declared.parting.Step.TheVariants.{Whole}
 use Rattle.indicatif_term.specs.declared.remembered.StandingLine.{StandingLine}
 use Rattle.indicatif_term.proofs.BesideLemmas.{AreBlanks, all_append, no_blanks_yet, one_blank_more, turned}
 use Rattle.indicatif_term.proofs.beside.below_blanks.Goals as goal
@@ -13,7 +14,7 @@ loop-init c = ([], no_blanks_yet, sym (append-nil c.args.lines.items))
 pub loop-preserved : goal.loop-preserved
 loop-preserved c =
     let b = c.loop.invariant in
-    let x : StandingLine = record { text = c.take_text.result; rows = 1; last = 0; stays = false; like = None } in (
+    let x : StandingLine = record { text = c.take_text.result; before = c.no_text.result; rows = 1; last = 0; narrow = true; step = Whole; like = None } in (
       b.0 ++ x ∷ [],
       one_blank_more c.loop.counter b.0 x b.1 c.take_text.ensures refl refl refl,
       c.in_ok-push.ensures.items ∙ ap (λ ys. ys ++ x ∷ []) b.2 ∙ append_assoc c.args.lines.items b.0 (x ∷ []),

@@ -1,5 +1,5 @@
 use Rattle.std.proofs.Common.{◌≡◌, ◌<◌, drop, subst, sym}
-use Rattle.indicatif_term.specs.Inside.Skips.{placed_height}
+use Rattle.indicatif_term.specs.Inside.Changes.{placed_height}
 use Rattle.indicatif_term.specs.Standing.{placed, AreLines}
 use Rattle.indicatif_term.proofs.RememberedLemmas.{lines_right, kept_right}
 use Rattle.indicatif_term.proofs.CarriedLemmas.{carried_rows, none_carried}

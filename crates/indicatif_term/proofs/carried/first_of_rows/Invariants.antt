@@ -1,6 +1,6 @@
 use Rattle.std.proofs.Common.{◌≡◌, ◌≤◌, ◌+◌, drop, length}
 use Rattle.indicatif_term.specs.Standing.{placed}
-use Rattle.indicatif_term.specs.Inside.Skips.{placed_height}
+use Rattle.indicatif_term.specs.Inside.Changes.{placed_height}
 use Rattle.indicatif_term.proofs.carried.first_of_rows.Given as goal
 
 abbrev pub invariant-loop-left : goal.invariant-loop-left

@@ -1,14 +1,15 @@
-use Rattle.std.proofs.Common.{arith, ◌<◌, refl, sym, ◌∙◌, ap, length, true}
+use Rattle.std.proofs.Common.{arith, ◌<◌, refl, sym, ◌∙◌, ap, ◌≡◌, ◌∷◌, [], take, take_all, length, subst}
+use Rattle.std.specs.List.{AllByRecursion}
 use Rattle.std.specs.Prelude.{string_bytes}
-use Rattle.std.proofs.lemmas.List.{length-map}
+use Rattle.std.proofs.lemmas.List.{length-map, take_more_set}
 use Rattle.indicatif_term.specs.Standing.{IsLine}
 use Rattle.indicatif_term.specs.declared.remembered.StandingLine.{StandingLine}
-use Rattle.indicatif_term.proofs.BesideLemmas.{all_at, all_set, noted_line, texts_noted}
-use Rattle.indicatif_term.proofs.RenewedLemmas.{in_place}
+use Rattle.indicatif_term.proofs.BesideLemmas.{all_append, all_at, all_set, noted_line, texts_noted}
+use Rattle.indicatif_term.proofs.RenewedLemmas.{IsLeft, in_place, all_over}
 use Rattle.indicatif_term.proofs.renewed.leave_all.Goals as goal
 
 pub loop-at-init : goal.loop-at-init
-loop-at-init c = record { texts_same = refl; right = λ w all. all }
+loop-at-init c = record { texts_same = refl; right = λ w all. all; left = tt }
 
 pub loop-at-preserved : goal.loop-at-preserved
 loop-at-preserved c =
@@ -20,12 +21,19 @@ loop-at-preserved c =
     let h : i < length ys = omega (arith, ap length old.texts_same, length-map ys bytes, length-map c.args.lines.now.items bytes, c.loop-at-test.true, c.len-at-end.ensures) in
     let e = sym c.index_mut.ensures.value in
     record {
-      texts_same = texts_noted ys i x true e ∙ old.texts_same;
-      right = λ w all. all_set (IsLine w) ys i _ (noted_line w x true (all_at (IsLine w) ys i x h e (old.right w all))) (old.right w all);
+      texts_same = texts_noted ys i x _ e ∙ old.texts_same;
+      right = λ w all. all_set (IsLine w) ys i _ (noted_line w x _ (all_at (IsLine w) ys i x h e (old.right w all))) (old.right w all);
+      left = subst (AllByRecursion IsLeft) (sym (take_more_set ys i _ h)) (all_append IsLeft (take i ys) (_ ∷ []) old.left (refl, tt));
     }
 
 pub returns : goal.returns
-returns c = record {
-  texts = c.loop-at.invariant.texts_same;
-  in_place = λ w all. in_place w c.args.lines.now.items c.loop-at.lines.items all (c.loop-at.invariant.right w all) c.loop-at.invariant.texts_same;
-}
+returns c =
+    let ys = c.loop-at.lines.items in
+    let bytes = λ (l : StandingLine). string_bytes l.text in
+    let all : take c.loop-at.at ys ≡ ys = take_all c.loop-at.at ys
+    (omega (arith, ap length c.loop-at.invariant.texts_same, length-map ys bytes, length-map c.args.lines.now.items bytes, c.loop-at-test.false, c.len-at-end.ensures)) in
+    record {
+      texts = c.loop-at.invariant.texts_same;
+      in_place = λ w all. in_place w c.args.lines.now.items ys all (c.loop-at.invariant.right w all) c.loop-at.invariant.texts_same;
+      over = λ w. all_over w c.args.lines.now.items ys c.loop-at.invariant.texts_same (subst (AllByRecursion IsLeft) all c.loop-at.invariant.left);
+    }

@@ -1,9 +1,12 @@
-use Rattle.std.proofs.Common.{◌≡◌, ℕ}
+use Rattle.std.proofs.Common.{◌≡◌, ℕ, take}
+use Rattle.std.specs.List.{AllByRecursion}
 use Rattle.indicatif_term.specs.Standing.{texts, AreLines}
+use Rattle.indicatif_term.proofs.RenewedLemmas.{IsLeft}
 use Rattle.indicatif_term.proofs.renewed.leave_all.Given as goal
 
 abbrev pub invariant-loop-at : goal.invariant-loop-at
 invariant-loop-at l = record {
   texts_same : texts l.lines.items ≡ texts l.fn.lines.items;
   right : (w : ℕ) → AreLines w l.fn.lines.items → AreLines w l.lines.items;
+  left : AllByRecursion IsLeft (take l.at l.lines.items);
 }

@@ -29,9 +29,9 @@ pub returns : goal.returns
 returns g c = λ done. elim c.apply.ensures.grows [
   | inl adds ↦
       let board_id = c.args.history.now.board_id in
-      let begun = c.replays.ensures in
+      let begun = c.replays.ensures.2 in
       let target = target_of (known g.T.TermLike.view c.args.history.now.board) in
-      let made = adds.leads board_id begun.0 begun.2 in
-      clear_is_drawn g.K.ProgressTracker.means board_id c.args.now begun.0 made.0 target (answer_of c.apply.result.0) made.2.leads (ap answer_of done)
+      let made = adds.leads board_id begun.state begun.holds in
+      clear_is_drawn g.K.ProgressTracker.means board_id c.args.now begun.state made.0 target (answer_of c.apply.result.0) made.2.leads (ap answer_of done)
   | inr turned ↦ let z = sym turned.1 ∙ done in cc
 ]

@@ -1,10 +1,8 @@
-use Rattle.std.proofs.Common.{◌≡◌, ◌+◌, false, refl, sym, ◌∙◌, ap, subst, arith, map, take, length, ◌++◌, ◌∷◌, [], Ok, Some, None, option_map}
+use Rattle.std.proofs.Common.{◌≡◌, false, refl, sym, ◌∙◌, ap, subst, arith, map, ◌++◌, ◌∷◌, [], Ok, Some, None, option_map}
 use Rattle.std.specs.Prelude.{IsFalse}
-use Rattle.std.proofs.Math.Seq.{take-length}
 use Rattle.std.proofs.lemmas.Bool.{false≢true}
 use Rattle.std.proofs.lemmas.List.Elements.{All-from_recursion}
 use Rattle.indicatif_term.specs.Screen.{blank_screen}
-use Rattle.indicatif_term.specs.Shows.{Placed}
 use Rattle.indicatif_term.specs.Terminal.{blank_terminal, after}
 use Rattle.indicatif_term.specs.Calls.{State, is_told, led_on}
 use Rattle.indicatif_term.specs.Frames.{text_lines, logged_lines}
@@ -24,11 +22,11 @@ use Rattle.indicatif_bar.specs.LoneBars.{LoneIsIn, lone_bar, lone_timed, lone_kn
 use Rattle.uses.proofs.PictureLemmas.{state_told}
 use Rattle.uses.proofs.LogLemmas.{Front, logged_front, log_written}
 use Rattle.uses.proofs.PlainLemmas.{first_name, first_plain, new_memory}
-use Rattle.uses.proofs.StandingLemmas.{first_row, first_read, headline_on, logged_sound, rows_of_first}
+use Rattle.uses.proofs.StandingLemmas.{above_stays, first_row, first_read, headline_on, logged_sound, rows_of_first}
 use Rattle.uses.proofs.plain.name_stands.Goals as goal
 
 pub returns-in-Some : goal.returns-in-Some
-returns-in-Some g c = λ trackers texts calls_plain.
+returns-in-Some g c = λ texts calls_plain.
     let m = g.K.ProgressTracker.means in
     let bar = c.args.bar in
     let v = view_of new_memory in
@@ -43,18 +41,19 @@ returns-in-Some g c = λ trackers texts calls_plain.
     let made = subst (λ o. CallMade (lone_bar m) o between (Log first_name, 0) start (Ok drawn) log.0) known_is log.2 in
     let call = (Log first_name, 0) ∷ [] in
     let one : Runs (lone_bar m) call (Ok drawn ∷ []) old start between log.0 = (between, log.0, made, (refl, refl)) in
-    let plain_bar : IsPlainBar bar = record {
+    let plain_bar : IsPlainBar m bar = record {
       style = record {
         literals = texts.literals;
         ticks = texts.ticks;
+        trackers = texts.trackers;
         clusters = subst (λ (b : BarRecord g.row.K.Denot). AreTaken b.style.clusters) (c.bar-record.ensures.state start begun) c.style-style.ensures.taken;
       };
       message = texts.message;
       prefix = texts.prefix;
       on_finish = texts.on_finish;
     } in
-    let first = c.plain_texts_give_plain_runs.ensures trackers call (Ok drawn ∷ []) old start between log.0 one plain_bar
-    (All-from_recursion (λ call. IsPlainLoneCall call.0) call (All-from_recursion IsPlainText (first_name ∷ []) (first_plain, tt), tt)) in
+    let first = c.plain_texts_give_plain_runs.ensures call (Ok drawn ∷ []) old start between log.0 one plain_bar
+    (All-from_recursion (λ call. IsPlainLoneCall m call.0) call (All-from_recursion IsPlainText (first_name ∷ []) (first_plain c.columns.ensures.printed, tt), tt)) in
     let painted = made.writes.2.paints first.0.0 in
     let draw = draw_of_call (bar_kind m) (target_of old) (Log first_name) 0 start in
     let written : log.0 ≡ draw.written = log_written m (target_of old) first_name 0 start log.0 drawn refl refl made.leads in
@@ -68,20 +67,19 @@ returns-in-Some g c = λ trackers texts calls_plain.
     let w = made.writes.0 in
     let there = after (blank_terminal 4 10) painted.bytes in
     let shown = (painted.rests refl opening (blank_terminal 4 10) (record { shows = λ _. shows; leads = λ e. absurd (false≢true e) })).shows sound in
-    let none : 0 + length l.above ≡ length l.above = omega arith in
-    let placed = subst (λ n. Placed w.columns w.rows n l there) none (c.where_a_terminal_stands.ensures.shows w.columns w.rows opening l there sound shown) in
+    let placed = c.where_a_terminal_stands.ensures.shows w.columns w.rows opening l there sound shown in
     let later = c.in_ok-_answers.ensures.run log.0 log.1 in
     let last = lone_known view_of c.run.new.self in
     let calls = map lone_timed c.args.calls.items in
     let answers = c.in_ok-_answers._answers.items in
-    let others = c.plain_texts_give_plain_runs.ensures trackers calls answers between log.0 last later.0 later.2 first.1 calls_plain in
+    let others = c.plain_texts_give_plain_runs.ensures calls answers between log.0 last later.0 later.2 first.1 calls_plain in
     let run = headline_on (lone_bar m) calls answers w between log.0 last later.0 later.2 made.writes.1 later.3 others.0 in
     let bytes = run.2.bytes in
     let end = after there bytes in
     let told : w.told ≡ State there = painted.told_is refl in
     let told_then : run.0.told ≡ State end = run.2.told_is (rw told refl) ∙ ap (λ x. led_on x bytes) told in
     let t = state_told c.in-Some.term run.0 end (ap (option_map view_of) (sym c.in-Some.is ∙ c.into_term.ensures) ∙ run.1) told_then in
-    let stay = ap (λ xs. take (length l.above) (after there xs).screen.rows) (sym (take-length bytes)) ∙ run.2.stays (length l.above) there placed (length bytes) in
+    let stay = above_stays w run.0 _ l _ run.2 there placed in
     let read = c.what_is_shown_is_read.ensures w.columns w.rows opening l there shown in
     let begins = first_read end.screen there.screen (rows_of_first 10) w.columns l read.0 front stay read.1 in
     (begins.0, c.in_ok-texts-in-Some.ensures.picture ∙ ap (λ u. picture_text u.screen) t ∙ begins.1 ∙ ap (λ xs. xs ++ begins.0) first_row)

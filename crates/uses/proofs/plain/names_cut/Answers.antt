@@ -15,7 +15,7 @@ use Rattle.indicatif_board.specs.Boards.{Log, Drew, opening_board}
 use Rattle.indicatif_board.specs.Multi.{IsIn, board_sizing, known}
 use Rattle.indicatif_board.specs.PlainBoardLaws.{IsPlainMember}
 use Rattle.uses.proofs.PictureLemmas.{state_told}
-use Rattle.uses.proofs.PlainLemmas.{first_name, small, new_memory, machine, nothing_plain}
+use Rattle.uses.proofs.PlainLemmas.{first_name, small, new_memory, machine}
 use Rattle.uses.proofs.CutLemmas.{short_name, narrow, cut, cut_names_read, none_above, log_of, first_log_plain, short_log_plain}
 use Rattle.uses.proofs.plain.names_cut.Goals as goal
 
@@ -46,9 +46,10 @@ returns-in-Some c =
     let some_rows : 0 < 4 = omega arith in
     let plays : Plays (machine writes_nothing) (board_sizing writes_nothing 0) parts old start after other.0 =
     (before, one.0, logged, (sized, sizes, some, some_rows, (after, other.0, logged_later, (refl, refl)))) in
-    let plain = c.plain_texts_give_plain_runs.ensures nothing_plain 0 (log_of first_name) (Drew c.in_ok-_one._one ∷ []) old start before one.0 logged
-    (All-from_recursion IsPlainMember [] tt) first_log_plain in
-    let plain_later = c.plain_texts_give_plain_runs.ensures nothing_plain 0 (log_of short_name) (Drew c.in_ok-_other._other ∷ []) sized x after other.0 logged_later plain.1 short_log_plain in
+    let plain = c.plain_texts_give_plain_runs.ensures 0 (log_of first_name) (Drew c.in_ok-_one._one ∷ []) old start before one.0 logged
+    (All-from_recursion (IsPlainMember writes_nothing) [] tt) (first_log_plain c.columns.ensures.printed writes_nothing) in
+    let law = c.columns.ensures.printed in
+    let plain_later = c.plain_texts_give_plain_runs.ensures 0 (log_of short_name) (Drew c.in_ok-_other._other ∷ []) sized x after other.0 logged_later plain.1 (short_log_plain law writes_nothing) in
     let shows = c.a_new_terminal_is_an_opening.ensures.shows 4 10 (omega arith) in
     let read = c.scripts_of_a_board.ensures.read 0 parts (view_of new_memory) start after other.0 plays (omega arith) refl refl (plain.0, (plain_later.0, tt)) (blank_screen 4 10)
     (blank_terminal 4 10, refl, shows) in

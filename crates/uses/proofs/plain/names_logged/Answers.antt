@@ -12,7 +12,7 @@ use Rattle.indicatif_board.specs.Boards.{Log, Drew, opening_board}
 use Rattle.indicatif_board.specs.Multi.{IsIn, known}
 use Rattle.indicatif_board.specs.PlainBoardLaws.{IsPlainMember}
 use Rattle.uses.proofs.PictureLemmas.{state_told}
-use Rattle.uses.proofs.PlainLemmas.{first_name, second_name, small, new_memory, machine, names_read, name_logs, logs_plain, nothing_plain}
+use Rattle.uses.proofs.PlainLemmas.{first_name, second_name, small, new_memory, machine, names_read, name_logs, logs_plain}
 use Rattle.uses.proofs.plain.names_logged.Goals as goal
 
 pub returns-in-Some : goal.returns-in-Some
@@ -28,8 +28,8 @@ returns-in-Some c =
     let answers = Drew c.in_ok-_one._one ∷ Drew c.in_ok-_other._other ∷ [] in
     let run : Runs (machine writes_nothing) name_logs answers old start (known view_of c.println-2.new.self) other.0 =
     (known view_of c.println.new.self, one.0, first, (known view_of c.println-2.new.self, other.0, other.2, (refl, refl))) in
-    let plain = (c.plain_texts_give_plain_runs.ensures nothing_plain 0 name_logs answers old start (known view_of c.println-2.new.self) other.0 run
-    (All-from_recursion IsPlainMember [] tt) logs_plain).0 in
+    let plain = (c.plain_texts_give_plain_runs.ensures 0 name_logs answers old start (known view_of c.println-2.new.self) other.0 run
+    (All-from_recursion (IsPlainMember writes_nothing) [] tt) (logs_plain c.columns.ensures.printed writes_nothing)).0 in
     let shows = c.a_new_terminal_is_an_opening.ensures.shows 4 10 (omega arith) in
     let read = c.what_a_board_run_reads.ensures 0 name_logs answers (view_of new_memory) start (known view_of c.println-2.new.self) other.0 refl run refl plain (blank_screen 4 10)
     (blank_terminal 4 10, refl, shows) in

@@ -21,13 +21,13 @@ use Rattle.indicatif_board.proofs.BoardDrawLemmas.{frame_drew, ready_holds, brok
 use Rattle.indicatif_board.proofs.BarRecordLemmas.{evenly, left_head, left_record}
 use Rattle.indicatif_board.proofs.shown_bars.ShownBars.write.Goals as goal
 
-pub put-requires : goal.put-requires
-put-requires g c =
+pub put_in_window-requires : goal.put_in_window-requires
+put_in_window-requires g c =
     let b = c.args.self.now in
     omega (arith, prefix_len-le-length (λ m. m.dropped) b.members.items, c.leading-gone.ensures, c.make_contiguous-frame.ensures.len, b.even, b.members.ok)
 
-pub returns-in_err-put-clause-drew : goal.returns-in_err-put-clause-drew
-returns-in_err-put-clause-drew g c = λ board_id now takes lays ask limiter s laid asked some allows holds lists_stay fits.
+pub returns-in_err-put_in_window-clause-drew : goal.returns-in_err-put_in_window-clause-drew
+returns-in_err-put_in_window-clause-drew g c = λ board_id now takes lays ask limiter s laid asked some allows holds lists_stay fits.
     let tracks = g.K.Tracks.means in
     let b = c.args.self.now in
     let view = g.T.TermLike.view in
@@ -35,16 +35,16 @@ returns-in_err-put-clause-drew g c = λ board_id now takes lays ask limiter s la
     let writing = writing_as c.args.writing in
     let gone = c.leading-gone.result in
     let gone_is : gone ≡ leaders laid.members = c.leading-gone.ensures ∙ leaders_of b.members.items laid.members holds.members_are in
-    let puts = subst (λ f. PutsFrame view writing bottom gone (map bar_lines f) c.args.engine.now c.put.new.engine (Err c.in_err-put.field-0.0))
-    c.make_contiguous-frame.ensures.value c.in_err-put.ensures in
+    let puts = subst (λ f. PutsFrame view writing bottom gone (map bar_lines f) c.args.engine.now c.put_in_window.new.engine (Err c.in_err-put_in_window.field-0.0))
+    c.make_contiguous-frame.ensures.value c.in_err-put_in_window.ensures in
     let limiter_is = sym (ap (λ a. a.1) allows) in
     let x = err_from_is_err_and c.from_residual.result c.from_residual.ensures.1 in
     let same = c.make_contiguous-frame.ensures.writes_back c.make_contiguous-frame.result.now c.make_contiguous-frame.ensures.len ∙ c.make_contiguous-frame.ensures.value in
-    let failed : Result Drawn Refusal = Err c.in_err-put.field-0.0 in
+    let failed : Result Drawn Refusal = Err c.in_err-put_in_window.field-0.0 in
     rw (x.1 ∙ ap Err x.2) (subst (λ f. DrewBy (board (board_bars tracks) board_id) (λ next. Holds f b.members.items b.table.made bottom next × (limiter ≡ next.limiter))
-    view c.args.engine.now c.put.new.engine (draw_of (target_of (Some (view (engine_term c.args.engine.now)))) takes ask now writing s laid lays) s.lists failed) (sym same)
+    view c.args.engine.now c.put_in_window.new.engine (draw_of (target_of (Some (view (engine_term c.args.engine.now)))) takes ask now writing s laid lays) s.lists failed) (sym same)
     (frame_drew tracks view board_id takes ask now writing s laid lays c.args.engine.now b.frame.items b.members.items b.table.made bottom holds
-    (λ next. Holds b.frame.items b.members.items b.table.made bottom next × (limiter ≡ next.limiter)) c.put.new.engine (Err c.in_err-put.field-0.0) gone gone_is asked some
+    (λ next. Holds b.frame.items b.members.items b.table.made bottom next × (limiter ≡ next.limiter)) c.put_in_window.new.engine (Err c.in_err-put_in_window.field-0.0) gone gone_is asked some
     (ap (λ a. a.0) allows) lists_stay fits puts (
       (ready_holds tracks view board_id takes ask now writing s laid lays c.args.engine.now b.frame.items b.members.items b.table.made bottom holds, limiter_is),
       (broken_holds tracks view board_id takes ask now writing s laid lays c.args.engine.now b.frame.items b.members.items b.table.made bottom holds, limiter_is),
@@ -76,14 +76,15 @@ returns-clause-drew g c = λ board_id now takes lays ask limiter s laid asked so
     let writing = writing_as c.args.writing in
     let gone = c.leading-gone.result in
     let gone_is : gone ≡ leaders laid.members = c.leading-gone.ensures ∙ leaders_of b.members.items laid.members holds.members_are in
-    let puts = subst (λ f. PutsFrame view writing bottom gone (map bar_lines f) c.args.engine.now c.put.new.engine (Ok tt)) c.make_contiguous-frame.ensures.value c.in_ok-put.ensures in
+    let puts = subst (λ f. PutsFrame view writing bottom gone (map bar_lines f) c.args.engine.now c.put_in_window.new.engine (Ok tt))
+    c.make_contiguous-frame.ensures.value c.in_ok-put_in_window.ensures in
     let made = sym (ap (λ (t : SlotTable). t.made) c.remove_first.ensures.removed) in
     let same = c.make_contiguous-frame.ensures.writes_back c.make_contiguous-frame.result.now c.make_contiguous-frame.ensures.len ∙ c.make_contiguous-frame.ensures.value in
     subst (λ n. DrewBy (board (board_bars tracks) board_id) (λ next. Holds c.take_front.new.items.items c.take_front-2.new.items.items n bottom next × (limiter ≡ next.limiter))
-    view c.args.engine.now c.put.new.engine
+    view c.args.engine.now c.put_in_window.new.engine
     (draw_of (target_of (Some (view (engine_term c.args.engine.now)))) takes ask now writing s laid lays) s.lists (Ok Yes)) made
     (frame_drew tracks view board_id takes ask now writing s laid lays c.args.engine.now b.frame.items b.members.items b.table.made bottom holds
-    (λ next. Holds c.take_front.new.items.items c.take_front-2.new.items.items b.table.made bottom next × (limiter ≡ next.limiter)) c.put.new.engine (Ok tt) gone gone_is asked some
+    (λ next. Holds c.take_front.new.items.items c.take_front-2.new.items.items b.table.made bottom next × (limiter ≡ next.limiter)) c.put_in_window.new.engine (Ok tt) gone gone_is asked some
     (ap (λ a. a.0) allows) lists_stay fits puts (
       written_holds tracks view board_id takes ask now writing s laid lays c.args.engine.now b.frame.items b.members.items b.table.made bottom holds
           gone c.take_front.new.items.items c.take_front-2.new.items.items (c.take_front.ensures ∙ ap (drop gone) same) c.take_front-2.ensures gone_is,
@@ -108,7 +109,7 @@ returns-clause-head g c = λ yes head rest order.
 pub returns-clause-stay : goal.returns-clause-stay
 returns-clause-stay g c = λ other. absurd (other refl)
 
-pub returns-in_err-put-clause-head : goal.returns-in_err-put-clause-head
-returns-in_err-put-clause-head g c = λ yes.
+pub returns-in_err-put_in_window-clause-head : goal.returns-in_err-put_in_window-clause-head
+returns-in_err-put_in_window-clause-head g c = λ yes.
     let x = err_from_is_err_and c.from_residual.result c.from_residual.ensures.1 in
     absurd (cc (sym (x.1 ∙ ap Err x.2) ∙ yes))

@@ -1,4 +1,4 @@
-use Rattle.std.proofs.Common.{◌≡◌, ◌≤◌, ◌∙◌, sym, ap, arith, length, take, drop, ◌++◌, subst}
+use Rattle.std.proofs.Common.{◌≡◌, ◌≤◌, sym, ap, arith, length, take, subst}
 use Rattle.std.proofs.lemmas.List.{length-append, length-drop, length-take-le}
 use Rattle.indicatif_board.specs.Slots.{SlotTable, IsSeated, head_unseated, made_by}
 use Rattle.indicatif_board.proofs.SlotLemmas.{head_keeps}

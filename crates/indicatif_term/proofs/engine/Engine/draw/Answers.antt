@@ -1,12 +1,11 @@
-use Rattle.std.proofs.Common.{map, arith, ◌∙◌, sym, ap, subst, [], ◌∷◌, length}
+use Rattle.std.proofs.Common.{map, ◌∙◌, sym, ap, subst, []}
 use Rattle.std.proofs.Math.Logic.{∥∥₁_map}
-use Rattle.std.proofs.lemmas.List.{length-map}
 use Rattle.indicatif_term.specs.Inside.Remembering.{Draws}
 use Rattle.indicatif_term.specs.Lists.{drawn}
 use Rattle.indicatif_term.specs.Counts.{CountsOf}
-use Rattle.indicatif_term.specs.Inside.Skips.{change_bytes}
+use Rattle.indicatif_term.specs.Inside.Changes.{change_bytes}
 use Rattle.indicatif_term.specs.Inside.Renewed.{IsRenewed}
-use Rattle.indicatif_term.specs.Standing.{placed_of, placed}
+use Rattle.indicatif_term.specs.Standing.{placed}
 use Rattle.indicatif_term.specs.Remembered.{AreRemembered}
 use Rattle.indicatif_term.specs.Frames.{bar_lines, all_lines}
 use Rattle.indicatif_term.specs.Engines.{engine_term}
@@ -57,10 +56,10 @@ returns-in-Some-clause-counted g c =
     let q : IsRenewed s.columns s.rows c.args.frame.now counts shown c.in-Some.changed.items = rw (c.of-before.ensures.counts, c.of-before.ensures.shown) at c.in-Some.ensures.renewed in
     let done = c.renew.ensures in
     let parts = split_last (placed done.1) (stands_again s.columns s.rows c.args.frame.now counts shown c.in-Some.changed.items c.in-Some.ensures.some q done.1 done.4) in
-    counted_by (change_bytes shown.width 0 parts.0 parts.1 []) _ _ counts done.0 c.renew.result c.renew.new.self done.3 (done.6 parts.0 parts.1 parts.2)
+    counted_by (change_bytes shown.width 0 parts.0 parts.1 []) _ _ counts done.0 c.renew.result c.renew.new.self done.3 (done.7 parts.0 parts.1 parts.2)
 
 pub returns-in-Some-clause-moves : goal.returns-in-Some-clause-moves
-returns-in-Some-clause-moves g c = c.renew.ensures.7
+returns-in-Some-clause-moves g c = c.renew.ensures.8
 
 pub returns-in-Some-clause-lists : goal.returns-in-Some-clause-lists
 returns-in-Some-clause-lists g c = λ l fits.
@@ -100,9 +99,9 @@ returns-in-Some-clause-paints g c = λ l fits plain.
     let parts = split_last (placed done.1) (stands_again s.columns s.rows frame counts shown new some q done.1 done.4) in
     let bytes = change_bytes s.columns 0 parts.0 parts.1 [] in
     let writes : Draws bytes s v' c.renew.result = subst (λ n. Draws (change_bytes n 0 parts.0 parts.1 []) s v' c.renew.result) q.settled.same_width
-    (done.6 parts.0 parts.1 parts.2) in
+    (done.7 parts.0 parts.1 parts.2) in
     paints_by s v' counts counts r c.renew.result c.renew.new.self c.args.self.now.failed l (drawn s.columns s.rows bottom c.args.pass (map bar_lines frame)) bytes done.3
     (fits_failed c.args.self.now l fits) (subst (λ f. Draws (led f bytes) s v' c.renew.result) (sym may.0) writes)
     (λ x is. subst (λ n. Redraws s.columns s.rows x (drawn s.columns s.rows bottom n (map bar_lines frame) x) bytes) (sym may.1)
-    (redraws_new s.columns s.rows frame counts shown new some q done.1 (done.5 ∙ done.2.texts_are) done.4 bottom l x parts.0 parts.1 o known plain is.counts is.live parts.2)) o
+    (redraws_new s.columns s.rows frame counts shown new some q done.1 (done.6 ∙ done.2.texts_are) done.4 bottom l x parts.0 parts.1 done.5 o known plain is.counts is.live parts.2)) o
     (fits_forgets c.args.self.now l fits) (drawn-sound s.columns s.rows bottom c.args.pass (map bar_lines frame) l) (drawn-adds s.columns s.rows bottom c.args.pass (map bar_lines frame) l)

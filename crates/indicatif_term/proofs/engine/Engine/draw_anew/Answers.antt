@@ -7,24 +7,23 @@ use Rattle.indicatif_term.specs.Lists.{Lists, drawn, live_rows}
 use Rattle.indicatif_term.specs.Counts.{CountsOf}
 use Rattle.indicatif_term.specs.Shows.{looks_of}
 use Rattle.indicatif_term.specs.Inside.Bytes.{paint_bytes}
-use Rattle.indicatif_term.specs.Inside.Skips.{change_bytes, AreSitting}
+use Rattle.indicatif_term.specs.Inside.Changes.{change_bytes, AreSitting}
 use Rattle.indicatif_term.specs.Standing.{placed_of, placed, AreLines}
 use Rattle.indicatif_term.specs.Inside.Moves.{moved_bytes, AreEven}
 use Rattle.indicatif_term.proofs.LastLineLemmas.{fill_bytes}
 use Rattle.indicatif_term.specs.Inside.Plans.{frame_lines}
 use Rattle.indicatif_term.specs.Inside.Layouts.{AreLike}
 use Rattle.indicatif_term.specs.declared.remembered.Remembered.{Remembered}
-use Rattle.indicatif_term.specs.Frames.{bar_lines, all_lines, is_fault}
+use Rattle.indicatif_term.specs.Frames.{bar_lines, is_fault}
 use Rattle.indicatif_term.specs.Engines.{engine_term}
 use Rattle.indicatif_term.specs.DrawTargets.{is_bottom}
 use Rattle.indicatif_term.proofs.DrawingLemmas.{drawn-adds, drawn-sound}
 use Rattle.indicatif_term.proofs.LineEndLemmas.{draw_fill}
-use Rattle.indicatif_term.proofs.EngineLemmas.{paints_refused, paints_by, led, fill_led, fits_counts, fits_failed, fits_forgets, fits_by, fits_shown, draw_paints, answer_made}
+use Rattle.indicatif_term.proofs.EngineLemmas.{paints_refused, paints_by, led, fill_led, fits_counts, fits_failed, fits_forgets, fits_by, fits_shown, draw_paints}
 use Rattle.indicatif_term.proofs.SkippingLemmas.{drawn_shown, drawn_suits, sits_live, draw_changes, split_at, counted_by, some_lines}
 use Rattle.indicatif_term.proofs.OverLemmas.{AreWide}
 use Rattle.indicatif_term.proofs.MovingLemmas.{live_wide, draw_moves}
 use Rattle.indicatif_term.proofs.ShownRowLemmas.{frame_lines_le}
-use Rattle.indicatif_term.specs.Remembered.{AreRemembered}
 use Rattle.indicatif_term.proofs.engine.Engine.draw_anew.Goals as goal
 
 pub returns-in_err-planned-clause-paints : goal.returns-in_err-planned-clause-paints
@@ -221,6 +220,9 @@ rewrite-requires-clause-suits g c =
       drawn_suits win.columns s.columns s.rows c.args.pass c.blanks_of-blanks.result bottom c.args.frame.now l old c.drawn-next.result c.in_ok-planned.planned.plan _ p.columns_are refl x.1.counted
           p.plan_is blanks t (c.in_ok-kept.ensures.rows l x.1.remembered x.1.counted) next,
     ))
+
+pub rewrite-requires-clause-ready : goal.rewrite-requires-clause-ready
+rewrite-requires-clause-ready g c = c.in_ok-lines.ensures.ready
 
 pub repaint-requires : goal.repaint-requires
 repaint-requires g c =

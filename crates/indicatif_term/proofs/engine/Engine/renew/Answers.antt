@@ -1,4 +1,4 @@
-use Rattle.std.proofs.Common.{arith, vec_len, ◌∙◌, refl, sym, subst, ap, []}
+use Rattle.std.proofs.Common.{arith, vec_len, ◌∙◌, refl, sym, subst}
 use Rattle.std.proofs.lemmas.Bool.{eqb-true}
 use Rattle.std.proofs.lemmas.List.{nil_from_length}
 use Rattle.indicatif_term.specs.Inside.Remembering.{Draws}
@@ -19,9 +19,10 @@ returns-then-is_empty g c =
       c.stay.ensures.remembers,
       x.1,
       x.2,
-      λ front last s. subst (λ b. Draws b v v' c.stay.result) (x.3 front last s) c.stay.ensures.writes,
+      x.3,
+      λ front last s. subst (λ b. Draws b v v' c.stay.result) (x.4 front last s) c.stay.ensures.writes,
       c.stay.ensures.moves,
     )
 
 pub returns : goal.returns
-returns g c = let d = c.write_new.ensures in (d.0, d.0.lines.items, d.1, d.2, d.1.in_place, refl, d.3, d.4)
+returns g c = let d = c.write_new.ensures in (d.0, d.0.lines.items, d.1, d.2, d.1.in_place, d.3, refl, d.4, d.5)

@@ -1,17 +1,26 @@
-use Rattle.std.proofs.Common.{arith, sym, subst, ap}
+use Rattle.std.proofs.Common.{arith, ◌-◌, sym, subst, ap}
 use Rattle.std.specs.IoError.{error_kind}
 use Rattle.indicatif_text.specs.declared.refusal.Refusal.TheVariants.{Terminal}
 use Rattle.indicatif_term.specs.Calls.{LeadsOn, BreaksOff}
 use Rattle.indicatif_term.specs.Engines.{engine_term}
-use Rattle.indicatif_term.specs.Inside.Skips.{change_bytes}
+use Rattle.indicatif_term.specs.Inside.Changes.{change_bytes}
+use Rattle.indicatif_term.proofs.BesideLemmas.{ready_at, ready_take}
 use Rattle.indicatif_term.proofs.RememberedLemmas.{changed_by, height_to}
 use Rattle.indicatif_term.proofs.engine.Engine.rewrite.Goals as goal
 
-pub write_changes-requires : goal.write_changes-requires
-write_changes-requires g c =
+pub write_changes-requires-clause-small : goal.write_changes-requires-clause-small
+write_changes-requires-clause-small g c =
     let ls = c.args.shown.lines.items in
     let room = c.requires.room.1 in
-    record { small = rw c.deref.ensures.value (omega (arith, height_to ls c.args.room.lines c.index.result.now room.some room.in_lines (sym c.index.ensures), room.rows_are, c.requires.room.2)) }
+    rw c.deref.ensures.value (omega (arith, height_to ls c.args.room.lines c.index.result.now room.some room.in_lines (sym c.index.ensures), room.rows_are, c.requires.room.2))
+
+pub write_changes-requires-clause-front : goal.write_changes-requires-clause-front
+write_changes-requires-clause-front g c = rw c.deref.ensures.value (ready_take c.args.shown.lines.items _ c.requires.ready)
+
+pub write_changes-requires-clause-last : goal.write_changes-requires-clause-last
+write_changes-requires-clause-last g c =
+    let room = c.requires.room.1 in
+    (ready_at c.args.shown.lines.items (c.args.room.lines - 1) c.index.result.now (omega (arith, room.some, room.in_lines)) (sym c.index.ensures) c.requires.ready, tt)
 
 pub returns-in-Ok-clause-writes : goal.returns-in-Ok-clause-writes
 returns-in-Ok-clause-writes g c = λ front last more s k.

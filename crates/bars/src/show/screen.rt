@@ -1,0 +1,96 @@
+//! The terminal's own file, or cells in its place.
+use indicatif::machine::{StreamTerm, UntilGone, on_stream};
+use indicatif::{Cells, OwnRows, ProgressDrawTarget, Refusal, Term};
+use std::alloc::Global;
+use std::fs::{self, File, OpenOptions};
+use std::io::{self, BufWriter, ErrorKind, IsTerminal, Write};
+
+/// Rows and columns of the cells.
+const SIZE: (u16, u16) = (12, 79);
+
+/// What bars are drawn on.
+#[derive(Drop)]
+pub enum Screen {
+    /// The terminal's own file.
+    Terminal(File),
+    /// Cells.
+    Cells(Cells),
+}
+
+impl Screen {
+    /// What stands in the cells.
+    pub fn contents(&self, alloc: Global) -> Result<String, Refusal> {
+        match self {
+            Screen::Terminal(_) => Ok(String::new(alloc)),
+            Screen::Cells(cells) => cells.contents(),
+        }
+    }
+}
+
+impl IsTerminal for Screen {
+    fn is_terminal(&self) -> bool {
+        match self {
+            Screen::Terminal(file) => file.is_terminal(),
+            Screen::Cells(_) => false,
+        }
+    }
+}
+
+impl Write for Screen {
+    fn write(&mut self, buf: &[u8]) -> io::Result<usize> {
+        match self {
+            Screen::Terminal(file) => file.write(buf),
+            Screen::Cells(cells) => match cells.feed(buf) {
+                Ok(()) => Ok(buf.len()),
+                Err(_) => Err(io::Error::from(ErrorKind::OutOfMemory)),
+            },
+        }
+    }
+
+    fn flush(&mut self) -> io::Result<()> {
+        match self {
+            Screen::Terminal(file) => file.flush(),
+            Screen::Cells(_) => Ok(()),
+        }
+    }
+}
+
+/// A target on the terminal, if there is one that bars can be drawn on.
+pub fn on_terminal(
+    rt: &HostRuntime,
+) -> Result<Option<ProgressDrawTarget<StreamTerm<Screen>>>, Refusal> {
+    let Some(file) = terminal(rt) else {
+        return Ok(None);
+    };
+    let setup = on_stream(rt, Screen::Terminal(file))?;
+    if setup.target.is_hidden() {
+        return Ok(None);
+    }
+    Ok(Some(setup.target))
+}
+
+/// A terminal of cells.
+pub fn on_cells(alloc: Global) -> Result<StreamTerm<Screen>, Refusal> {
+    let (rows, cols) = SIZE;
+    let cells = Screen::Cells(Cells::new(alloc, rows, cols)?);
+    let Ok(buffered) = BufWriter::new(alloc, UntilGone::new(cells)) else {
+        return Err(Refusal::Memory);
+    };
+    Ok(OwnRows::left_to_terminal(Term::new(buffered, rows, cols)))
+}
+
+/// The file of this program's terminal. `rt try` starts a program without one: then that of the program that started it, if its standard
+/// output is one.
+fn terminal(rt: &HostRuntime) -> Option<File> {
+    let mut how = OpenOptions::new();
+    how.write(true);
+    if let Ok(file) = how.open(rt, "/dev/tty") {
+        return Some(file);
+    }
+    let own = fs::read_to_string(rt, "/proc/self/stat").ok()?;
+    let (_, numbers) = own.as_str().rsplit_once(") ")?;
+    let parent = numbers.split(' ').nth(1)?;
+    let name = format!(in rt.alloc(); "/proc/{parent}/fd/1").ok()?;
+    let file = how.open(rt, name.as_str()).ok()?;
+    if file.is_terminal() { Some(file) } else { None }
+}

@@ -1,0 +1,116 @@
+//! A storm on standard error: 64 threads log above four bars, move them and pause them, all at once, while one more thread ticks a bar; three
+//! times, each time on a new target. How many lines each thread has written is printed. `tools/storms.py` looks whether all of them stand.
+use anyhow::Result;
+use indicatif::bridge::{StderrLogger, logger_above};
+use indicatif::machine::{Shares, StderrBar, StderrBoard, on_stderr};
+use indicatif::{Drawn, MultiProgress, Refusal};
+use log::{Level, info};
+use std::io::Write;
+use std::thread::{map_indices, sleep};
+use std::time::Duration;
+
+/// The threads.
+const THREADS: usize = 64;
+
+/// The steps of each on a target.
+const STEPS: u64 = 20;
+
+/// The targets, one after another.
+const TARGETS: u64 = 3;
+
+/// The nanoseconds between two ticks.
+const TICK: u64 = 2_000_000;
+
+/// What all threads share: a board with four bars.
+#[derive(Drop)]
+struct Storm<'a, R: Shares> {
+    rt: &'a R,
+    host: &'a HostRuntime,
+    board: &'a StderrBoard<R>,
+    bars: [StderrBar<R>; 4],
+    log: &'a StderrLogger<R>,
+}
+
+/// Writes a line while the bars are away, as another program does.
+fn write_in_pause<R: Shares>(storm: &Storm<'_, R>, text: &str) -> Result<(), Refusal> {
+    let ended = format!(in storm.rt.alloc(); "{text}\n")?;
+    let write = || storm.host.stderr().write_all(ended.as_bytes());
+    let (written, drawn) = storm.board.suspend(write);
+    drawn?;
+    match written {
+        Ok(()) => Ok(()),
+        Err(error) => Err(Refusal::Terminal(error.kind())),
+    }
+}
+
+/// Writes a line, in one of four ways.
+fn write_line<R: Shares>(storm: &Storm<'_, R>, way: u64, text: &str) -> Result<(), Refusal> {
+    match way {
+        0 => {
+            storm.board.println(text)?;
+        }
+        1 => {
+            storm.bars[1].println(text)?;
+        }
+        2 => write_in_pause(storm, text)?,
+        _ => info!(storm.log; "{text}"),
+    }
+    Ok(())
+}
+
+/// Moves a bar.
+fn move_bar<R: Shares>(storm: &Storm<'_, R>, way: u64) -> Result<Drawn, Refusal> {
+    match way {
+        0 => storm.bars[0].inc(1),
+        1 => storm.bars[1].set_message("a message"),
+        2 => storm.bars[2].tick(),
+        _ => storm.bars[3].force_draw(),
+    }
+}
+
+/// A thread's steps on a target, a line after each move; how many lines it has written.
+fn run<R: Shares>(storm: &Storm<'_, R>, target: u64, thread: usize) -> Result<u64, Refusal> {
+    for step in 0..STEPS {
+        let way = step.wrapping_mul(7).wrapping_add(thread as u64);
+        move_bar(storm, way % 4)?;
+        let text = format!(in storm.rt.alloc(); "line {target} {thread} {step}")?;
+        write_line(storm, way / 4 % 4, text.as_str())?;
+        sleep(storm.rt, Duration::from_millis(1));
+    }
+    Ok(STEPS)
+}
+
+/// All threads' steps on a target, with a ticker.
+fn storm_on<R: Shares + Print>(storm: &Storm<'_, R>, target: u64) -> Result<()> {
+    storm.bars[0].enable_steady_tick(TICK)?;
+    let one = |thread: usize| run(storm, target, thread);
+    for lines in map_indices(storm.rt, storm.rt.alloc(), THREADS, &one)? {
+        println!(storm.rt; "{target} {}", lines?)?;
+    }
+    storm.bars[0].disable_steady_tick()?;
+    Ok(())
+}
+
+pub fn main<R: Shares + Print>(rt: R, host: &HostRuntime) -> Result<()> {
+    let board = MultiProgress::new(rt, rt.alloc(), on_stderr(host)?, 1)?;
+    let log = logger_above(rt, host, &board, Level::Info)?;
+    let storm = Storm {
+        rt: &rt,
+        host,
+        board: &board,
+        bars: [
+            board.new_bar(10)?,
+            board.new_bar(10)?,
+            board.new_bar(10)?,
+            board.new_bar(10)?,
+        ],
+        log: &log,
+    };
+    for target in 0..TARGETS {
+        storm_on(&storm, target)?;
+        board.clear()?;
+        board.set_draw_target(on_stderr(host)?.target)?;
+    }
+    println!(rt; "missed {}", log.sink().missed())?;
+    Ok(())
+}

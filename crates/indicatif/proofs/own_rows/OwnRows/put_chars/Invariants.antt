@@ -1,6 +1,0 @@
-use Rattle.std.proofs.Common.{Ok}
-use Rattle.indicatif.specs.OwnRows.{Quietly}
-use Rattle.indicatif.proofs.own_rows.OwnRows.put_chars.Given as goal
-
-abbrev pub invariant-loop-c : goal.invariant-loop-c
-invariant-loop-c g l = Quietly (g.T.TermLike.view l.initial.self.term) (g.T.TermLike.view l.self.term) (Ok tt)

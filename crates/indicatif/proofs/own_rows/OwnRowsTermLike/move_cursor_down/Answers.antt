@@ -1,8 +1,0 @@
-use Rattle.indicatif.proofs.OwnRowsLemmas.{fails, goes_on, writes_quietly}
-use Rattle.indicatif.proofs.own_rows.OwnRowsTermLike.move_cursor_down.Goals as goal
-
-pub returns-in_err-begin : goal.returns-in_err-begin
-returns-in_err-begin g c = writes_quietly _ c.from_residual.result (fails c.from_residual.result c.from_residual.ensures.1 c.in_err-begin.ensures)
-
-pub returns : goal.returns
-returns g c = writes_quietly _ c.go_down.result (goes_on c.go_down.result c.in_ok-begin.ensures c.go_down.ensures)

@@ -1,0 +1,38 @@
+//! Shared bars of standard error, whose types need no other word.
+ghost use Rattle.std.specs.Prelude.{◌≡◌, IfErr};
+
+use crate::machine::{MachineClock, Shares, StderrBar, on_stderr};
+use crate::progress_bar::ProgressBar;
+use indicatif_bar::style::{ProgressStyle, Tracks};
+use indicatif_text::columns::Refusal;
+
+/// A bar of this length or of none on standard error, in this style: `ProgressBar::styled` with the setup of `on_stderr`.
+///
+/// ```
+/// let bar = styled_on_stderr(rt, host, style, Some(100))?;
+/// ```
+///
+/// Refused: `Memory`; the style is given up.
+pub fn styled_on_stderr<R: Shares, K: Tracks>(
+    rt: R,
+    host: &HostRuntime,
+    style: ProgressStyle<K>,
+    len: Option<u64>,
+) -> Result<StderrBar<R, K>, Refusal>
+    ensures { IfErr result (λ e. e ≡ Refusal.Memory) }
+{
+    ProgressBar::styled(rt, rt.alloc(), style, len, on_stderr(host)?)
+}
+
+/// A bar without a length that a board of standard error may take in: `ProgressBar::hidden`, which fits any terminal, of a board there.
+///
+/// ```
+/// let bar = board.add(hidden_bar(rt, host)?)?;
+/// ```
+///
+/// Refused: `Memory`.
+pub fn hidden_bar<R: Shares>(rt: R, host: &HostRuntime) -> Result<StderrBar<R>, Refusal>
+    ensures { IfErr result (λ e. e ≡ Refusal.Memory) }
+{
+    ProgressBar::hidden(rt, rt.alloc(), MachineClock::new(*host))
+}

@@ -1,0 +1,105 @@
+-- Where two lines of one row part, so that only what follows is written.
+use Rattle.std.specs.Prelude.{◌≡◌, ℕ, ◌+◌, ◌-◌, ◌^◌, min, ◌<◌, ◌≤◌, ◌==◌, ◌++◌, Bool, true, false, IsTrue, List, [], map, drop, length, chars, IsCharBoundary}
+use Rattle.std.specs.List.{AllByRecursion, list_any}
+use Rattle.indicatif_text.specs.Columns.{Cell, visible, rows_of}
+use Rattle.indicatif_term.specs.Shows.{looks_of}
+use Rattle.indicatif_term.specs.Inside.Edits.{Edit, Tails, AreSingle, IsNarrowChar, plan, repainted, edit_colours}
+use Rattle.indicatif_term.specs.Inside.Inks.{Inked, IsRead, NONE, in_colours, as_painted, painted, read, padded}
+use Rattle.indicatif_term.specs.Inside.Changes as drawn
+use Rattle.indicatif_term.specs.declared.parting.Part.{Part}
+use Rattle.indicatif_term.specs.declared.parting.Cut.{Cut}
+use Rattle.indicatif_term.specs.declared.parting.Step.{Step}
+use Rattle.indicatif_term.specs.declared.parting.Step.TheVariants as steps
+
+-- the characters of a text from one of its bytes on
+abbrev pub tail : ℕ → List ℕ → List ℕ
+tail from text = chars (drop from text)
+
+-- the cells of a text from one of its bytes on
+abbrev pub cells_at : ℕ → List ℕ → List Inked
+cells_at from text = read NONE (tail from text)
+
+-- two texts begin alike, without an escape character, and then each has characters of one column alone, in colours that are read right
+pub record IsCut (narrow : Bool) (old new : List ℕ) (p : Cut) : Type 0 where
+  pub own : IsCharBoundary old p.from
+  pub other : IsCharBoundary new p.from
+  pub front : List ℕ
+  pub plain : list_any (λ c. c == 0x1B) front ≡ false
+  pub old_is : chars old ≡ front ++ tail p.from old
+  pub new_is : chars new ≡ front ++ tail p.from new
+  pub olds : p.olds ≡ min (length (visible (tail p.from old))) (2 ^ 64 - 1)
+  pub news : p.news ≡ min (length (visible (tail p.from new))) (2 ^ 64 - 1)
+  pub old_read : IsRead (tail p.from old)
+  pub new_read : IsRead (tail p.from new)
+  pub single : IsTrue narrow → AreSingle (chars new)
+
+-- edits of the cells of a line from one of its bytes on show each character of another in its colours, and leave none open: in front
+-- of that place the two are the same, without colours
+pub record IsRecoloured (from n : ℕ) (es : List Edit) (old new : List ℕ) : Type 0 where
+  pub front : List ℕ
+  pub old_is : painted (chars old) ≡ map (in_colours []) front ++ map as_painted (cells_at from old)
+  pub new_is : painted (chars new) ≡ map (in_colours []) front ++ map as_painted (cells_at from new)
+  pub cells : repainted [] es (map as_painted (padded n (cells_at from old))) ≡ map as_painted (padded n (cells_at from new))
+  pub none_open : edit_colours [] es ≡ []
+
+-- the edits of a part
+abbrev pub part_edits : Part → List ℕ → List ℕ → List Edit
+part_edits p old new = plan p.waits NONE (padded p.left (cells_at p.from old)) (padded p.left (cells_at p.from new))
+
+-- two lines of one row part so; where the cursor is to wait behind the row, they do in some column of it, and go on to its end
+pub record Parted (w : ℕ) (waits plain : Bool) (old new : List ℕ) (p : Part) : Type 0 where
+  pub waits_is : p.waits ≡ waits
+  pub own : IsCharBoundary old p.from
+  pub other : IsCharBoundary new p.from
+  pub tails : Tails w p.gap p.left (chars old) (chars new)
+  pub olds_are : tails.olds ≡ visible (tail p.from old)
+  pub news_are : tails.news ≡ visible (tail p.from new)
+  pub narrow : AllByRecursion IsNarrowChar tails.news
+  pub to_end : IsTrue waits → (p.gap + p.left ≡ w) × (0 < p.left)
+  pub last_is : p.last ≡ p.gap + length (visible (tail p.from new))
+  pub single : IsTrue plain → AreSingle (chars new)
+  pub colours : IsRecoloured p.from p.left (part_edits p old new) old new
+
+-- what is written from there on has room in its row
+pub record HasPart (p : Part) (old new : List ℕ) : Type 0 where
+  pub small : p.gap + p.left ≤ 65535
+  pub own : IsCharBoundary old p.from
+  pub other : IsCharBoundary new p.from
+  pub olds : length (cells_at p.from old) ≤ p.left
+  pub news : length (cells_at p.from new) ≤ p.left
+
+-- the change of a line that is this one where that one stood
+abbrev pub change_of : Step → List ℕ → List ℕ → drawn.Change
+change_of steps.Leave old new = drawn.Leave
+change_of (steps.Within p) old new = drawn.Within p.gap (part_edits p old new)
+change_of steps.Whole old new = drawn.Whole
+
+-- whether it leaves the cursor waiting behind the end of the line's last row, if it edits that
+abbrev pub waits_of : Step → Bool
+waits_of steps.Leave = false
+waits_of (steps.Within p) = p.waits
+waits_of steps.Whole = false
+
+-- a line that is written as a whole, if it doesn't stay
+abbrev pub whole_or_left : Bool → Step
+whole_or_left true = steps.Leave
+whole_or_left false = steps.Whole
+
+-- a line that is edited has its colours
+abbrev pub HasColours : Step → List ℕ → List ℕ → Type 0
+HasColours steps.Leave old new = Unit {0}
+HasColours (steps.Within p) old new = IsRecoloured p.from p.left (part_edits p old new) old new
+HasColours steps.Whole old new = Unit {0}
+
+-- it can be written
+abbrev pub IsReady : Step → List ℕ → List ℕ → Type 0
+IsReady steps.Leave old new = Unit {0}
+IsReady (steps.Within p) old new = HasPart p old new
+IsReady steps.Whole old new = Unit {0}
+
+-- a line becomes another so: from rows that look like its own
+pub record IsTurned (w : ℕ) (step : Step) (old new : List ℕ) : Type 0 where
+  pub becomes : (stood : List (List Cell)) → stood ≡ looks_of (rows_of w (chars old)) → drawn.Becomes w (change_of step old new) stood new
+  pub ready : IsReady step old new
+  pub waiting : IsTrue (waits_of step) → drawn.Ends w (change_of step old new) new
+  pub colours : HasColours step old new

@@ -1,0 +1,39 @@
+-- What is left of a row that is edited.
+use Rattle.std.specs.Prelude.{◌≡◌, ℕ, ◌+◌, ◌-◌, ◌^◌, ◌≤◌, ◌==◌, ◌++◌, min, Bool, false, List, length, chars, IsCharBoundary}
+use Rattle.std.specs.List.{list_any}
+use Rattle.indicatif_term.specs.Inside.Inks.{Ink, Inked, read}
+use Rattle.indicatif_term.specs.Inside.Edits.{rest_bytes}
+use Rattle.indicatif_term.specs.Inside.Parting.{tail}
+use Rattle.indicatif_term.specs.declared.inks.Colours.{Colours}
+use Rattle.indicatif_term.specs.declared.inks.Reading.{Reading}
+use Rattle.indicatif_term.specs.declared.parting.PlainParts.{PlainParts}
+use Rattle.indicatif_term.specs.declared.row_edits.Rest.{Rest}
+
+-- the colours that are open
+abbrev pub ink_of : Colours → Ink
+ink_of i = record { base = i.base.now; group = i.group.now }
+
+-- the cells of what is left of a text
+abbrev pub cells : Reading → List Inked
+cells r = read (ink_of r.ink) (chars r.text.now)
+
+-- the bytes that are to be written
+abbrev pub left_bytes : Bool → Rest → List ℕ
+left_bytes ends r = rest_bytes ends (ink_of r.ink) r.gap r.left (cells r.old) (cells r.new)
+
+-- the cells have room in the columns that are left
+pub record HasRoom (r : Rest) : Type 0 where
+  pub small : r.gap + r.left ≤ 65535
+  pub olds : length (cells r.old) ≤ r.left
+  pub news : length (cells r.new) ≤ r.left
+
+-- what two texts begin with, without an escape character, and how many characters it has
+pub record ArePlain (old new : List ℕ) (p : PlainParts) : Type 0 where
+  pub own : IsCharBoundary old p.parts.from
+  pub other : IsCharBoundary new p.parts.from
+  pub own_is : chars p.parts.own.now ≡ tail p.parts.from old
+  pub other_is : chars p.parts.other.now ≡ tail p.parts.from new
+  pub old_is : chars old ≡ chars p.parts.front.now ++ chars p.parts.own.now
+  pub new_is : chars new ≡ chars p.parts.front.now ++ chars p.parts.other.now
+  pub plain : list_any (λ c. c == 0x1B) (chars p.parts.front.now) ≡ false
+  pub count : p.count ≡ min (length (chars p.parts.front.now)) (2 ^ 64 - 1)

@@ -1,0 +1,257 @@
+//! A terminal whose rows are cut by the program, or left to the terminal.
+ghost use Rattle.std.specs.Prelude.{◌≡◌, List, [], chars, IsTrue, None, Some, OnOk, OnErr, IfErr, ◌⊎◌, ◌↔◌};
+ghost use Rattle.indicatif_text.specs.Columns.{is_plain};
+ghost use Rattle.indicatif_term.specs.EndedRows.{OwnDraws};
+ghost use Rattle.indicatif_term.specs.Calls.{TermView, Writes, move_bytes, line_bytes, clear_bytes, UP, DOWN, RIGHT, LEFT};
+ghost use Rattle.indicatif_term.specs.Resizes.{Resized};
+ghost use Rattle.indicatif_term.specs.OwnRows.{own_rows, left_rows, inner_term, own_view, unsynchronized};
+
+use crate::ended_rows::{EndedRows, Shown};
+use crate::own_row::OwnRow;
+use crate::term_like::{Resize, TermLike};
+use indicatif_text::columns::Refusal;
+use std::fmt::{self, Debug, Formatter};
+use std::io;
+
+/// A terminal of which nobody knows how wide it is: no drawing on it erases a row that isn't the bars' own, whatever was told.
+///
+/// Each row is cut here, at the columns that were told, and ended by CR LF. The terminal's own wrap is off while a drawing is made
+/// (DEC's private mode 7: ESC `[?7l` before it, ESC `[?7h` behind it). So a row that was told is one row of the terminal. On a
+/// narrower one the right end of each row is lost, of a logged line too, and the last column is blank; on a wider one the rest is free.
+///
+/// A row on which characters were written is emptied from the told columns on (ESC `[K`), before the cursor leaves it for another one. So a
+/// narrower terminal doesn't show on its last column what was written there last.
+///
+/// Behind a drawing the cursor waits at the terminal's right edge, behind a blank on the last column, so that what anybody writes next
+/// begins on a row of its own. So tell it one column less than the terminal may have.
+///
+/// A drawing is a synchronized update (DEC's private mode 2026: ESC `[?2026h` before it, ESC `[?2026l` behind it). Terminals that know
+/// this mode show a whole drawing at once, and the others ignore it. `unsynchronized` leaves it away.
+///
+/// A character wider than the told columns is left out. As a terminal it tells its size and its faults, and nothing of its bytes. Clause
+/// `draws` of each call says, of plain texts, that at any true width the rows above the cursor's stand after each byte, and that the
+/// cursor is on the row on which a terminal of the told columns has it. Where rows are left to the terminal it tells all that it does.
+///
+/// ```
+/// let term = OwnRows::new(Term::new(writer, 24, 79)); // for a terminal of 80 columns, or of any other number
+/// let target = ProgressDrawTarget::term(term, facts, 20, now)?;
+/// ```
+#[derive(Drop)]
+pub struct OwnRows<T> {
+    rows: Rows<T>,
+}
+
+/// Who cuts rows.
+#[derive(Drop)]
+enum Rows<T> {
+    /// The terminal.
+    Left(T),
+    /// The program.
+    Ended(EndedRows<T>),
+}
+
+/// Programmers are shown the terminal.
+impl<T: Debug> Debug for OwnRows<T> {
+    fn fmt<W: fmt::Write>(&self, f: &mut Formatter<W>) -> fmt::Result {
+        f.debug_struct("OwnRows")
+            .field("term", self.term())
+            .finish_non_exhaustive()
+    }
+}
+
+impl<T> OwnRows<T> {
+    /// This terminal, whose cursor stands at the front of an empty row.
+    pub fn new(term: T) -> OwnRows<T>
+        ensures { result ≡ own_rows term None }
+    {
+        OwnRows {
+            rows: Rows::Ended(EndedRows::new(term, None)),
+        }
+    }
+
+    /// One row of this terminal, where other programs draw on those above and below it. The cursor stands on the last of these rows. Each
+    /// drawing goes up to its own row and back, and is one write behind a `BufWriter`. So no program waits for another.
+    ///
+    /// A drawing is to have one line, so tell the terminal one row. What others write while bars stand begins on a row of its own, below
+    /// the last row.
+    ///
+    /// ```
+    /// let term = OwnRows::on_row(Term::new(writer, 1, 79), row); // for the second of three rows
+    /// ```
+    pub fn on_row(term: T, row: OwnRow) -> OwnRows<T>
+        ensures { result ≡ own_rows term (Some row) }
+    {
+        OwnRows {
+            rows: Rows::Ended(EndedRows::new(term, Some(row))),
+        }
+    }
+
+    /// This terminal, of which the width is known: it wraps rows by itself, and nothing but what it is asked for is written.
+    ///
+    /// ```
+    /// let term = OwnRows::left_to_terminal(Term::new(writer, 24, 80)); // writes what the `Term` does
+    /// ```
+    pub fn left_to_terminal(term: T) -> OwnRows<T>
+        ensures { result ≡ left_rows term }
+    {
+        OwnRows {
+            rows: Rows::Left(term),
+        }
+    }
+
+    /// The same without synchronized updates: for a terminal that shows DEC's private mode 2026 as text. Where rows are left to the
+    /// terminal there are none.
+    ///
+    /// ```
+    /// let term = OwnRows::new(Term::new(writer, 24, 79)).unsynchronized();
+    /// ```
+    pub fn unsynchronized(self) -> OwnRows<T>
+        ensures { result ≡ unsynchronized self }
+    {
+        match self.rows {
+            Rows::Left(term) => OwnRows::left_to_terminal(term),
+            Rows::Ended(rows) => OwnRows {
+                rows: Rows::Ended(rows.shown(Shown::AsWritten)),
+            },
+        }
+    }
+
+    /// The terminal behind it.
+    ///
+    /// ```
+    /// let writer = own.term().writer();
+    /// ```
+    pub fn term(&self) -> &T
+        ensures { result.now ≡ inner_term self.now }
+    {
+        match &self.rows {
+            Rows::Left(term) => term,
+            Rows::Ended(rows) => rows.term(),
+        }
+    }
+}
+
+impl<T: TermLike> TermLike for OwnRows<T> {
+    ghost view = { λ own. own_view T.view own };
+
+    fn width(&self) -> u16 {
+        match &self.rows {
+            Rows::Left(term) => term.width(),
+            Rows::Ended(rows) => rows.width(),
+        }
+    }
+
+    fn height(&self) -> u16 {
+        match &self.rows {
+            Rows::Left(term) => term.height(),
+            Rows::Ended(rows) => rows.height(),
+        }
+    }
+
+    fn faults(&self) -> u64 {
+        match &self.rows {
+            Rows::Left(term) => term.faults(),
+            Rows::Ended(rows) => rows.faults(),
+        }
+    }
+
+    fn move_cursor_up(&mut self, n: usize) -> io::Result<()>
+        ensures writes { Writes (move_bytes UP n) (own_view T.view self.old) (own_view T.view self.new) result }
+        ensures draws { OwnDraws T.view (move_bytes UP n) self.old self.new result }
+    {
+        match &mut self.rows {
+            Rows::Left(term) => term.move_cursor_up(n),
+            Rows::Ended(rows) => rows.move_cursor_up(n),
+        }
+    }
+
+    fn move_cursor_down(&mut self, n: usize) -> io::Result<()>
+        ensures writes { Writes (move_bytes DOWN n) (own_view T.view self.old) (own_view T.view self.new) result }
+        ensures draws { OwnDraws T.view (move_bytes DOWN n) self.old self.new result }
+    {
+        match &mut self.rows {
+            Rows::Left(term) => term.move_cursor_down(n),
+            Rows::Ended(rows) => rows.move_cursor_down(n),
+        }
+    }
+
+    fn move_cursor_right(&mut self, n: usize) -> io::Result<()>
+        ensures writes { Writes (move_bytes RIGHT n) (own_view T.view self.old) (own_view T.view self.new) result }
+        ensures draws { OwnDraws T.view (move_bytes RIGHT n) self.old self.new result }
+    {
+        match &mut self.rows {
+            Rows::Left(term) => term.move_cursor_right(n),
+            Rows::Ended(rows) => rows.move_cursor_right(n),
+        }
+    }
+
+    fn move_cursor_left(&mut self, n: usize) -> io::Result<()>
+        ensures writes { Writes (move_bytes LEFT n) (own_view T.view self.old) (own_view T.view self.new) result }
+        ensures draws { OwnDraws T.view (move_bytes LEFT n) self.old self.new result }
+    {
+        match &mut self.rows {
+            Rows::Left(term) => term.move_cursor_left(n),
+            Rows::Ended(rows) => rows.move_cursor_left(n),
+        }
+    }
+
+    fn write_line(&mut self, s: &str) -> io::Result<()>
+        ensures writes { Writes (line_bytes s.now) (own_view T.view self.old) (own_view T.view self.new) result }
+        ensures draws { IsTrue (is_plain (chars s.now)) → OwnDraws T.view (line_bytes s.now) self.old self.new result }
+    {
+        match &mut self.rows {
+            Rows::Left(term) => term.write_line(s),
+            Rows::Ended(rows) => rows.write_line(s),
+        }
+    }
+
+    fn write_str(&mut self, s: &str) -> io::Result<()>
+        ensures writes { Writes s.now (own_view T.view self.old) (own_view T.view self.new) result }
+        ensures draws { IsTrue (is_plain (chars s.now)) → OwnDraws T.view s.now self.old self.new result }
+    {
+        match &mut self.rows {
+            Rows::Left(term) => term.write_str(s),
+            Rows::Ended(rows) => rows.write_str(s),
+        }
+    }
+
+    fn clear_line(&mut self) -> io::Result<()>
+        ensures writes { Writes clear_bytes (own_view T.view self.old) (own_view T.view self.new) result }
+        ensures draws { OwnDraws T.view clear_bytes self.old self.new result }
+    {
+        match &mut self.rows {
+            Rows::Left(term) => term.clear_line(),
+            Rows::Ended(rows) => rows.clear_line(),
+        }
+    }
+
+    fn flush(&mut self) -> io::Result<()>
+        ensures writes { Writes [] (own_view T.view self.old) (own_view T.view self.new) result }
+        ensures draws { OwnDraws T.view [] self.old self.new result }
+    {
+        match &mut self.rows {
+            Rows::Left(term) => term.flush(),
+            Rows::Ended(rows) => rows.flush(),
+        }
+    }
+}
+
+/// The terminal behind it gets the size, and nothing is written. Rows that are cut here are cut at the new columns from then on: tell it
+/// one column less than there are now, as at first.
+///
+/// What stands is then counted as rows that these columns cut. A terminal that cut it at others, or not at all, may have fewer: the
+/// next drawing takes back rows above then. A new target (`machine::sized_target`) behind a clear counts what was drawn.
+///
+/// ```
+/// own.resize(50, 131)?; // for a terminal that has 132 columns now
+/// ```
+impl<T: Resize> Resize for OwnRows<T> {
+    ghost takes_memory = { T.takes_memory };
+
+    fn resize(&mut self, rows: u16, cols: u16) -> Result<(), Refusal> {
+        match &mut self.rows {
+            Rows::Left(term) => term.resize(rows, cols),
+            Rows::Ended(own) => own.resize(rows, cols),
+        }
+    }
+}

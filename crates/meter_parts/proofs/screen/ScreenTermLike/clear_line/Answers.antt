@@ -1,8 +1,0 @@
-use Rattle.meter_parts.proofs.ScreenLemmas.{fails, goes_on, writes_quietly}
-use Rattle.meter_parts.proofs.screen.ScreenTermLike.clear_line.Goals as goal
-
-pub returns-in_err-begin : goal.returns-in_err-begin
-returns-in_err-begin g c = writes_quietly _ c.from_residual.result (fails c.from_residual.result c.from_residual.ensures.1 c.in_err-begin.ensures)
-
-pub returns : goal.returns
-returns g c = writes_quietly _ c.empty_row.result (goes_on c.empty_row.result c.in_ok-begin.ensures c.empty_row.ensures)

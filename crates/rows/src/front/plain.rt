@@ -1,0 +1,63 @@
+//! A hidden bar as plain lines.
+//!
+//! `plain EVERY LEN BAR` begins with a bar that was made at moment 0, and a line of it each so many nanoseconds. Then
+//!
+//! - `look @NOW`: the line that is due, each of its rows with a line end, or `-`.
+//! - Any other step is a command of the bar, and gives nothing.
+use indicatif::{Moment, PlainLines};
+use scripts::commands::command;
+use scripts::got::{Bad, Got};
+use scripts::lone::{Bar, bar_of};
+use scripts::row::{At, Words, timed};
+use std::alloc::Global;
+
+/// The bar, and when it was told.
+#[derive(Drop)]
+pub struct Plain {
+    alloc: Global,
+    bar: Box<Bar>,
+    lines: PlainLines,
+}
+
+/// A bar of which no line was asked for yet.
+pub fn begin(alloc: Global, rest: &str) -> Result<Box<Plain>, Bad> {
+    let at = At { alloc, now: 0 };
+    let mut words = Words::of(rest);
+    let every = words.number();
+    let len = words.optional();
+    let text = words.rest();
+    let bar = bar_of(at, text, words.done(len)?)?;
+    let lines = PlainLines::every(every);
+    at.boxed(Plain { alloc, bar, lines })
+}
+
+impl Plain {
+    /// Makes a command, or asks for a line.
+    pub fn step(&mut self, step: &str, got: &mut Got) {
+        let (call, now) = timed(step);
+        let now = now.unwrap_or(0);
+        match call {
+            "look" => self.look(now, got),
+            _ => self.obey(call, now, got),
+        }
+    }
+
+    /// The line that is due.
+    fn look(&mut self, now: Moment, got: &mut Got) {
+        match self.lines.line_of(&self.bar, now) {
+            Ok(Some(line)) => got.text(line.as_str()),
+            Ok(None) => got.text("-"),
+            Err(refusal) => got.refusal(refusal),
+        }
+    }
+
+    /// Makes a command.
+    fn obey(&mut self, call: &str, now: Moment, got: &mut Got) {
+        match command(self.alloc, call) {
+            Ok(command) => {
+                let _ = self.bar.apply(command, now);
+            }
+            Err(bad) => got.bad(bad),
+        }
+    }
+}

@@ -1,0 +1,57 @@
+//! What a terminal shows whose rows are left to it.
+ghost use Rattle.std.specs.Prelude.{◌++◌, map, take, Some, None, Option, List, Result, IfOk, string_bytes};
+ghost use Rattle.indicatif_text.specs.declared.refusal.Drawn.{Drawn as Answered};
+ghost use Rattle.indicatif_text.specs.declared.refusal.Refusal.{Refusal as Refused};
+ghost use Rattle.indicatif_term.specs.Screen.{Screen};
+ghost use Rattle.indicatif_term.specs.Calls.{TermView};
+ghost use Rattle.indicatif_term.specs.Memory.{view_of};
+ghost use Rattle.indicatif_term.specs.Lists.{all_rows};
+ghost use Rattle.indicatif_bar.specs.Commands.{BarRecord};
+ghost use Rattle.indicatif_bar.specs.Runs.{Runs, AllPlain};
+ghost use Rattle.indicatif_bar.specs.Lone.{LoneState, opening_state};
+ghost use Rattle.indicatif_bar.specs.LoneBars.{lone_bar, lone_timed};
+ghost use Rattle.uses.specs.Readings.{AreTextsOf, StartsAt};
+
+use crate::runs::unbroken;
+use indicatif_bar::laws::what_a_lone_run_reads;
+use indicatif_bar::lone::{LoneBar, LoneCall};
+use indicatif_bar::state::BarState;
+use indicatif_bar::style::ProgressTracker;
+use indicatif_term::draw_target::ProgressDrawTarget;
+use indicatif_term::in_memory::InMemoryTerm;
+use indicatif_term::laws::{an_opening_shows_nothing, what_own_rows_tell};
+use indicatif_term::term_like::OwnRows;
+use indicatif_text::columns::{Moment, Refusal};
+
+/// The texts of the rows that stand after these calls of a bar, which begins on an `OwnRows` that leaves rows to this terminal: those of
+/// the same bar on the terminal itself.
+///
+/// Refused: `Memory`; or the terminal's failure, where it broke a call off.
+pub fn picture_after<K: ProgressTracker>(
+    term: InMemoryTerm,
+    bar: BarState<K>,
+    calls: Vec<(LoneCall<K>, Moment)>,
+) -> Result<Vec<String>, Refusal>
+    ensures { (opening : Screen) → StartsAt term.terminal opening →
+        IfOk result (λ texts. let start = opening_state bar None in
+        (answers : List (Result Answered Refused)) × (after : Option TermView) × (next : LoneState (BarRecord K))
+        × (run : Runs (lone_bar K.means) (map lone_timed calls.items) answers (Some (view_of term)) start after next)
+        × (AllPlain (lone_bar K.means) (map lone_timed calls.items) answers (Some (view_of term)) start after next run →
+        AreTextsOf (map (λ text. string_bytes text) texts.items)
+        (take opening.row opening.rows ++ all_rows opening.columns next.lists))) }
+{
+    let own = OwnRows::left_to_terminal(term);
+    let mut bar = LoneBar::new(bar, ProgressDrawTarget::term_like(own));
+    let answers = bar.run(calls)?;
+    unbroken(&answers)?;
+    an_opening_shows_nothing();
+    what_a_lone_run_reads::<K>();
+    what_own_rows_tell::<InMemoryTerm>();
+    match bar.into_term() {
+        Some(own) => {
+            let texts = own.term().picture()?;
+            Ok(texts)
+        }
+        None => Err(Refusal::Memory),
+    }
+}
