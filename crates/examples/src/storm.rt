@@ -33,8 +33,8 @@ struct Storm<'a, R: Shares> {
 
 /// Writes a line while the bars are away, as another program does.
 fn write_in_pause<R: Shares>(storm: &Storm<'_, R>, text: &str) -> Result<(), Refusal> {
-    let ended = format!(in storm.rt.alloc(); "{text}\n")?;
-    let write = || storm.host.stderr().write_all(ended.as_bytes());
+    let (host, ended) = (storm.host, format!(in storm.rt.alloc(); "{text}\n")?);
+    let write = move || host.stderr().write_all(ended.as_bytes());
     let (written, drawn) = storm.board.suspend(write);
     drawn?;
     match written {
