@@ -15,8 +15,8 @@ use indicatif_bar::state::Ask;
 use indicatif_board::bridge::bridge_line;
 use indicatif_board::multi::MultiState;
 use indicatif_text::columns::{
-    Clock, Metrics, Piece, Refusal, StepClock, Style, TemplateState, columns, is_parameter, pieces,
-    width, wrapped,
+    Clock, Metrics, Piece, Refusal, StepClock, Style, TemplateState, colour_len, columns,
+    is_parameter, is_parameter_byte, pieces, width, wrapped,
 };
 use indicatif_text::format::{
     BinaryBytes, DecimalBytes, FormattedDuration, HumanBytes, HumanCount, HumanDuration,
@@ -32,6 +32,8 @@ fn columns_of_texts(rt: HostRuntime) {
     same!(rt; width('国'), 2);
     same!(rt; width('\n'), 0);
     same!(rt; columns("\u{1b}[31mred\u{1b}[0m"), 3);
+    holds!(rt; colour_len("\u{1b}[31mred") == 5 && colour_len("red") == 0);
+    holds!(rt; is_parameter_byte(b'7') && !is_parameter_byte(b'm'));
     holds!(rt; is_parameter('7') && is_parameter(';') && !is_parameter('m'));
 }
 

@@ -9,7 +9,7 @@ ghost use Rattle.indicatif_term.specs.Inside.Inks.{IsRead, NONE, closes, same_in
 ghost use Rattle.indicatif_term.specs.Inside.Rests.{ink_of, cells};
 
 use crate::parting::narrow_count;
-use indicatif_text::columns::{Piece, pieces};
+use indicatif_text::columns::{Piece, colour_len, pieces};
 
 /// The sequence that closes all others.
 pub const RESET: &str = "\u{1b}[0m";
@@ -96,7 +96,7 @@ fn past_colours<'a>(text: &'a str, ink: Colours<'a>) -> Reading<'a>
     let mut begun = text;
     let mut closed = false;
     let mut rest = text;
-    let mut len = sequence_len(rest);
+    let mut len = colour_len(rest);
     if len == 0 {
         return Reading { text, ink };
     }
@@ -107,7 +107,7 @@ fn past_colours<'a>(text: &'a str, ink: Colours<'a>) -> Reading<'a>
             begun = rest;
             closed = true;
         }
-        len = sequence_len(rest);
+        len = colour_len(rest);
     }
     let (group, text) = begun.split_at(begun.len() - rest.len());
     let base = group_or_none(closed, ink.group);
@@ -122,35 +122,6 @@ fn group_or_none(closed: bool, group: &str) -> &str
     ensures { result.now ≡ (if closed then [] else group.entry.now) }
 {
     if closed { "" } else { group }
-}
-
-/// How many bytes the colour sequence at the front of a text takes; 0 where none stands there.
-#[inline(always)]
-fn sequence_len(text: &str) -> usize
-    ensures len { result ≡ unwrap_or (colour_length (chars text.now)) 0 }
-    ensures fits { result ≤ length text.now }
-    ensures ascii { IsAscii (take result text.now) }
-    ensures boundary { IsCharBoundary text.now result }
-{
-    let bytes = text.as_bytes();
-    if bytes.len() < 3 || bytes[0] != 0x1B || bytes[1] != b'[' {
-        return 0;
-    }
-    let mut count: usize = 2;
-    'parameters: while count < bytes.len() && is_parameter_byte(bytes[count]) {
-        count += 1;
-    }
-    if count >= bytes.len() || bytes[count] != b'm' {
-        return 0;
-    }
-    count + 1
-}
-
-/// Whether a byte stands in the parameters of a colour sequence: a digit or a semicolon.
-fn is_parameter_byte(byte: u8) -> bool
-    ensures { result ≡ is_parameter byte }
-{
-    byte >= b'0' && byte <= b';' && byte != b':'
 }
 
 /// Whether a colour sequence closes all that are open.

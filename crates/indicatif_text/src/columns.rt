@@ -5,7 +5,7 @@ ghost use Rattle.indicatif_text.specs.Pieces.{pieces_of_text};
 ghost use Rattle.indicatif_text.specs.Inside.Runs.{EndsAt};
 
 pub use crate::moment::{Clock, Moment, StepClock};
-pub use crate::pieces::{Piece, Pieces, is_parameter};
+pub use crate::pieces::{Piece, Pieces, colour_len, is_parameter, is_parameter_byte};
 pub use crate::range::write_ansi_range;
 pub use crate::refusal::{Drawn, Refusal, TemplateState};
 use crate::runs::{LastWidth, Run, Runs};

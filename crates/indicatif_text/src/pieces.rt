@@ -123,8 +123,12 @@ pub(crate) fn after_colours(text: &str) -> &str
 }
 
 /// How many bytes the colour sequence at the front of a text takes; 0 where none stands there.
+///
+/// ```
+/// assert!(colour_len("\u{1b}[31mred") == 5 && colour_len("red") == 0);
+/// ```
 #[inline(always)]
-fn colour_len(text: &str) -> usize
+pub fn colour_len(text: &str) -> usize
     ensures len { result ≡ unwrap_or (colour_length (chars text.now)) 0 }
     ensures fits { result ≤ length text.now }
     ensures ascii { IsAscii (take result text.now) }
@@ -144,9 +148,13 @@ fn colour_len(text: &str) -> usize
     count + 1
 }
 
-/// The same as `is_parameter`, of a byte.
+/// The same as `is_parameter`, of a byte of ASCII; false for any other byte.
+///
+/// ```
+/// assert!(is_parameter_byte(b'7') && !is_parameter_byte(b'm'));
+/// ```
 #[inline(always)]
-fn is_parameter_byte(byte: u8) -> bool
+pub fn is_parameter_byte(byte: u8) -> bool
     ensures { result ≡ is_parameter byte }
 {
     byte >= b'0' && byte <= b';' && byte != b':'

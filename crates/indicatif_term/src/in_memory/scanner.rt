@@ -7,7 +7,7 @@ ghost use Rattle.indicatif_term.specs.Inside.Scanners.{stage_place, IsWholeSeque
 
 use crate::in_memory::grid::Op;
 use crate::in_memory::spelling::Spelling;
-use indicatif_text::columns::is_parameter;
+use indicatif_text::columns::{is_parameter, is_parameter_byte};
 use std::marker::Model;
 
 /// Where in an escape sequence the next character stands.
@@ -170,13 +170,6 @@ fn sequence_front(bytes: &[u8]) -> (Option<u16>, usize)
         len += 1;
     }
     (number, len)
-}
-
-/// The same as `is_parameter`, of a byte.
-fn is_parameter_byte(byte: u8) -> bool
-    ensures { result ≡ is_parameter byte }
-{
-    is_parameter(char::from(byte))
 }
 
 /// What a byte asks for, and the scanner after it.

@@ -12,11 +12,11 @@ pub sequences-init : goal.sequences-init
 sequences-init c = record {
   begun_utf8 = c.utf8.text;
   rest_utf8 = c.utf8.text;
-  len_is = c.sequence_len-len.ensures.len;
-  fits = c.sequence_len-len.ensures.fits;
-  ascii = c.sequence_len-len.ensures.ascii;
-  boundary = c.sequence_len-len.ensures.boundary;
-  since = begun_first (ink_of c.args.ink) c.args.text.now c.sequence_len-len.result c.sequence_len-len.ensures.len (omega (arith, c.if-len-eq0.false));
+  len_is = c.colour_len-len.ensures.len;
+  fits = c.colour_len-len.ensures.fits;
+  ascii = c.colour_len-len.ensures.ascii;
+  boundary = c.colour_len-len.ensures.boundary;
+  since = begun_first (ink_of c.args.ink) c.args.text.now c.colour_len-len.result c.colour_len-len.ensures.len (omega (arith, c.if-len-eq0.false));
 }
 
 pub sequences-preserved : goal.sequences-preserved
@@ -38,10 +38,10 @@ sequences-preserved c =
         | else-closing w ↦ subst (λ (b : Bor (List ℕ)). IsUtf8 b.now) (sym w.begun-is) i.begun_utf8
       ];
       rest_utf8 = c.range_from-rest.utf8;
-      len_is = c.sequence_len-len-in-sequences.ensures.len;
-      fits = c.sequence_len-len-in-sequences.ensures.fits;
-      ascii = c.sequence_len-len-in-sequences.ensures.ascii;
-      boundary = c.sequence_len-len-in-sequences.ensures.boundary;
+      len_is = c.colour_len-len-in-sequences.ensures.len;
+      fits = c.colour_len-len-in-sequences.ensures.fits;
+      ascii = c.colour_len-len-in-sequences.ensures.ascii;
+      boundary = c.colour_len-len-in-sequences.ensures.boundary;
       since = elim c.if-closing.branch [
         | then-closing w ↦
             subst (λ (b : Bor (List ℕ)). IsBegun all (if c.if-closing.closed then [] else group) b.now behind) (sym w.begun-is)
