@@ -309,7 +309,7 @@ def shown_in_tmux(tmux, picture, folder):
 
 def alike(text):
     """A picture without digits, and without how far bars are."""
-    return re.sub(r"\[[=> █░]*\]", "[bar]", re.sub(r"[0-9]", "0", text))
+    return re.sub(r"\[[=># █░]*\]", "[bar]", re.sub(r"[0-9]", "0", text))
 
 
 def gallery(*words):
@@ -357,9 +357,9 @@ COMMANDS = [
     ("bars", "a full disk", 2, "bars: output failed", "$P demo > /dev/full 2> said; echo $? > status"),
     ("bars", "a full disk behind a run", 2, "bars: output failed", "$P run 2 10 <<< $'add x\\ntick 1' > /dev/full 2> said; echo $? > status"),
     ("rows", "no words", 1, "", "$P"),
-    ("rows", "an empty file", 1, "empty: 0 passed, 0 failed", "$P empty 2>&1 > said; echo $? > status; : > handed"),
-    ("rows", "a heading alone", 1, "heading: 0 passed, 0 failed", "$P heading 2>&1 > said; echo $? > status"),
-    ("rows", "a wrong row", 1, "other: 0 passed, 1 failed", "$P other 2>&1 | tail -1 > said; echo ${PIPESTATUS[0]} > status"),
+    ("rows", "an empty file", 1, "empty: 0 passed, 0 failed", "$P empty"),
+    ("rows", "a heading alone", 1, "heading: 0 passed, 0 failed", "$P heading"),
+    ("rows", "a wrong row", 1, "other: 0 passed, 1 failed", "$P other"),
     ("rows", "a missing file", 2, "rows: missing: No such file or directory (os error 2)", "$P missing"),
     ("meter", "standard input", 0, "", "cp bytes wanted; $P < bytes"),
     ("meter", "files in turn", 0, "", "cp both wanted; $P bytes lines"),
@@ -539,7 +539,7 @@ def turned():
     with tempfile.TemporaryDirectory() as folder:
         for file in sorted(DATA.glob("**/*.txt")):
             name, lines = file.relative_to(DATA).as_posix(), file.read_text(encoding="utf-8").splitlines()
-            at = max(i for i, line in enumerate(lines) if " -> " in line and not line.startswith(("#", "given ")))
+            at = max(i for i, line in enumerate(lines) if " -> " in line and "\\u" not in line and not line.startswith(("#", "given ")))
             steps, value = lines[at].split(" -> ", 1)
             lines[at] += "~"
             wanted[name] = f"{name}, line {at + 1}: {steps}\n  wanted {value}~\n  got " + value.replace("\t", "\\t").replace("\\s", " ") + "\n"
