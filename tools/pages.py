@@ -3,24 +3,17 @@
 
 usage: tools/pages.py [--write]   (at the root of the repository)
 
-- The rows of docs/TEMPLATES.md's tables are those of crates/rows/data/templates_page.txt, which `crates/rows` plays (--write writes them
-  anew). Each key of a template has a row, and each style word stands on the page. The arguments of crates/rows name all files of its `data`.
-- The README's program is that of crates/code_tests/src/readme.rt, but for `#[test]`. README.md has at most 90 lines.
-- The tables of "Each call" in the libraries' READMEs, and of the programs in docs/PROVED.md, name calls, clauses, laws and files that are
-  there. A library's names each public call (of a trait's calls those that answer a Result or an Option) but for plain commands of a bar,
-  and the README each public type, trait, free function and constant, laws and worked cases aside.
-- The table of wrong bodies in docs/PROVED.md names edits, and callers with their clauses.
-- The refusals of docs/USING.md are all of crates/rows/data/refusals.txt; other pages that give one its number give the right one.
-- Each value of docs/DIFFERENCES.md's tables is a row of crates/rows/data. Each test of the Rust crate stands where docs/TESTING.md says.
-- The options and statuses of crates/meter/README.md are those of its sources; the calls and lengths of docs/PORTING.md those of programs.
-- docs/CONTRIBUTING.md names each crate and each tool. Each link and each path leads to a file. Each name between backquotes that has an
-  underscore, or a capital behind a small letter, is a word of the sources, the data or the tools.
-- Each fenced block of the pages and of the heads of the libraries stands in the sources: code in crates/*/src, `antt` in crates/*/specs,
-  `text` in what a program of the gate prints or plays; an indented block in one of these, in crates.txt, or it is commands. A line `// ..`
-  stands for lines that are left out. Not compared: `rust`, `diagram`, and `gallery`, which tools/programs.py compares.
-- The statements of each example in a doc comment of the libraries stand in one file of a program or a test that the gate runs: an
-  `assert_eq!(a, b)` as that, as `same!(rt; a, b)` or as `a == b`, an `assert!(a)` as that, as `holds!(rt; a)` or as `a`, a `?` as that, as
-  `.granted(rt)` or as `.expect(rt, "granted")`; `{ .. }` stands for any block, and the runtime may stand there by value or by reference.
+- docs/TEMPLATES.md: its tables are the rows of templates_page.txt, which `crates/rows` plays (--write writes them anew), with each key and style
+  word. Files of rows: all are played. README.md: its program is a test, and it has at most 90 lines.
+- "Each call" in the libraries' READMEs, and the programs of docs/PROVED.md: calls, clauses, laws and files are there. Each public call has a row (of
+  a trait's calls those that answer a Result or an Option), but for plain commands of a bar, and each public name stands in the README, laws and
+  worked cases aside. The table of wrong bodies names edits and callers.
+- docs/USING.md has all refusals; others that give one its number give the right one. Values of docs/DIFFERENCES.md are rows of data, tests of the
+  Rust crate stand where docs/TESTING.md says, options and statuses of crates/meter/README.md and calls and lengths of docs/PORTING.md are those of
+  programs.
+- docs/CONTRIBUTING.md names each crate and tool. Links and paths lead to files. Names between backquotes that have an underscore, or a capital behind
+  a small letter, are words of the sources, the data or the tools.
+- Code on the pages and in doc comments stands in the sources: tools/examples.py.
 
 The exit status is 1 where something differs.
 """
@@ -30,27 +23,9 @@ import pathlib
 import re
 import sys
 
-import recipes
+from examples import LIBRARIES, README, faults_of_blocks, faults_of_examples, pages, paths, program, read, without_blocks
 
-LIBRARIES = ["indicatif_text", "indicatif_term", "indicatif_bar", "indicatif_board", "indicatif"]
-TEMPLATES, ROWS, README = "docs/TEMPLATES.md", "crates/rows/data/templates_page.txt", "crates/code_tests/src/readme.rt"
-
-
-def read(path):
-    return pathlib.Path(path).read_text(encoding="utf-8")
-
-
-def paths(pattern):
-    return sorted(pathlib.Path("crates").glob(pattern))
-
-
-def pages():
-    """The pages, and the heads of the libraries, by their names."""
-    found = {str(path): read(path) for path in [pathlib.Path("README.md"), *sorted(pathlib.Path("docs").glob("*.md")), *paths("*/*.md")]}
-    for crate in LIBRARIES:
-        path = f"crates/{crate}/src/lib.rt"
-        found[path] = "\n".join(line[4:] for line in read(path).splitlines() if line.startswith("//!"))
-    return found
+TEMPLATES, ROWS = "docs/TEMPLATES.md", "crates/rows/data/templates_page.txt"
 
 
 def section(page, name):
@@ -113,19 +88,9 @@ def faults_of_templates():
         yield f"crates/rows: {name} isn't both in data and in args"
 
 
-def program(path):
-    """The README's program, without indentation and comments, up to the end of its last function."""
-    lines = read(path).splitlines()
-    start = next(at for at, line in enumerate(lines) if line.strip() == "use anyhow::Result;")
-    cut = [line[len(lines[start]) - len(lines[start].lstrip()) :] for line in lines[start:]]
-    return [line for line in cut[: cut.index("}") + 1] if not line.strip().startswith("//") and line != "#[test]"]
-
-
 def faults_of_readme():
-    if program("README.md") != program(README):
-        yield f"README.md has another program than {README}"
-    if len(read("README.md").splitlines()) > 90:
-        yield "README.md has more than 90 lines"
+    if program("README.md") != program(README) or len(read("README.md").splitlines()) > 90:
+        yield f"README.md has another program than {README}, or more than 90 lines"
 
 
 # Calls and their clauses
@@ -141,19 +106,13 @@ def modules(crate):
     return {path.relative_to(base).with_suffix("").as_posix(): read(path) for path in sorted(base.rglob("*.rt"))}
 
 
-def block_of(line):
+def block_of(head):
     """What a block's head says: the trait whose calls stand there, which may be empty, and the type or trait that has them."""
-    trait = re.match(r"(?:pub )?trait (\w+)", line)
-    if trait:
-        return "", trait[1]
-    head, depth = line.removeprefix("impl").strip(), 0
-    for at, char in enumerate(head):
-        depth += (char == "<") - (char == ">" and head[at - 1] != "-")
-        if depth == 0:
-            head = head[at + 1 :] if char == ">" else head[at:]
-            break
-    of, _, owner = head.partition(" where ")[0].rpartition(" for ")
-    return re.sub(r"<.*", "", of).rpartition("::")[2].strip(), re.match(r"\W*(\w*)", owner)[1]
+    head = head.replace("->", "")
+    while re.search(r"<[^<>]*>", head):
+        head = re.sub(r"<[^<>]*>", "", head)
+    found = re.match(r"(?:impl(?: (.*) for)?|(?:pub )?trait)\W+(?:\w+::)*(\w+)", " ".join(head.split()))
+    return (found[1] or "").rpartition("::")[2], found[2]
 
 
 @functools.cache
@@ -379,10 +338,6 @@ FOREIGN = set("""WithStyle WithElapsed read_vectored write_vectored AsRef conten
     par_iter FROM_RUST Grapheme_Extend clock_gettime is_stderr_for_multi test_duration_stuff human_float_count_negative""".split())
 
 
-def without_blocks(text):
-    return re.sub(r"^```.*?^```$", "", text, flags=re.M | re.S)
-
-
 def faults_of_names():
     page = read("docs/CONTRIBUTING.md")
     tools = [f"tools/{it.name}" for it in sorted(pathlib.Path("tools").iterdir()) if it.name != "__pycache__"]
@@ -393,110 +348,8 @@ def faults_of_names():
     for path, text in pages().items():
         yield from (f"{path}: no file {link}" for link in re.findall(r"\]\(([^)#\s]+)\)", text) if not pathlib.Path(path).parent.joinpath(link).exists())
         yield from (f"{path}: no file {word}" for word in re.findall(r"`((?:crates|docs|tools)/[\w./-]*\w)(?=[` ])", text) if not pathlib.Path(word).exists())
-        for word in re.findall(r"[A-Za-z]\w*\b(?!\*)", " ".join(spans(without_blocks(text)))) if path.endswith(".md") else ():
-            if re.search(r"_|[a-z][A-Z]", word) and word not in known:
-                yield f"{path}: nothing is named {word}"
-
-
-# Blocks
-
-# the first words of a line of commands; one that ends with `{`, `(`, `,` or `;` is code all the same
-COMMANDS = "rt .ci/run (cd cd git mkdir for cp done echo grep rm export shopt meter producer apt-get".split()
-
-
-def blocks(text):
-    """The blocks of a page: their language, which is `indented` where they have no fence, and their lines."""
-    text = re.sub(r"^```(.*)\n((?:.*\n)*?)```$", lambda it: "\0" + it[1] + "\n" + re.sub(r"^", "\1", it[2], flags=re.M), text, flags=re.M)
-    for language, fenced, indented in re.findall(r"^\0(.*)\n((?:\1.*\n?)*)|((?:^    .*\n(?:\n(?=    ))*)+)".replace("\\1.", "\x01."), text + "\n", re.M):
-        lines = fenced.replace("\1", "") or re.sub(r"^    ", "", indented, flags=re.M)
-        yield (language.strip() if fenced else "indented"), [line for line in lines.splitlines() if line.strip()]
-
-
-def spaceless(text, comment="//"):
-    return re.sub(r"\s+", "", re.sub(rf"(^|\s){comment}.*$", "", text, flags=re.M))
-
-
-def lined(text):
-    """Lines without the blanks at their ends, and without empty ones."""
-    return "\n" + "\n".join(line.strip() for line in text.splitlines() if line.strip()) + "\n"
-
-
-def faults_of_blocks():
-    code = [plain(read(path)) for path in paths("*/src/**/*.rt")] + ["#![tactic(auto)]" + plain("\n".join(program(README)))]
-    specs = [spaceless(read(path), "--") for path in paths("*/specs/**/*.antt")]
-    shown = [lined(re.sub(r" -> |\\n", "\n", read(path).replace("\\s", " "))) for path in [*paths("*/stdout"), *paths("rows/data/**/*.txt")]]
-    shown += [lined(read(path)) for path in [*paths("rows/data/**/*.txt"), pathlib.Path("crates.txt")]]
-    runs = [lined("\n".join(it)) for it in recipes.played()]
-    for path, text in pages().items():
-        for language, lines in blocks(text):
-            kind = language.split(" ")[0]
-            is_shown = lined("\n".join(lines)) in runs or any(lined("\n".join(lines)) in it for it in shown)
-            parts = [it for it in map(plain, re.split(r"^\s*// \.\.$", "\n".join(lines), flags=re.M)) if it]
-            is_code = bool(parts) and any(all(part in it for part in parts) for it in code)
-            are_commands = all(line.split()[0] in COMMANDS and not line.endswith(("{", "(", ",", ";")) for line in lines)
-            is_known = {
-                "antt": any(spaceless("\n".join(lines), "--") in it for it in specs), "text": is_shown, "": is_code, "gallery": len(lines) > 1,
-                "rust": True, "diagram": True, "indented": is_code or is_shown or are_commands,
-            }
-            if not is_known.get(kind, False) and lined("\n".join(lines)) not in runs:
-                yield f"{path}: this block stands in no source: {(lines or ['(empty)'])[0]}"
-
-
-# Examples of documentation comments
-
-# Those that can't stand in code as they are: a contract, whose body needs an invariant; an index, which has to be proved.
-UNRUN = ("fn add_all(done: &Done, mut worker: BarWorker) -> BarWorker // adds 1 a thousand times", "let (answer, none) = record.apply(Call::Clear, 5);")
-
-
-def plain(text):
-    """Code without comments, white space and commas before a bracket; a test's checks as asserts and `?`, the runtime by value."""
-    text = re.sub(r",([)\]}])", r"\1", spaceless(text))
-    text = re.sub(r'\.(granted\(&?rt|expect\(&?rt,"granted")\)', "?", text)
-    text = re.sub(r"\bholds!\(\*?rt;", "assert!(", re.sub(r"\bsame!\(\*?rt;", "assert_eq!(", text))
-    text = re.sub(r"(assert(?:_eq)?!\()rt;", r"\1", text)
-    return re.sub(r"(?<![\w.])[&*]?rt\b", "rt", text).replace("rt.alloc()", "alloc")
-
-
-def split_at(text, separator):
-    """The text before and behind the last separator that stands in no bracket, or nothing."""
-    depth, found = 0, ()
-    for at, char in enumerate(text):
-        depth += (char in "([{") - (char in ")]}")
-        if depth == 0 and text.startswith(separator, at):
-            found = text[:at], text[at + len(separator) :]
-    return found
-
-
-def statements(block):
-    """The statements of an example: each as long as its brackets are open."""
-    lines, depth = [], 0
-    for line in block:
-        code = re.sub(r"(^|\s)//.*$", "", line)
-        lines.append(code)
-        depth += len(re.findall(r"[({[]", code)) - len(re.findall(r"[)}\]]", code))
-        if depth == 0 and "".join(lines).strip():
-            yield plain("\n".join(lines)).rstrip(";")
-            lines = []
-
-
-def spellings(statement):
-    """The ways in which code may have a statement, as expressions."""
-    equal, holds = re.fullmatch(r"assert_eq!\((.*)\)", statement), re.fullmatch(r"assert!\((.*)\)", statement)
-    ways = [statement, "==".join(split_at(equal[1], ",")) if equal else "", holds[1] if holds else ""]
-    sides = split_at(holds[1], "==") if holds else ()
-    ways.append("assert_eq!({},{})".format(*sides) if sides else "")
-    return [re.escape(way).replace(r"\{\.\.\}", r"\{.*?\}") for way in ways if way]
-
-
-def faults_of_examples():
-    code = [plain(read(path)) for path in paths("*/src/**/*.rt") if path.parts[1] not in LIBRARIES]
-    for path in (path for crate in LIBRARIES for path in paths(f"{crate}/src/**/*.rt")):
-        docs = re.sub(r"^(?!\s*///).*$", "", read(path), flags=re.M)
-        for block in re.findall(r"^\s*/// ?```\w*\n((?:\s*///.*\n)*?)\s*/// ?```$", docs, re.M):
-            lines = [line.strip().removeprefix("///").removeprefix(" ") for line in block.splitlines()]
-            wanted = [spellings(it) for it in statements(lines)]
-            if lines[0] not in UNRUN and not any(all(any(re.search(way, source) for way in it) for it in wanted) for source in code):
-                yield f"{path}: this example stands in no code that runs: {lines[0]}"
+        words = re.findall(r"[A-Za-z]\w*\b(?!\*)", " ".join(spans(without_blocks(text)))) if path.endswith(".md") else []
+        yield from (f"{path}: nothing is named {word}" for word in words if re.search(r"_|[a-z][A-Z]", word) and word not in known)
 
 
 def main():
