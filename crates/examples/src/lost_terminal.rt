@@ -1,5 +1,5 @@
 //! Work that goes on when its terminal goes away: two bars of a board, of which a thread ticks one, with log lines above them; then a
-//! bar alone. `tools/lost_terminal.py` closes the terminal under it. What was done is printed to standard output at the end.
+//! bar alone. `tools/programs.py gate` closes the terminal under it. What was done is printed to standard output at the end.
 use anyhow::Result;
 use indicatif::bridge::LogBridge;
 use indicatif::machine::{MachineClock, Shares, StderrBar, StderrTerm, on_stderr};

@@ -1,6 +1,6 @@
 //! Pieces of work that threads do, with a bar: a thousand, by as many threads as there are processors; then a hundred that all wait for one
 //! another, so that each needs a thread of its own. Printed is how many have answers, or what was refused, and where the bar is.
-//! `tools/refused_threads.py` refuses threads to it.
+//! `tools/refused.py` refuses threads to it.
 use anyhow::Result;
 use indicatif::machine::{Shares, StderrBar, hidden_bar};
 use indicatif::{Gate, run_workers};

@@ -1,5 +1,5 @@
 //! Shows ten bars on standard error, of which the first goes on. A draw writes the line that changed. The last five draws change nothing,
-//! and write nothing (`tools/writes.sh`).
+//! and write nothing (`tools/programs.py writes`).
 use anyhow::Result;
 use indicatif::machine::{Shares, StderrBar, StderrBoard, on_stderr};
 use indicatif::{MultiProgress, Refusal};

@@ -1,5 +1,5 @@
 //! A storm on standard error: 64 threads log above four bars, move them and pause them, all at once, while one more thread ticks a bar; three
-//! times, each time on a new target. How many lines each thread has written is printed. `tools/storms.py` looks whether all of them stand.
+//! times, each time on a new target. How many lines each thread has written is printed. `tools/programs.py storms` looks whether all of them stand.
 use anyhow::Result;
 use indicatif::bridge::{StderrLogger, logger_above};
 use indicatif::machine::{Shares, StderrBar, StderrBoard, on_stderr};

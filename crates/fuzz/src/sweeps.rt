@@ -4,7 +4,7 @@
 //! `fuzz sweeps pairs` makes those of two calls at each size, which take longer.
 //!
 //! `fuzz sweeps memory SCRIPT` plays one of the scripts `board`, `sized-board`, `lone`, `sized-lone`, `shared`, `loop` and `run` once, for
-//! `tools/refusals.sh`, which refuses it an allocation, and says whether it is as it is defined; so it does behind the sweeps of each of
+//! `tools/refused.py`, which refuses it an allocation, and says whether it is as it is defined; so it does behind the sweeps of each of
 //! them, where nothing is refused. With `grows` the terminal takes memory too. With `grows count` or `stays count` it says where memory was
 //! refused; with `unjudged` in the place of `count` the script is played alone. Rows and columns behind that are the terminal's.
 //!
@@ -126,7 +126,7 @@ fn script_of(name: &str) -> Option<Played> {
 }
 
 /// What the words behind `sweeps` ask for; the size is the largest where none is spelled. It takes no memory, so that
-/// `tools/refusals.sh` refuses it none.
+/// `tools/refused.py` refuses it none.
 pub fn request(mut words: Args) -> Asked {
     let (first, script) = (words.next(), words.next());
     let (growing, judging) = (words.next(), words.next());

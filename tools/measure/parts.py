@@ -1,7 +1,7 @@
 #!/usr/bin/env python3
 """What one operation of the program of measurements (tools/measure) costs, function by function, and instruction by instruction.
 
-usage: tools/parts.py [--each] PROGRAM [WORD ..] NAME N
+usage: tools/measure/parts.py [--each] PROGRAM [WORD ..] NAME N
 
 Runs `PROGRAM [WORD ..] NAME N` and the same with 2 N under callgrind, and prints for each function what the longer run has more, divided by N; with
 --each also each instruction of the program that is run half a time or more in an operation, as objdump writes it. It is run where the

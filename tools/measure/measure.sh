@@ -2,7 +2,7 @@
 # Counts the instructions and the allocations of each measurement (tools/measure), which unlike times don't depend on the machine's
 # load: what a run of 2 N operations has more than one of N, divided by N.
 #
-# usage: tools/measure.sh PROGRAM [WORD ..] [-- NAME ..]
+# usage: tools/measure/measure.sh PROGRAM [WORD ..] [-- NAME ..]
 #   PROGRAM WORD ..  what measures by `PROGRAM WORD .. NAME N`: out/measure, or another program that knows the same names
 #   NAME             the measurements to make; all that the program knows if none is named
 #
