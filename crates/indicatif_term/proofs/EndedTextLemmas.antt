@@ -141,17 +141,17 @@ module _ {T : Type 0} (view : T → TermView) {X Y : Type 0} {f g : Screen → S
 
 module _ {T : Type 0} (view : T → TermView) {own own' : EndedRows T} (r : Result Unit Error) where
   pub draws_by : {f : Screen → Screen} (asked : List ℕ) → Carries view (Together view) (Together view) f own own' r →
-      ((s : Screen) (m : ModeTerminal) → Together view own s m → f s ≡ (after (resting s) asked).screen) → Draws view asked own own' r
+      ((s : Screen) (m : ModeTerminal) → Together view own s m → f s ≡ (after (resting s) asked).screen) → Draws view (asked ∷ []) own own' r
   draws_by asked p is = record {
     bytes = p.bytes;
     told_is = p.told_is;
-    stays = λ s m x n low. stay_by_place n m p.bytes (p.stays s m x n (omega (arith, low, ap (λ u. u.terminal.screen.row) x.real_is, x.same.row)));
+    stays = λ s m x n low. stay_by_place n m p.bytes (p.stays s m x n (omega (arith, low.0, ap (λ u. u.terminal.screen.row) x.real_is, x.same.row)));
     goes_on = λ ok s m x. subst (λ u. Together view own' u (mode_after m p.bytes)) (is s m x) (p.leads ok s m x);
   }
 
   -- where it fails nothing more is said
   pub draws_not : {Q : EndedRows T → Screen → ModeTerminal → Type 0} {f : Screen → Screen} {e : Error} (asked : List ℕ) → IsErrAnd r (λ x. x ≡ e) → Falls view (Together view) Q f own own' (Err e) →
-      Draws view asked own own' r
+      Draws view (asked ∷ []) own own' r
   draws_not asked failed p = draws_by asked (fall_fails view {Q' = Together view} {g = λ s. (after (resting s) asked).screen} r failed p).carries (λ s m x. refl)
 
 -- a run of a text

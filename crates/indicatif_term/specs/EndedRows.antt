@@ -1,11 +1,13 @@
 -- Rows that the program cuts and ends by itself, on a terminal of any width.
-use Rattle.std.specs.Prelude.{◌≡◌, ◌⊎◌, ℕ, ◌<◌, ◌≤◌, Bool, true, false, IsTrue, IsFalse, List, length, None, Result, IsOk}
+use Rattle.std.specs.Prelude.{◌≡◌, ◌⊎◌, ℕ, ◌<◌, ◌≤◌, Bool, true, false, IsTrue, IsFalse, List, [], ◌∷◌, length, None, Result, IsOk}
 use Rattle.std.specs.declared.io.Error.{Error}
 use Rattle.indicatif_term.specs.Screen.{Screen}
 use Rattle.indicatif_term.specs.Terminal.{GREATEST, after}
 use Rattle.indicatif_term.specs.Calls.{TermView, is_told, led_on}
 use Rattle.indicatif_term.specs.Shows.{resting}
+use Rattle.indicatif_term.specs.Resizes.{column_then}
 use Rattle.indicatif_term.specs.Modes.{ModeTerminal, mode_resting, mode_after, ModeRowsStay}
+use Rattle.indicatif_term.specs.OwnRows.{inner_term}
 use Rattle.indicatif_term.specs.declared.ended_rows.EndedRows.{EndedRows}
 use Rattle.indicatif_term.specs.declared.own_rows.OwnRows.{OwnRows}
 use Rattle.indicatif_term.specs.declared.own_rows.Rows.{Rows}
@@ -28,6 +30,31 @@ pub record SameRows (s real : Screen) : Type 0 where
   pub in_rows : real.row < length real.rows
   pub window : 0 < real.height
 
+-- a terminal that gets calls one after another, as any does: of each these bytes
+abbrev pub screen_after : Screen → List (List ℕ) → Screen
+screen_after s [] = s
+screen_after s (asked ∷ calls) = screen_after (after (resting s) asked).screen calls
+
+-- none of the calls begins with the cursor above row n
+abbrev pub BeginBelow : ℕ → Screen → List (List ℕ) → Type 0
+BeginBelow n s [] = Unit {0}
+BeginBelow n s (asked ∷ calls) = (n ≤ s.row) × BeginBelow n (after (resting s) asked).screen calls
+
+-- the cursor is on a row of the window
+pub record HasCursor (s : Screen) : Type 0 where
+  pub in_rows : s.row < length s.rows
+  pub window : 0 < s.height
+
+-- two terminals of which the one, s, became s', of w columns, and the other, m, became `real'`, of any number: their cursors are on the same
+-- row, and that of s' is where it is on any terminal that gets another size
+pub record ResizedAlike (w : ℕ) (s s' real' : Screen) (m : ModeTerminal) : Type 0 where
+  pub some : 0 < s.columns
+  pub same : SameRows s' real'
+  pub columns : s'.columns ≡ w
+  pub column : s'.column ≡ column_then w s
+  pub some_columns : 0 < real'.columns
+  pub not_waiting : IsFalse m.wraps → real'.column < real'.columns
+
 module _ {T : Type 0} (view : T → TermView) where
   -- between two calls: s is a terminal of the columns that were told, which got the calls as any terminal does, and m is the real one,
   -- of any number of columns, which got the bytes that were written
@@ -48,20 +75,60 @@ module _ {T : Type 0} (view : T → TermView) where
     -- no call has failed since the drawing began
     pub known : (own.place ≡ Resting) ⊎ (own.faults ≡ (view own.term).faults)
 
-  -- a call of which any terminal gets the bytes `asked`, and the real one these `bytes`: of that the rows above the cursor stand after
-  -- each byte, also where the call fails; and where it doesn't, the two are together again
-  pub record Draws (asked : List ℕ) (own own' : EndedRows T) (result : Result Unit Error) : Type 0 where
-    pub bytes : List ℕ
-    pub told_is : IsTrue (is_told (view own.term).told) → (view own'.term).told ≡ led_on (view own.term).told bytes
-    pub stays : (s : Screen) (m : ModeTerminal) → Together own s m → (n : ℕ) → n ≤ s.row → ModeRowsStay n m bytes
-    pub goes_on : IsOk result → (s : Screen) (m : ModeTerminal) → Together own s m → Together own' (after (resting s) asked).screen (mode_after m bytes)
+  -- rows that are told w columns go on together with two terminals that got another size
+  abbrev pub SizeKeeps : ℕ → EndedRows T → EndedRows T → Type 0
+  SizeKeeps w own own' =
+      (s s' real' : Screen) (m : ModeTerminal) → Together own s m → ResizedAlike w s s' real' m → Together own' s' (mode_resting m.wraps real')
 
   -- the same of rows that are left to the terminal, of which nothing is said here, or ended by the program
-  abbrev pub RowsDraw : List ℕ → Rows T → Rows T → Result Unit Error → Type 0
-  RowsDraw asked (Left term) (Left term') result = Unit {0}
-  RowsDraw asked (Ended own) (Ended own') result = Draws asked own own' result
-  RowsDraw asked _ _ result = ⊥
+  abbrev pub RowsKeep : ℕ → Rows T → Rows T → Type 0
+  RowsKeep w (Left term) (Left term') = Unit {0}
+  RowsKeep w (Ended own) (Ended own') = SizeKeeps w own own'
+  RowsKeep w _ _ = ⊥
 
-  -- a call of a terminal whose rows the program cuts, or not
-  abbrev pub OwnDraws : List ℕ → OwnRows T → OwnRows T → Result Unit Error → Type 0
-  OwnDraws asked own own' result = RowsDraw asked own.rows own'.rows result
+  -- the same of a terminal
+  abbrev pub OwnKeeps : ℕ → OwnRows T → OwnRows T → Type 0
+  OwnKeeps w own own' = RowsKeep w own.rows own'.rows
+
+  -- calls of which any terminal gets these bytes, and the real one those that are written: of these the rows stand above which no call
+  -- began, after each byte, also where the last call fails; and where none fails, the two are together again
+  pub record Draws (calls : List (List ℕ)) (own own' : EndedRows T) (result : Result Unit Error) : Type 0 where
+    pub bytes : List ℕ
+    pub told_is : IsTrue (is_told (view own.term).told) → (view own'.term).told ≡ led_on (view own.term).told bytes
+    pub stays : (s : Screen) (m : ModeTerminal) → Together own s m → (n : ℕ) → BeginBelow n s calls → ModeRowsStay n m bytes
+    pub goes_on : IsOk result → (s : Screen) (m : ModeTerminal) → Together own s m → Together own' (screen_after s calls) (mode_after m bytes)
+
+  -- the same of rows that are left to the terminal, of which nothing is said here, or ended by the program
+  abbrev pub RowsDraw : List (List ℕ) → Rows T → Rows T → Result Unit Error → Type 0
+  RowsDraw calls (Left term) (Left term') result = Unit {0}
+  RowsDraw calls (Ended own) (Ended own') result = Draws calls own own' result
+  RowsDraw calls _ _ result = ⊥
+
+  -- calls of a terminal whose rows the program cuts, or not
+  abbrev pub OwnDraws : List (List ℕ) → OwnRows T → OwnRows T → Result Unit Error → Type 0
+  OwnDraws calls own own' result = RowsDraw calls own.rows own'.rows result
+
+  -- two terminals are together where rows are ended by the program
+  abbrev pub RowsTogether : Rows T → Screen → ModeTerminal → Type 0
+  RowsTogether (Left term) s m = ⊥
+  RowsTogether (Ended own) s m = Together own s m
+
+  -- the same of a terminal
+  abbrev pub OwnTogether : OwnRows T → Screen → ModeTerminal → Type 0
+  OwnTogether own s m = RowsTogether own.rows s m
+
+  -- where rows begin that the program ends: a screen of the told columns, and the real one, whatever columns it has; the cursor at the
+  -- front of the same row of both
+  pub record BeginOn (term : T) (s real : Screen) : Type 0 where
+    pub same : SameRows s real
+    pub columns : s.columns ≡ (view term).columns
+    pub small : s.columns ≤ GREATEST
+    pub front : s.column ≡ 0
+    pub some_columns : 0 < real.columns
+
+  -- what was written since an `OwnRows` was made over `term`, which leaves it at `own'`: wherever it began, and whatever columns the real
+  -- one has, the rows stand above which no call began, after each byte
+  pub record RowsStand (calls : List (List ℕ)) (term : T) (own' : OwnRows T) : Type 0 where
+    pub bytes : List ℕ
+    pub told_is : IsTrue (is_told (view term).told) → (view (inner_term own')).told ≡ led_on (view term).told bytes
+    pub stays : (s real : Screen) → BeginOn term s real → (n : ℕ) → BeginBelow n s calls → ModeRowsStay n (mode_resting true real) bytes

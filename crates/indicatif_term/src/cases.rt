@@ -9,6 +9,7 @@ ghost use Rattle.indicatif_term.specs.Memory.{move_text, quoted_char, written_te
 ghost use Rattle.indicatif_term.specs.Terminal.{after};
 ghost use Rattle.indicatif_term.specs.CellCases.{contents_after, cursor_after, picture_after, ESC};
 ghost use Rattle.indicatif_term.specs.Cases.{LongLine, ThreeOnTwo, LogAbove, AtTheBottom, KeptScrollsAway, ClearLeavesAbove, FatesOfBars, LogScrolls};
+ghost use Rattle.indicatif_term.specs.ModeCases.{OFF, ON, mode_picture, mode_cursor, wraps_then};
 ghost use Rattle.indicatif_term.specs.Resizes.{resized_terminal};
 ghost use Rattle.indicatif_term.specs.ResizeCases.{fed, picture_at, cursor_at, NotJoined, LiveRowsScrollAway, LogIsCut, RowsBelowDropped, ReachedBelow, KeptRowsScrollAway};
 ghost use Rattle.indicatif_term.specs.Inside.Recutting.{piece_text, texts_then, cut_counts, counts_after};
@@ -168,6 +169,31 @@ pub fn odd_sequences()
     ensures huge { contents_after 2 4 (codes "a\r\nb" ++ ESC ++ codes "[99999999999999999999999Ac") ≡ codes "ac\nb" }
     ensures cut_short { contents_after 1 4 (0xE5 ∷ 0x9B ∷ codes "a") ≡ codes "a" }
     ensures stray { contents_after 1 4 (codes "a" ++ 0x80 ∷ 0x80 ∷ 0x80 ∷ 0x80 ∷ 0x80 ∷ codes "b") ≡ codes "ab" }
+{}
+
+/// A terminal whose wrap is off: what has no room on a row is written over its end, and the cursor never waits. Turned on again it wraps.
+pub fn unwrapped()
+    ensures on { mode_picture 2 3 (codes "abcd") ≡ codes "abc" ∷ codes "d" ∷ [] }
+    ensures off { mode_picture 2 3 (OFF ++ codes "abcd") ≡ codes "abd" ∷ [] ∷ [] }
+    ensures cursor { mode_cursor 2 3 (OFF ++ codes "abcd") ≡ (0, 2) }
+    ensures waits_no_more { mode_cursor 2 3 (codes "abc" ++ OFF) ≡ (0, 2) }
+    ensures on_again { mode_picture 2 3 (OFF ++ codes "abcd" ++ ON ++ codes "ef") ≡ codes "abe" ∷ codes "f" ∷ [] }
+    ensures wide { mode_picture 1 4 (OFF ++ codes "abc" ++ 0xE5 ∷ 0x9B ∷ 0xBD ∷ []) ≡ (codes "ab" ++ 0xE5 ∷ 0x9B ∷ 0xBD ∷ []) ∷ [] }
+    ensures too_wide { mode_picture 1 1 (OFF ++ codes "a" ++ 0xE5 ∷ 0x9B ∷ 0xBD ∷ []) ≡ codes "a" ∷ [] }
+    ensures next_row { mode_picture 2 3 (OFF ++ codes "abcd\r\ne") ≡ codes "abd" ∷ codes "e" ∷ [] }
+{}
+
+/// Private sequences: those of other modes change nothing, nor do several at once. The end of a row is emptied from the cursor on.
+pub fn private_sequences()
+    ensures updates { mode_picture 1 3 (ESC ++ codes "[?2026ha" ++ ESC ++ codes "[?2026lb") ≡ codes "ab" ∷ [] }
+    ensures others { wraps_then 1 3 (ESC ++ codes "[?25l") ≡ true }
+    ensures zeros { wraps_then 1 3 (ESC ++ codes "[?007l") ≡ false }
+    ensures several { wraps_then 1 3 (ESC ++ codes "[?7;25l") ≡ true }
+    ensures plain { wraps_then 1 3 (ESC ++ codes "[7l") ≡ true }
+    ensures half_read { wraps_then 1 3 (ESC ++ codes "[?7") ≡ true }
+    ensures end_emptied { mode_picture 1 4 (codes "abcd\r" ++ ESC ++ codes "[2C" ++ ESC ++ codes "[K") ≡ codes "ab" ∷ [] }
+    ensures wide_emptied { mode_picture 1 4 (codes "a" ++ 0xE5 ∷ 0x9B ∷ 0xBD ∷ (codes "d\r" ++ ESC ++ codes "[2C" ++ ESC ++ codes "[K")) ≡ codes "a" ∷ [] }
+    ensures row_emptied { mode_picture 1 4 (codes "abcd" ++ ESC ++ codes "[2K") ≡ [] ∷ [] }
 {}
 
 /// A wide character of which a cell is written over is emptied; one that doesn't fit goes to the next row; one that is

@@ -1,14 +1,14 @@
 //! Rows that the program cuts and ends by itself.
-ghost use Rattle.std.specs.Prelude.{◌≡◌, ◌-◌, ◌≤◌, ◌⊎◌, ◌↔◌, Bool, Option, None, List, [], true, false, is_some, chars, IsTrue, IfErr, OnOk, OnErr};
+ghost use Rattle.std.specs.Prelude.{◌≡◌, ◌-◌, ◌≤◌, ◌⊎◌, ◌↔◌, Bool, Option, None, List, [], ◌∷◌, true, false, is_some, chars, nat_lt, nat_le, ◌&&◌, Err, IsTrue, IsFalse, IfErr, OnOk, OnErr};
 ghost use Rattle.unicode_width.specs.Width.{char_width};
 ghost use Rattle.indicatif_text.specs.Columns.{visible, is_plain};
 ghost use Rattle.indicatif_text.specs.Pieces.{Colour, shown};
 ghost use Rattle.indicatif_text.specs.PieceLaws.{IsExact, run_text};
 ghost use Rattle.indicatif_term.specs.Screen.{Put, performed};
 ghost use Rattle.indicatif_term.specs.Calls.{TermView, Writes, move_bytes, line_bytes, clear_bytes, UP, DOWN, RIGHT, LEFT};
-ghost use Rattle.indicatif_term.specs.Resizes.{Resized};
+ghost use Rattle.indicatif_term.specs.Resizes.{Resized, has_size};
 ghost use Rattle.indicatif_term.specs.OwnRows.{quiet, first_place, new_rows};
-ghost use Rattle.indicatif_term.specs.EndedRows.{is_between, Together, Draws};
+ghost use Rattle.indicatif_term.specs.EndedRows.{is_between, Together, Draws, SizeKeeps};
 ghost use Rattle.indicatif_term.specs.Inside.Ending.{Meets, Held, Within, WithinIf, WithinTo, WithinRoom, Between, Ended, Carries, Falls, unfailed, drawn_place, moved_place, opening_bytes, closing_bytes, at_column, next_front, rows_moved, front_emptied, with_room, all_put, AreShown, right_column};
 
 use crate::own_row::OwnRow;
@@ -462,7 +462,9 @@ impl<T: TermLike> EndedRows<T> {
     }
 
     /// Whether the cursor waits behind a full row.
-    fn waits(&self) -> bool {
+    fn waits(&self) -> bool
+        ensures { result ≡ nat_lt 0 self.now.column && nat_le (T.view self.now.term).columns self.now.column }
+    {
         0 < self.column && self.term.width() as usize <= self.column
     }
 
@@ -496,7 +498,7 @@ impl<T: TermLike> TermLike for EndedRows<T> {
 
     fn move_cursor_up(&mut self, n: usize) -> io::Result<()>
         ensures writes { Writes (move_bytes UP n) (quiet (T.view self.old.term)) (quiet (T.view self.new.term)) result }
-        ensures draws { Draws T.view (move_bytes UP n) self.old self.new result }
+        ensures draws { Draws T.view (move_bytes UP n ∷ []) self.old self.new result }
     {
         self.begin()?;
         self.go_up(n)
@@ -504,7 +506,7 @@ impl<T: TermLike> TermLike for EndedRows<T> {
 
     fn move_cursor_down(&mut self, n: usize) -> io::Result<()>
         ensures writes { Writes (move_bytes DOWN n) (quiet (T.view self.old.term)) (quiet (T.view self.new.term)) result }
-        ensures draws { Draws T.view (move_bytes DOWN n) self.old self.new result }
+        ensures draws { Draws T.view (move_bytes DOWN n ∷ []) self.old self.new result }
     {
         self.begin()?;
         self.go_down(n)
@@ -512,7 +514,7 @@ impl<T: TermLike> TermLike for EndedRows<T> {
 
     fn move_cursor_right(&mut self, n: usize) -> io::Result<()>
         ensures writes { Writes (move_bytes RIGHT n) (quiet (T.view self.old.term)) (quiet (T.view self.new.term)) result }
-        ensures draws { Draws T.view (move_bytes RIGHT n) self.old self.new result }
+        ensures draws { Draws T.view (move_bytes RIGHT n ∷ []) self.old self.new result }
     {
         self.begin()?;
         self.go_to(self.right_of(n))
@@ -520,7 +522,7 @@ impl<T: TermLike> TermLike for EndedRows<T> {
 
     fn move_cursor_left(&mut self, n: usize) -> io::Result<()>
         ensures writes { Writes (move_bytes LEFT n) (quiet (T.view self.old.term)) (quiet (T.view self.new.term)) result }
-        ensures draws { Draws T.view (move_bytes LEFT n) self.old self.new result }
+        ensures draws { Draws T.view (move_bytes LEFT n ∷ []) self.old self.new result }
     {
         self.begin()?;
         self.go_to(self.column.saturating_sub(n))
@@ -528,7 +530,7 @@ impl<T: TermLike> TermLike for EndedRows<T> {
 
     fn write_line(&mut self, s: &str) -> io::Result<()>
         ensures writes { Writes (line_bytes s.now) (quiet (T.view self.old.term)) (quiet (T.view self.new.term)) result }
-        ensures draws { IsTrue (is_plain (chars s.now)) → Draws T.view (line_bytes s.now) self.old self.new result }
+        ensures draws { IsTrue (is_plain (chars s.now)) → Draws T.view (line_bytes s.now ∷ []) self.old self.new result }
     {
         self.begin()?;
         self.put(s)?;
@@ -537,7 +539,7 @@ impl<T: TermLike> TermLike for EndedRows<T> {
 
     fn write_str(&mut self, s: &str) -> io::Result<()>
         ensures writes { Writes s.now (quiet (T.view self.old.term)) (quiet (T.view self.new.term)) result }
-        ensures draws { IsTrue (is_plain (chars s.now)) → Draws T.view s.now self.old self.new result }
+        ensures draws { IsTrue (is_plain (chars s.now)) → Draws T.view (s.now ∷ []) self.old self.new result }
     {
         self.begin()?;
         self.put(s)
@@ -545,7 +547,7 @@ impl<T: TermLike> TermLike for EndedRows<T> {
 
     fn clear_line(&mut self) -> io::Result<()>
         ensures writes { Writes clear_bytes (quiet (T.view self.old.term)) (quiet (T.view self.new.term)) result }
-        ensures draws { Draws T.view clear_bytes self.old self.new result }
+        ensures draws { Draws T.view (clear_bytes ∷ []) self.old self.new result }
     {
         self.begin()?;
         self.empty_row()
@@ -553,7 +555,7 @@ impl<T: TermLike> TermLike for EndedRows<T> {
 
     fn flush(&mut self) -> io::Result<()>
         ensures writes { Writes [] (quiet (T.view self.old.term)) (quiet (T.view self.new.term)) result }
-        ensures draws { Draws T.view [] self.old self.new result }
+        ensures draws { Draws T.view ([] ∷ []) self.old self.new result }
     {
         self.end()?;
         self.hand_on()
@@ -563,7 +565,15 @@ impl<T: TermLike> TermLike for EndedRows<T> {
 impl<T: Resize> Resize for EndedRows<T> {
     ghost takes_memory = { T.takes_memory };
 
-    fn resize(&mut self, rows: u16, cols: u16) -> Result<(), Refusal> {
+    fn resize(&mut self, rows: u16, cols: u16) -> Result<(), Refusal>
+        ensures resized { OnOk result (Resized cols rows (quiet (T.view self.old.term)) (quiet (T.view self.new.term))) }
+        ensures together { OnOk result (SizeKeeps T.view cols self.old self.new) }
+        ensures unchanged { OnErr result (self.new ≡ self.old) }
+        ensures zero_size { (result ≡ Err Refusal.ZeroSize) ↔ ((rows ≡ 0) ⊎ (cols ≡ 0)) }
+        ensures no_other { IfErr result (λ e. (e ≡ Refusal.ZeroSize) ⊎ (e ≡ Refusal.Memory)) }
+        ensures memory { result ≡ Err Refusal.Memory → IsFalse (has_size cols rows (quiet (T.view self.old.term))) }
+        ensures takes { result ≡ Err Refusal.Memory → IsTrue T.takes_memory }
+    {
         let waits = self.waits();
         self.term.resize(rows, cols)?;
         let columns = cols as usize;

@@ -1,9 +1,9 @@
 //! A terminal whose rows are cut by the program, or left to the terminal.
-ghost use Rattle.std.specs.Prelude.{◌≡◌, List, [], chars, IsTrue, None, Some, OnOk, OnErr, IfErr, ◌⊎◌, ◌↔◌};
+ghost use Rattle.std.specs.Prelude.{◌≡◌, List, [], ◌∷◌, chars, Err, IsTrue, IsFalse, None, Some, OnOk, OnErr, IfErr, ◌⊎◌, ◌↔◌};
 ghost use Rattle.indicatif_text.specs.Columns.{is_plain};
-ghost use Rattle.indicatif_term.specs.EndedRows.{OwnDraws};
+ghost use Rattle.indicatif_term.specs.EndedRows.{OwnDraws, OwnKeeps};
 ghost use Rattle.indicatif_term.specs.Calls.{TermView, Writes, move_bytes, line_bytes, clear_bytes, UP, DOWN, RIGHT, LEFT};
-ghost use Rattle.indicatif_term.specs.Resizes.{Resized};
+ghost use Rattle.indicatif_term.specs.Resizes.{Resized, has_size};
 ghost use Rattle.indicatif_term.specs.OwnRows.{own_rows, left_rows, inner_term, own_view, unsynchronized};
 
 use crate::ended_rows::{EndedRows, Shown};
@@ -30,7 +30,8 @@ use std::io;
 ///
 /// A character wider than the told columns is left out. As a terminal it tells its size and its faults, and nothing of its bytes. Clause
 /// `draws` of each call says, of plain texts, that at any true width the rows above the cursor's stand after each byte, and that the
-/// cursor is on the row on which a terminal of the told columns has it. Where rows are left to the terminal it tells all that it does.
+/// cursor is on the row on which a terminal of the told columns has it. Laws `where_own_rows_begin` and `what_own_rows_draw` lead from
+/// a new one over any calls. Where rows are left to the terminal it tells all that it does.
 ///
 /// ```
 /// let term = OwnRows::new(Term::new(writer, 24, 79)); // for a terminal of 80 columns, or of any other number
@@ -157,7 +158,7 @@ impl<T: TermLike> TermLike for OwnRows<T> {
 
     fn move_cursor_up(&mut self, n: usize) -> io::Result<()>
         ensures writes { Writes (move_bytes UP n) (own_view T.view self.old) (own_view T.view self.new) result }
-        ensures draws { OwnDraws T.view (move_bytes UP n) self.old self.new result }
+        ensures draws { OwnDraws T.view (move_bytes UP n ∷ []) self.old self.new result }
     {
         match &mut self.rows {
             Rows::Left(term) => term.move_cursor_up(n),
@@ -167,7 +168,7 @@ impl<T: TermLike> TermLike for OwnRows<T> {
 
     fn move_cursor_down(&mut self, n: usize) -> io::Result<()>
         ensures writes { Writes (move_bytes DOWN n) (own_view T.view self.old) (own_view T.view self.new) result }
-        ensures draws { OwnDraws T.view (move_bytes DOWN n) self.old self.new result }
+        ensures draws { OwnDraws T.view (move_bytes DOWN n ∷ []) self.old self.new result }
     {
         match &mut self.rows {
             Rows::Left(term) => term.move_cursor_down(n),
@@ -177,7 +178,7 @@ impl<T: TermLike> TermLike for OwnRows<T> {
 
     fn move_cursor_right(&mut self, n: usize) -> io::Result<()>
         ensures writes { Writes (move_bytes RIGHT n) (own_view T.view self.old) (own_view T.view self.new) result }
-        ensures draws { OwnDraws T.view (move_bytes RIGHT n) self.old self.new result }
+        ensures draws { OwnDraws T.view (move_bytes RIGHT n ∷ []) self.old self.new result }
     {
         match &mut self.rows {
             Rows::Left(term) => term.move_cursor_right(n),
@@ -187,7 +188,7 @@ impl<T: TermLike> TermLike for OwnRows<T> {
 
     fn move_cursor_left(&mut self, n: usize) -> io::Result<()>
         ensures writes { Writes (move_bytes LEFT n) (own_view T.view self.old) (own_view T.view self.new) result }
-        ensures draws { OwnDraws T.view (move_bytes LEFT n) self.old self.new result }
+        ensures draws { OwnDraws T.view (move_bytes LEFT n ∷ []) self.old self.new result }
     {
         match &mut self.rows {
             Rows::Left(term) => term.move_cursor_left(n),
@@ -197,7 +198,7 @@ impl<T: TermLike> TermLike for OwnRows<T> {
 
     fn write_line(&mut self, s: &str) -> io::Result<()>
         ensures writes { Writes (line_bytes s.now) (own_view T.view self.old) (own_view T.view self.new) result }
-        ensures draws { IsTrue (is_plain (chars s.now)) → OwnDraws T.view (line_bytes s.now) self.old self.new result }
+        ensures draws { IsTrue (is_plain (chars s.now)) → OwnDraws T.view (line_bytes s.now ∷ []) self.old self.new result }
     {
         match &mut self.rows {
             Rows::Left(term) => term.write_line(s),
@@ -207,7 +208,7 @@ impl<T: TermLike> TermLike for OwnRows<T> {
 
     fn write_str(&mut self, s: &str) -> io::Result<()>
         ensures writes { Writes s.now (own_view T.view self.old) (own_view T.view self.new) result }
-        ensures draws { IsTrue (is_plain (chars s.now)) → OwnDraws T.view s.now self.old self.new result }
+        ensures draws { IsTrue (is_plain (chars s.now)) → OwnDraws T.view (s.now ∷ []) self.old self.new result }
     {
         match &mut self.rows {
             Rows::Left(term) => term.write_str(s),
@@ -217,7 +218,7 @@ impl<T: TermLike> TermLike for OwnRows<T> {
 
     fn clear_line(&mut self) -> io::Result<()>
         ensures writes { Writes clear_bytes (own_view T.view self.old) (own_view T.view self.new) result }
-        ensures draws { OwnDraws T.view clear_bytes self.old self.new result }
+        ensures draws { OwnDraws T.view (clear_bytes ∷ []) self.old self.new result }
     {
         match &mut self.rows {
             Rows::Left(term) => term.clear_line(),
@@ -227,7 +228,7 @@ impl<T: TermLike> TermLike for OwnRows<T> {
 
     fn flush(&mut self) -> io::Result<()>
         ensures writes { Writes [] (own_view T.view self.old) (own_view T.view self.new) result }
-        ensures draws { OwnDraws T.view [] self.old self.new result }
+        ensures draws { OwnDraws T.view ([] ∷ []) self.old self.new result }
     {
         match &mut self.rows {
             Rows::Left(term) => term.flush(),
@@ -240,7 +241,8 @@ impl<T: TermLike> TermLike for OwnRows<T> {
 /// one column less than there are now, as at first.
 ///
 /// What stands is then counted as rows that these columns cut. A terminal that cut it at others, or not at all, may have fewer: the
-/// next drawing takes back rows above then. A new target (`machine::sized_target`) behind a clear counts what was drawn.
+/// next drawing takes back rows above then. Where it has as many, clause `together` says that `draws` goes on. A new target
+/// (`machine::sized_target`) behind a clear counts what was drawn.
 ///
 /// ```
 /// own.resize(50, 131)?; // for a terminal that has 132 columns now
@@ -248,7 +250,15 @@ impl<T: TermLike> TermLike for OwnRows<T> {
 impl<T: Resize> Resize for OwnRows<T> {
     ghost takes_memory = { T.takes_memory };
 
-    fn resize(&mut self, rows: u16, cols: u16) -> Result<(), Refusal> {
+    fn resize(&mut self, rows: u16, cols: u16) -> Result<(), Refusal>
+        ensures resized { OnOk result (Resized cols rows (own_view T.view self.old) (own_view T.view self.new)) }
+        ensures together { OnOk result (OwnKeeps T.view cols self.old self.new) }
+        ensures unchanged { OnErr result (self.new ≡ self.old) }
+        ensures zero_size { (result ≡ Err Refusal.ZeroSize) ↔ ((rows ≡ 0) ⊎ (cols ≡ 0)) }
+        ensures no_other { IfErr result (λ e. (e ≡ Refusal.ZeroSize) ⊎ (e ≡ Refusal.Memory)) }
+        ensures memory { result ≡ Err Refusal.Memory → IsFalse (has_size cols rows (own_view T.view self.old)) }
+        ensures takes { result ≡ Err Refusal.Memory → IsTrue T.takes_memory }
+    {
         match &mut self.rows {
             Rows::Left(term) => term.resize(rows, cols),
             Rows::Ended(own) => own.resize(rows, cols),

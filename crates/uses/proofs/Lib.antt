@@ -1,3 +1,4 @@
+mod AnyWidthLemmas
 mod BytesLemmas
 mod CutLemmas
 mod EngineLemmas

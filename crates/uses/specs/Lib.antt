@@ -1,2 +1,3 @@
+pub mod AnyWidth
 pub mod Plain
 pub mod Readings

@@ -5,6 +5,7 @@
 //! - `drawings`: what a terminal shows after one drawing.
 //! - `runs`: what a terminal shows after a list of calls of a bar.
 //! - `rows`: the same where rows are left to the terminal.
+//! - `any_width`: which rows stand on a terminal whose width nobody knows.
 //! - `boards`: what a terminal shows after a list of calls of a board.
 //! - `engines`: what engines show of fixed lines, and how often a limiter allows at once.
 //! - `orders`: which bars stand in the order of a board.
@@ -21,6 +22,7 @@
 #![tactic(auto)]
 
 pub mod answers;
+pub mod any_width;
 pub mod boards;
 pub mod drawings;
 pub mod engines;
