@@ -329,6 +329,10 @@ impl<T: TermLike + Drop, C: Clock + Drop, R: Wait + Clone + Drop, K: Tracks> Pro
     /// It is a pause of the bar, or of its board (`MultiProgress::suspend`). Meanwhile readings answer, also in `f` itself. A call that draws,
     /// or changes a bar, waits for the end of the pause: from another thread it goes on then, and one that `f` itself makes, of this bar or
     /// of any bar of its board, waits for ever.
+    ///
+    /// ```
+    /// let (position, drawn) = bar.suspend(|| bar.position());
+    /// ```
     pub fn suspend<F: FnOnce() -> A, A>(&self, f: F) -> (A, Result<Drawn, Refusal>)
         requires { F.pre f }
         ensures value { F.post f result.0 }

@@ -277,9 +277,13 @@ impl<T: TermLike + Drop, C: Clock + Drop, R: Wait + Clone + Drop, K: Tracks> Mul
     /// what the draw answered; where the clear was refused, no draw is made, and the answer is that refusal.
     ///
     /// It is a pause of the board. Meanwhile the readings of the board and of its bars answer, also in `f` itself. A call that draws, or
-    /// changes a bar, waits for the end of the pause: from another thread it goes on then, and one that `f` itself makes, of any bar of this
-    /// board, waits for ever. So does another pause of this board in `f`, and the drop of a bar's last owner. To take bars in or out, or to
-    /// set a steady ticker, waits for nothing, and draws nothing before the pause ends.
+    /// changes a bar or how the board is drawn, waits for the end of the pause: from another thread it goes on then, and one that `f` itself
+    /// makes, of this board or of any bar of it, waits for ever. So does another pause of this board in `f`, and the drop of a bar's last
+    /// owner. To take bars in or out, or to set a steady ticker, waits for nothing, and draws nothing before the pause ends.
+    ///
+    /// ```
+    /// let (position, drawn) = board.suspend(|| bar.position());
+    /// ```
     pub fn suspend<F: FnOnce() -> A, A>(&self, f: F) -> (A, Result<Drawn, Refusal>)
         requires { F.pre f }
         ensures value { F.post f result.0 }
