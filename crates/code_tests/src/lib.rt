@@ -14,8 +14,9 @@
 //!
 //! - `fronts`: bars and boards for tests, and what they show. `recordings`: what a board has recorded.
 //! - `shown`: a terminal that others see. `owners`: what the last owner of a bar leaves there. `watched`: boards there, while a closure
-//!   runs, and where the cursor only moves. `pauses`: what answers and what waits meanwhile, with threads. `bars`: what crosses threads, and a terminal in a box.
-//! - `boards`: boards that threads share.
+//!   runs, and where the cursor only moves. `pauses`: what answers and what waits meanwhile, with threads. `bars`: what crosses threads,
+//!   and a terminal in a box.
+//! - `boards`: boards that threads share. `unlocked`: bars and boards that leave their locks.
 //! - `shared`: what is said of a wrapper's bar, and threads at one bar. `readers`: two readers of one bar.
 //! - `closures`: what is done under a lock. `given_up`: what threads of tickers give up, also in two tests of the crate `indicatif`, and
 //!   calls that find no memory, over a runtime that is counted (`lent`).
@@ -126,6 +127,8 @@ mod term;
 mod text;
 #[cfg(test)]
 mod ticking;
+#[cfg(test)]
+mod unlocked;
 #[cfg(test)]
 mod values;
 #[cfg(test)]

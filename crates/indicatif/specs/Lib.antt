@@ -7,6 +7,7 @@ pub mod PlainLines
 pub mod Ring
 pub mod Seek
 pub mod StderrTerm
+pub mod Unlocked
 pub mod UntilGone
 pub mod Workers
 pub mod Wrap

@@ -276,7 +276,8 @@ pub use crate::owned::OwnedBar;
 pub use crate::parallel::ParallelProgressIterator;
 pub use crate::plain_lines::PlainLines;
 pub use crate::progress_bar::{
-    MultiProgress, ProgressBar, RecordReader, WeakProgressBar, written_if_hidden,
+    MultiProgress, ProgressBar, RecordReader, UnlockedBar, UnlockedBoard, WeakProgressBar,
+    written_if_hidden,
 };
 pub use crate::progress_iterator::ProgressIterator;
 pub use crate::ring::MaxRingBuf;

@@ -4,6 +4,7 @@
 //!
 //! - `constructors`: how bars are made; `builders`: what is said of one before it moves; `readings`: what is read of it.
 //! - `beside`: lines above bars, and beside hidden ones. `told`: hidden bars as plain lines. `weak`: a bar without an owner; `wrapped`: wrappers that move it.
+//! - `unlocked`: bars and boards that leave their locks.
 //! - `shared_bar`: its lock, its pauses, and what waits for them; `request`: what became of a call, which is made or has to come again.
 //! - `locked_bar`: what its lock keeps; `any_bar`: the bar there, alone or on a board; `member_bar`: a bar on a board.
 //! - `board_cell`: a board's lock, and its pauses (`pause`).
@@ -42,6 +43,7 @@ mod steady;
 mod text_command;
 mod ticker;
 mod told;
+mod unlocked;
 mod weak;
 mod wrapped;
 
@@ -52,6 +54,7 @@ use self::position_change::PositionChange;
 use self::request::Tried;
 use self::shared_bar::SharedBar;
 use self::text_command::TextCommand;
+pub use self::unlocked::{UnlockedBar, UnlockedBoard};
 pub use self::weak::WeakProgressBar;
 use crate::moves::{Move, Moves, Reading};
 use crate::seek::SeekMax;

@@ -29,6 +29,12 @@ impl<K: Tracks, T: Drop, C> BoardCell<K, T, C> {
         }
     }
 
+    /// The board, out of its lock.
+    pub fn into_inner(self) -> LockedBoard<K, T, C> {
+        let BoardCell { lock, resumed: _ } = self;
+        lock.into_inner()
+    }
+
     /// The board, also in a pause: for what draws nothing.
     pub fn lock<R: Wait>(&self, rt: &R) -> MutexGuard<'_, LockedBoard<K, T, C>> {
         self.lock.lock(rt)

@@ -506,6 +506,22 @@ impl<K: Tracks, T: TermLike + Drop, C: Clock + Drop> LockedBar<K, T, C> {
     }
 }
 
+impl<K: Tracks, T: Drop, C: Drop> LockedBar<K, T, C> {
+    /// The bar, out of its lock; its clock is given up.
+    pub fn into_bar(self) -> AnyBar<K, T, C>
+        ensures { result ≡ self.bar }
+    {
+        let LockedBar {
+            owners: _,
+            ticker: _,
+            clock: _,
+            paused: _,
+            bar,
+        } = self;
+        bar
+    }
+}
+
 /// Takes the rows of a bar back that stands alone.
 fn pause_of<K: Tracks, T: TermLike + Drop>(bar: &mut LoneBar<K, T>, now: Moment) -> Pause
     ensures made { MadeBy K.means T.view bar.old bar.new Lone.Clear now result.cleared }

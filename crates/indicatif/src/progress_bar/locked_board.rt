@@ -40,6 +40,20 @@ impl<K: Tracks, T: Drop, C> LockedBoard<K, T, C> {
     }
 }
 
+impl<K: Tracks, T: Drop, C: Drop> LockedBoard<K, T, C> {
+    /// The board, out of its lock; its clock is given up.
+    pub fn into_board(self) -> AnyBoard<K, T>
+        ensures { result ≡ self.board }
+    {
+        let LockedBoard {
+            board,
+            clock: _,
+            paused: _,
+        } = self;
+        board
+    }
+}
+
 impl<K: Tracks, T: Drop, C: Clone> LockedBoard<K, T, C> {
     /// A copy of its clock.
     ///

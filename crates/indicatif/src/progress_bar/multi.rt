@@ -41,9 +41,9 @@ pub struct MultiProgress<
     R: Wait + Clone + Drop,
     K: Tracks = NoTracker,
 > {
-    board: SharedBoard<K, T, C>,
-    alloc: Global,
-    rt: R,
+    pub(crate) board: SharedBoard<K, T, C>,
+    pub(crate) alloc: Global,
+    pub(crate) rt: R,
 }
 
 impl<T: TermLike + Drop, C: Clock + Drop, R: Wait + Clone + Drop, K: Tracks> Drop
@@ -140,6 +140,14 @@ impl<T: TermLike + Drop, C: Clock + Drop, R: Wait + Clone + Drop, K: Tracks> Mul
     /// What its texts are made by.
     pub(crate) fn alloc(&self) -> Global {
         self.alloc
+    }
+
+    /// Its board, what its texts are made by, and its runtime.
+    pub(crate) fn into_parts(self) -> (SharedBoard<K, T, C>, Global, R)
+        ensures { (result.0 ≡ self.board) × (result.1 ≡ self.alloc) × (result.2 ≡ self.rt) }
+    {
+        let MultiProgress { board, alloc, rt } = self;
+        (board, alloc, rt)
     }
 
     /// A board under its lock.
