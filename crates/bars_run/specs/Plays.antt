@@ -57,9 +57,9 @@ bar_at number = record { board = 0; number = number }
 abbrev pub call_on : Id → Action → BarCall
 call_on id (Message text) = on.Tell id (bar.SetMessage text)
 call_on id Tick = on.Tell id bar.Tick
-call_on id Finish = on.Tell id (bar.FinishBy AndLeave)
-call_on id Hide = on.Tell id (bar.FinishBy AndClear)
-call_on id Abandon = on.Tell id (bar.FinishBy AbandonFinish)
+call_on id Finish = on.Tell id (bar.Finish AndLeave)
+call_on id Hide = on.Tell id (bar.Finish AndClear)
+call_on id Abandon = on.Tell id (bar.Finish AbandonFinish)
 call_on id Drop = on.Drop id
 call_on id Remove = on.Remove id
 

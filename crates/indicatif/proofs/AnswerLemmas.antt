@@ -12,7 +12,7 @@ use Rattle.indicatif_term.specs.Calls.{TermView}
 use Rattle.indicatif_term.specs.Frames.{some_wide}
 use Rattle.indicatif_term.specs.Limiters.{Limiter}
 use Rattle.indicatif_bar.specs.Trackers.{Tracking}
-use Rattle.indicatif_bar.specs.Commands.{BarRecord, Command, Tick, TickerTick, SetTicker, Inc, Dec, SetPosition, Update, SetLength, UnsetLength, IncLength, DecLength, SetMessage, SetPrefix, SetStyle, PutPosition, PutMessage, PutPrefix, PutFinish, PutTabWidth, SetElapsed, ResetEta, ResetElapsed, SetTabWidth, Reset, FinishBy, FinishUsingStyle, ForceDraw, obeyed, is_beyond_clock}
+use Rattle.indicatif_bar.specs.Commands.{BarRecord, Command, Tick, TickerTick, SetTicker, Inc, Dec, SetPosition, Update, SetLength, UnsetLength, IncLength, DecLength, SetMessage, SetPrefix, SetStyle, WithPosition, WithMessage, WithPrefix, WithFinish, WithTabWidth, SetElapsed, ResetEta, ResetElapsed, SetTabWidth, Reset, Finish, FinishUsingStyle, ForceDraw, obeyed, is_beyond_clock}
 use Rattle.indicatif_bar.specs.Bars.{bar_kind}
 use Rattle.indicatif_bar.specs.Kinds.{asked_of, Frame, NoFrame}
 use Rattle.indicatif_bar.specs.Machines.{Target, target_of, Machine, Draw, Deed, AtOnce, Draws, Leads, is_no, drawn_by}
@@ -148,16 +148,16 @@ command_asks m (SetPrefix text) bar now = tt
 command_asks m Reset bar now = tt
 command_asks m (SetTicker installed) bar now = refl
 command_asks m (SetStyle style) bar now = refl
-command_asks m (PutPosition position) bar now = refl
-command_asks m (PutMessage text) bar now = refl
-command_asks m (PutPrefix text) bar now = refl
-command_asks m (PutFinish by) bar now = refl
-command_asks m (PutTabWidth tab) bar now = refl
+command_asks m (WithPosition position) bar now = refl
+command_asks m (WithMessage text) bar now = refl
+command_asks m (WithPrefix text) bar now = refl
+command_asks m (WithFinish by) bar now = refl
+command_asks m (WithTabWidth tab) bar now = refl
 command_asks m (SetElapsed nanos) bar now = refl
 command_asks m ResetEta bar now = refl
 command_asks m ResetElapsed bar now = refl
 command_asks m (SetTabWidth tab) bar now = refl
-command_asks m (FinishBy by) bar now = refl
+command_asks m (Finish by) bar now = refl
 command_asks m FinishUsingStyle bar now = refl
 command_asks m ForceDraw bar now = refl
 

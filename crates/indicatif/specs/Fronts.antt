@@ -7,7 +7,7 @@ use Rattle.indicatif_text.specs.declared.refusal.Drawn.{Drawn}
 use Rattle.indicatif_text.specs.declared.refusal.Drawn.TheVariants.{Yes, Limited, Hidden}
 use Rattle.indicatif_bar.specs.declared.ask.Ask.{Ask}
 use Rattle.indicatif_bar.specs.declared.ask.Ask.TheVariants.{No, Unforced, Forced}
-use Rattle.indicatif_bar.specs.Commands.{Command, Tick, TickerTick, SetTicker, Inc, Dec, SetPosition, Update, SetLength, UnsetLength, IncLength, DecLength, SetMessage, SetPrefix, SetStyle, PutPosition, PutMessage, PutPrefix, PutFinish, PutTabWidth, SetTabWidth, SetElapsed, ResetEta, ResetElapsed, Reset, FinishBy, FinishUsingStyle, ForceDraw}
+use Rattle.indicatif_bar.specs.Commands.{Command, Tick, TickerTick, SetTicker, Inc, Dec, SetPosition, Update, SetLength, UnsetLength, IncLength, DecLength, SetMessage, SetPrefix, SetStyle, WithPosition, WithMessage, WithPrefix, WithFinish, WithTabWidth, SetTabWidth, SetElapsed, ResetEta, ResetElapsed, Reset, Finish, FinishUsingStyle, ForceDraw}
 use Rattle.indicatif_bar.specs.Lone.{LoneCall, Obey, Log, Clear}
 use Rattle.indicatif_bar.specs.declared.state.commands.Change.{Change}
 
@@ -73,16 +73,16 @@ asked_by (SetPrefix text) = Unforced
 asked_by Reset = Unforced
 asked_by (SetTicker installed) = No
 asked_by (SetStyle style) = No
-asked_by (PutPosition position) = No
-asked_by (PutMessage text) = No
-asked_by (PutPrefix text) = No
-asked_by (PutFinish by) = No
-asked_by (PutTabWidth tab) = No
+asked_by (WithPosition position) = No
+asked_by (WithMessage text) = No
+asked_by (WithPrefix text) = No
+asked_by (WithFinish by) = No
+asked_by (WithTabWidth tab) = No
 asked_by (SetElapsed nanos) = No
 asked_by ResetEta = No
 asked_by ResetElapsed = No
 asked_by (SetTabWidth tab) = Forced
-asked_by (FinishBy by) = Forced
+asked_by (Finish by) = Forced
 asked_by FinishUsingStyle = Forced
 asked_by ForceDraw = Forced
 

@@ -1,6 +1,6 @@
 //! What is said of a wrapper's bar before it moves.
 ghost use Rattle.std.specs.Prelude.{◌≡◌, IfOk, IfErr, Ok, Err};
-ghost use Rattle.indicatif_bar.specs.Commands.{PutPosition, PutFinish, PutMessage, PutPrefix, SetStyle, SetElapsed};
+ghost use Rattle.indicatif_bar.specs.Commands.{WithPosition, WithFinish, WithMessage, WithPrefix, SetStyle, SetElapsed};
 ghost use Rattle.indicatif_bar.specs.Finishes.{finish_of};
 ghost use Rattle.indicatif.specs.Owned.{Built, MayBuild};
 
@@ -15,7 +15,7 @@ use indicatif_text::columns::{Clock, Drawn, Refusal};
 impl<I, K: Tracks, W: TermLike + Drop, C: Clock + Drop> ProgressBarIter<I, OwnedBar<K, W, C>> {
     /// Another position of the bar. The rate counts it with the next step: `ProgressBar::with_position` says what to do about that.
     pub fn with_position(self, position: u64) -> Self
-        ensures { Built K.means W.view self (PutPosition position) result }
+        ensures { Built K.means W.view self (WithPosition position) result }
     {
         let mut wrapped = self;
         let now = wrapped.progress.clock.now();
@@ -25,7 +25,7 @@ impl<I, K: Tracks, W: TermLike + Drop, C: Clock + Drop> ProgressBarIter<I, Owned
 
     /// What finishes the bar at the end.
     pub fn with_finish(self, finish: ProgressFinish) -> Self
-        ensures { Built K.means W.view self (PutFinish (finish_of finish)) result }
+        ensures { Built K.means W.view self (WithFinish (finish_of finish)) result }
     {
         let mut wrapped = self;
         let now = wrapped.progress.clock.now();
@@ -55,7 +55,7 @@ impl<I: Drop, K: Tracks, W: TermLike + Drop, C: Clock + Drop> ProgressBarIter<
     ///
     /// Refused: `Memory`.
     pub fn with_prefix(self, text: &str) -> Result<Self, Refusal>
-        ensures { MayBuild K.means W.view self (PutPrefix text.now) result }
+        ensures { MayBuild K.means W.view self (WithPrefix text.now) result }
     {
         let mut wrapped = self;
         let now = wrapped.progress.clock.now();
@@ -67,7 +67,7 @@ impl<I: Drop, K: Tracks, W: TermLike + Drop, C: Clock + Drop> ProgressBarIter<
     ///
     /// Refused: `Memory`.
     pub fn with_message(self, text: &str) -> Result<Self, Refusal>
-        ensures { MayBuild K.means W.view self (PutMessage text.now) result }
+        ensures { MayBuild K.means W.view self (WithMessage text.now) result }
     {
         let mut wrapped = self;
         let now = wrapped.progress.clock.now();

@@ -260,35 +260,35 @@ impl<T: TermLike + Drop, C: Clock + Drop, R: Wait + Clone + Drop, K: Tracks> Pro
     /// Finishes the bar at its length, if it has one, and forces a draw. The bar stays on the screen. Each draw that it asks for from then
     /// on is forced too, so no rate holds it back.
     pub fn finish(&self) -> Result<Drawn, Refusal>
-        ensures { CanAnswer K (Lone.Obey (Command.FinishBy Finish.AndLeave)) result }
+        ensures { CanAnswer K (Lone.Obey (Command.Finish Finish.AndLeave)) result }
     {
         self.tell(BarCommand::Finish(ProgressFinish::AndLeave))
     }
 
     /// As `finish`, with this message, which shows only where the template has `{msg}` or `{wide_msg}`.
     pub fn finish_with_message(&self, text: &str) -> Result<Drawn, Refusal>
-        ensures { CanAnswer K (Lone.Obey (Command.FinishBy (Finish.WithMessage text.now))) result }
+        ensures { CanAnswer K (Lone.Obey (Command.Finish (Finish.WithMessage text.now))) result }
     {
         self.tell_text(TextCommand::Finish, text)
     }
 
     /// Finishes the bar at its length, if it has one, and forces a draw. The bar leaves the screen: it has no more lines.
     pub fn finish_and_clear(&self) -> Result<Drawn, Refusal>
-        ensures { CanAnswer K (Lone.Obey (Command.FinishBy Finish.AndClear)) result }
+        ensures { CanAnswer K (Lone.Obey (Command.Finish Finish.AndClear)) result }
     {
         self.tell(BarCommand::Finish(ProgressFinish::AndClear))
     }
 
     /// Finishes the bar where it is, for work that is given up, and forces a draw. The bar stays on the screen.
     pub fn abandon(&self) -> Result<Drawn, Refusal>
-        ensures { CanAnswer K (Lone.Obey (Command.FinishBy Finish.Abandon)) result }
+        ensures { CanAnswer K (Lone.Obey (Command.Finish Finish.Abandon)) result }
     {
         self.tell(BarCommand::Finish(ProgressFinish::Abandon))
     }
 
     /// As `abandon`, with this message.
     pub fn abandon_with_message(&self, text: &str) -> Result<Drawn, Refusal>
-        ensures { CanAnswer K (Lone.Obey (Command.FinishBy (Finish.AbandonWithMessage text.now))) result }
+        ensures { CanAnswer K (Lone.Obey (Command.Finish (Finish.AbandonWithMessage text.now))) result }
     {
         self.tell_text(TextCommand::Abandon, text)
     }

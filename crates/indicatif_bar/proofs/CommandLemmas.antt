@@ -6,8 +6,8 @@ use Rattle.indicatif_bar.specs.declared.ask.Ask.TheVariants.{No, Unforced, Force
 use Rattle.indicatif_bar.specs.Progress.{is_finished}
 use Rattle.indicatif_bar.specs.PositionLimiters.{allow_position}
 use Rattle.indicatif_bar.specs.Trackers.{Tracking}
-use Rattle.indicatif_bar.specs.Finishes.{BarFinish, AndLeave, WithMessage, AndClear, Abandon, AbandonWithMessage}
-use Rattle.indicatif_bar.specs.Commands.{BarRecord, Command, obeyed, tick, ticker_tick, moved_to, finish, asks_draw, with_progress, some_or, Tick, SetTicker, Inc, Dec, SetPosition, Update, SetStyle, PutPosition, PutMessage, PutPrefix, PutFinish, PutTabWidth, SetTabWidth, SetElapsed, ResetEta, ResetElapsed, FinishBy, FinishUsingStyle, ForceDraw}
+use Rattle.indicatif_bar.specs.Finishes.{BarFinish, AndLeave, WithMessage as LeaveWithMessage, AndClear, Abandon, AbandonWithMessage}
+use Rattle.indicatif_bar.specs.Commands.{BarRecord, Command, obeyed, tick, ticker_tick, moved_to, finish, asks_draw, with_progress, some_or, Tick, SetTicker, Inc, Dec, SetPosition, Update, SetStyle, WithPosition, WithMessage, WithPrefix, WithFinish, WithTabWidth, SetTabWidth, SetElapsed, ResetEta, ResetElapsed, Finish, FinishUsingStyle, ForceDraw}
 use Rattle.indicatif_bar.specs.ProgressLaws.{TabsAgree, FinishedDrawsAreForced}
 
 -- ---- tabs
@@ -28,7 +28,7 @@ moved_agrees m position bar now e = either_agrees (allow_position bar.limiter no
 
 finish_agrees : {K : Type 0} (by : BarFinish) (bar : BarRecord K) (now : ℕ) → bar.style.tab ≡ bar.progress.tab → Agrees (finish by bar now)
 finish_agrees AndLeave bar now e = e
-finish_agrees (WithMessage text) bar now e = e
+finish_agrees (LeaveWithMessage text) bar now e = e
 finish_agrees AndClear bar now e = e
 finish_agrees Abandon bar now e = e
 finish_agrees (AbandonWithMessage text) bar now e = e
@@ -45,10 +45,10 @@ after_agrees m bar (Dec n) now e = moved_agrees m _ bar now e
 after_agrees m bar (SetPosition position) now e = moved_agrees m _ bar now e
 after_agrees m bar (Update position len) now e = tick_agrees m _ now e
 after_agrees m bar (SetStyle style) now e = refl
-after_agrees m bar (PutTabWidth tab) now e = refl
+after_agrees m bar (WithTabWidth tab) now e = refl
 after_agrees m bar (SetTabWidth tab) now e = refl
 after_agrees m bar (SetElapsed nanos) now e = elapsed_agrees (nat_lt now nanos) _ _ e e
-after_agrees m bar (FinishBy by) now e = finish_agrees by bar now e
+after_agrees m bar (Finish by) now e = finish_agrees by bar now e
 after_agrees m bar FinishUsingStyle now e = finish_agrees bar.on_finish bar now e
 after_agrees m bar _ now e = e
 
@@ -96,16 +96,16 @@ finished_draws_are_forced m bar (SetPosition position) now = moved_is_forced m p
 finished_draws_are_forced m bar (Update position len) now =
     tick_is_forced m (with_progress bar (record bar.progress { position = unwrap_or position bar.progress.position; len = some_or len bar.progress.len })) now
 finished_draws_are_forced m bar (SetStyle style) now = none_is_forced (obeyed m (SetStyle style) bar now).0
-finished_draws_are_forced m bar (PutPosition position) now = none_is_forced (obeyed m (PutPosition position) bar now).0
-finished_draws_are_forced m bar (PutMessage text) now = none_is_forced (obeyed m (PutMessage text) bar now).0
-finished_draws_are_forced m bar (PutPrefix text) now = none_is_forced (obeyed m (PutPrefix text) bar now).0
-finished_draws_are_forced m bar (PutFinish by) now = none_is_forced (obeyed m (PutFinish by) bar now).0
-finished_draws_are_forced m bar (PutTabWidth tab) now = none_is_forced (obeyed m (PutTabWidth tab) bar now).0
+finished_draws_are_forced m bar (WithPosition position) now = none_is_forced (obeyed m (WithPosition position) bar now).0
+finished_draws_are_forced m bar (WithMessage text) now = none_is_forced (obeyed m (WithMessage text) bar now).0
+finished_draws_are_forced m bar (WithPrefix text) now = none_is_forced (obeyed m (WithPrefix text) bar now).0
+finished_draws_are_forced m bar (WithFinish by) now = none_is_forced (obeyed m (WithFinish by) bar now).0
+finished_draws_are_forced m bar (WithTabWidth tab) now = none_is_forced (obeyed m (WithTabWidth tab) bar now).0
 finished_draws_are_forced m bar (SetTabWidth tab) now = force_is_forced (obeyed m (SetTabWidth tab) bar now).0
 finished_draws_are_forced m bar (SetElapsed nanos) now = none_is_forced (obeyed m (SetElapsed nanos) bar now).0
 finished_draws_are_forced m bar ResetEta now = none_is_forced (obeyed m ResetEta bar now).0
 finished_draws_are_forced m bar ResetElapsed now = none_is_forced (obeyed m ResetElapsed bar now).0
-finished_draws_are_forced m bar (FinishBy by) now = force_is_forced (obeyed m (FinishBy by) bar now).0
+finished_draws_are_forced m bar (Finish by) now = force_is_forced (obeyed m (Finish by) bar now).0
 finished_draws_are_forced m bar FinishUsingStyle now = force_is_forced (obeyed m FinishUsingStyle bar now).0
 finished_draws_are_forced m bar ForceDraw now = force_is_forced (obeyed m ForceDraw bar now).0
 finished_draws_are_forced m bar command now = asked_is_forced (obeyed m command bar now).0

@@ -25,8 +25,8 @@ use Rattle.indicatif_bar.specs.Measures.{greatest_u64}
 use Rattle.indicatif_bar.specs.Trackers.{Tracking, TrackerStep, Ticked, WasReset, tracker_after, telling, changed_trackers}
 use Rattle.indicatif_bar.specs.Styles.{BarStyle, lines}
 use Rattle.indicatif_bar.specs.Bars.{bar_kind, lines_of_bar}
-use Rattle.indicatif_bar.specs.Finishes.{BarFinish, AndLeave, WithMessage, AndClear, Abandon, AbandonWithMessage}
-use Rattle.indicatif_bar.specs.Commands.{BarRecord, Command, Tick, Inc, Dec, SetPosition, TickerTick, Update, SetLength, UnsetLength, IncLength, DecLength, SetMessage, SetPrefix, SetStyle, PutMessage, PutPrefix, PutFinish, SetElapsed, Reset, FinishBy, FinishUsingStyle, obeyed, tick, ticker_tick, update, with_length, reset, moved_to, finish, with_progress, some_or}
+use Rattle.indicatif_bar.specs.Finishes.{BarFinish, AndLeave, WithMessage as LeaveWithMessage, AndClear, Abandon, AbandonWithMessage}
+use Rattle.indicatif_bar.specs.Commands.{BarRecord, Command, Tick, Inc, Dec, SetPosition, TickerTick, Update, SetLength, UnsetLength, IncLength, DecLength, SetMessage, SetPrefix, SetStyle, WithMessage, WithPrefix, WithFinish, SetElapsed, Reset, Finish, FinishUsingStyle, obeyed, tick, ticker_tick, update, with_length, reset, moved_to, finish, with_progress, some_or}
 use Rattle.indicatif_bar.specs.StyleLaws.{IsPlainText}
 use Rattle.indicatif_bar.specs.LineLaws.{IsPlainLiteral, HasPlainTexts}
 use Rattle.indicatif_bar.specs.PlainLaws.{IsPlainWithTabs, IsPlainTracker, ArePlainTrackers, HasPlainLiteral, IsPlainFinish, IsPlainBar, IsPlainCommand, IsPlainLoneCall, LoneRunsArePlain, TellersArePlain}
@@ -222,7 +222,7 @@ module _ {K : Type 0} (m : Tracking K) where
 
   pub finished_plain : (by : BarFinish) (bar : BarRecord K) (now : ℕ) → IsPlainFinish by → IsPlainBar m bar → IsPlainBar m (finish by bar now).0
   finished_plain AndLeave bar now f h = same_bar h refl refl refl refl refl refl refl
-  finished_plain (WithMessage text) bar now f h = record { style = h.style; message = f; prefix = h.prefix; on_finish = h.on_finish }
+  finished_plain (LeaveWithMessage text) bar now f h = record { style = h.style; message = f; prefix = h.prefix; on_finish = h.on_finish }
   finished_plain AndClear bar now f h = same_bar h refl refl refl refl refl refl refl
   finished_plain Abandon bar now f h = same_bar h refl refl refl refl refl refl refl
   finished_plain (AbandonWithMessage text) bar now f h = record { style = h.style; message = f; prefix = h.prefix; on_finish = h.on_finish }
@@ -249,15 +249,15 @@ module _ {K : Type 0} (m : Tracking K) where
     prefix = h.prefix;
     on_finish = h.on_finish;
   }
-  obeyed_plain (PutMessage text) bar now c h = told_message text bar c h
-  obeyed_plain (PutPrefix text) bar now c h = told_prefix text bar c h
-  obeyed_plain (PutFinish by) bar now c h = record { style = h.style; message = h.message; prefix = h.prefix; on_finish = c }
+  obeyed_plain (WithMessage text) bar now c h = told_message text bar c h
+  obeyed_plain (WithPrefix text) bar now c h = told_prefix text bar c h
+  obeyed_plain (WithFinish by) bar now c h = record { style = h.style; message = h.message; prefix = h.prefix; on_finish = c }
   obeyed_plain (SetElapsed nanos) bar now c h =
       let next = with_progress bar (record bar.progress { start = now - nanos }) in
       let same : IsPlainBar m next = same_bar h refl refl refl refl refl refl refl in
       cond_both (nat_lt now nanos) bar next (IsPlainBar m) (λ _. h) (λ _. same)
   obeyed_plain Reset bar now c h = reset_plain bar now h
-  obeyed_plain (FinishBy by) bar now c h = finished_plain by bar now c h
+  obeyed_plain (Finish by) bar now c h = finished_plain by bar now c h
   obeyed_plain FinishUsingStyle bar now c h = finished_plain bar.on_finish bar now h.on_finish h
   obeyed_plain _ bar now c h = same_bar h refl refl refl refl refl refl refl
 

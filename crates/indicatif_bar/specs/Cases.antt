@@ -11,7 +11,7 @@ use Rattle.indicatif_text.specs.Columns.{Cell, rows_of}
 use Rattle.indicatif_term.specs.Lists.{opening_lists, forgotten_lists, all_rows}
 use Rattle.indicatif_bar.specs.Bars.{bar_kind, lines_of_bar}
 use Rattle.indicatif_bar.specs.Trackers.{Tracking, writes_nothing}
-use Rattle.indicatif_bar.specs.Commands.{BarRecord, Command, new_bar, obeyed, Tick, SetMessage, PutMessage, SetElapsed, ForceDraw}
+use Rattle.indicatif_bar.specs.Commands.{BarRecord, Command, new_bar, obeyed, Tick, SetMessage, WithMessage, SetElapsed, ForceDraw}
 use Rattle.indicatif_bar.specs.LoneBars.{lone_bar}
 use Rattle.indicatif_term.specs.Calls.{TermView, UP, move_bytes, anew_bytes, clear_bytes, line_bytes}
 use Rattle.indicatif_term.specs.Limiters.{draw_limiter}
@@ -43,7 +43,7 @@ message_style = record { parts = KeyText (codes "msg") plain_layout ∷ []; clus
 
 -- a lone bar without trackers, with this message, as it was made at the moment 0
 abbrev pub bar_saying : List ℕ → BarRecord (Unit {0})
-bar_saying message = (obeyed untracked (PutMessage message) (new_bar message_style None 0) 0).0
+bar_saying message = (obeyed untracked (WithMessage message) (new_bar message_style None 0) 0).0
 
 -- an empty message has no line; else its pieces between newlines are its lines
 abbrev pub Lines : Type 0

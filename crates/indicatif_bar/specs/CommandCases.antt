@@ -9,7 +9,7 @@ use Rattle.indicatif_bar.specs.Progress.{eta, per_sec, elapsed, duration, shown_
 use Rattle.indicatif_bar.specs.Finishes.{AndLeave, Abandon, WithMessage}
 use Rattle.indicatif_bar.specs.Trackers.{writes_nothing}
 use Rattle.indicatif_bar.specs.Styles.{BarStyle}
-use Rattle.indicatif_bar.specs.Commands.{BarRecord, Command, Inc, Dec, SetPosition, PutPosition, Tick, TickerTick, SetTicker, SetMessage, SetTabWidth, SetLength, IncLength, DecLength, SetElapsed, ResetEta, Reset, FinishBy, FinishUsingStyle, PutFinish, new_bar, obeyed, is_beyond_clock}
+use Rattle.indicatif_bar.specs.Commands.{BarRecord, Command, Inc, Dec, SetPosition, WithPosition, Tick, TickerTick, SetTicker, SetMessage, SetTabWidth, SetLength, IncLength, DecLength, SetElapsed, ResetEta, Reset, Finish, FinishUsingStyle, WithFinish, new_bar, obeyed, is_beyond_clock}
 
 abbrev pub ms : ℕ
 ms = 1000000
@@ -76,14 +76,14 @@ module _ (style : BarStyle ℕ) where
 
   -- a finished bar's draws are forced, and an installed ticker keeps a bar from ticking
   abbrev pub Asks : Type 0
-  Asks = (asks_of (plain_record None) ((Tick, 0) ∷ (FinishBy AndLeave, 0) ∷ (Tick, 0) ∷ []) ≡ Unforced ∷ Forced ∷ Forced ∷ [])
+  Asks = (asks_of (plain_record None) ((Tick, 0) ∷ (Finish AndLeave, 0) ∷ (Tick, 0) ∷ []) ≡ Unforced ∷ Forced ∷ Forced ∷ [])
       × (asks_of (plain_record None) ((SetTicker true, 0) ∷ (Inc 1, 0) ∷ (TickerTick, 0) ∷ []) ≡ No ∷ No ∷ Unforced ∷ [])
       × ((after_all (plain_record None) ((SetTicker true, 0) ∷ (Inc 1, 0) ∷ [])).progress.position ≡ 1)
 
   -- the rate since a reset of it, of steps that went back, and the time that is left then
   abbrev pub ResetRates : Type 0
   ResetRates =
-      let slow = after_all (plain_record None) ((PutPosition 2, 0) ∷ (Tick, one_second) ∷ (ResetEta, one_second) ∷ (SetPosition 3, 2 * one_second) ∷ []) in
+      let slow = after_all (plain_record None) ((WithPosition 2, 0) ∷ (Tick, one_second) ∷ (ResetEta, one_second) ∷ (SetPosition 3, 2 * one_second) ∷ []) in
       let back = after_all (plain_record (Some 9)) ((SetPosition 5, one_second) ∷ (SetPosition 2, 2 * one_second) ∷ []) in
       let rate : Rate = record { steps = 1; nanos = 1000000000 } in
       (per_sec slow.progress (2 * one_second) ≡ rate) × ((per_sec back.progress (3 * one_second)).steps ≡ 0) × (eta back.progress (3 * one_second) ≡ 0)
@@ -110,11 +110,11 @@ module _ (style : BarStyle ℕ) where
   -- each finish: where the bar stands then, and what it took
   abbrev pub Finishes : Type 0
   Finishes =
-      let half = after_all (plain_record (Some 10)) ((PutPosition 5, 0) ∷ []) in
-      let left = after_all half ((FinishBy AndLeave, 3) ∷ []) in
-      let told = after_all half ((FinishBy (WithMessage (codes "done")), 3) ∷ []) in
+      let half = after_all (plain_record (Some 10)) ((WithPosition 5, 0) ∷ []) in
+      let left = after_all half ((Finish AndLeave, 3) ∷ []) in
+      let told = after_all half ((Finish (WithMessage (codes "done")), 3) ∷ []) in
       let gone = after_all half ((FinishUsingStyle, 3) ∷ []) in
-      let left_off = after_all half ((PutFinish Abandon, 0) ∷ (FinishUsingStyle, 3) ∷ []) in
+      let left_off = after_all half ((WithFinish Abandon, 0) ∷ (FinishUsingStyle, 3) ∷ []) in
       (left.progress.position ≡ 10) × (duration left.progress 9 ≡ 3) × (eta left.progress 9 ≡ 0)
       × (told.progress.message ≡ codes "done") × (gone.progress.position ≡ 10) × (left_off.progress.position ≡ 5)
 

@@ -37,17 +37,17 @@ pub data Command (K : Type 0) : Type 0 where
   SetMessage : (text : List ℕ) → Command K
   SetPrefix : (text : List ℕ) → Command K
   SetStyle : (style : BarStyle K) → Command K
-  PutPosition : (position : ℕ) → Command K
-  PutMessage : (text : List ℕ) → Command K
-  PutPrefix : (text : List ℕ) → Command K
-  PutFinish : (finish : BarFinish) → Command K
-  PutTabWidth : (tab : ℕ) → Command K
+  WithPosition : (position : ℕ) → Command K
+  WithMessage : (text : List ℕ) → Command K
+  WithPrefix : (text : List ℕ) → Command K
+  WithFinish : (finish : BarFinish) → Command K
+  WithTabWidth : (tab : ℕ) → Command K
   SetTabWidth : (tab : ℕ) → Command K
   SetElapsed : (nanos : ℕ) → Command K
   ResetEta : Command K
   ResetElapsed : Command K
   Reset : Command K
-  FinishBy : (finish : BarFinish) → Command K
+  Finish : (finish : BarFinish) → Command K
   FinishUsingStyle : Command K
   ForceDraw : Command K
 
@@ -143,17 +143,17 @@ module _ {K : Type 0} (m : Tracking K) where
   obeyed (SetMessage text) bar now = update (with_progress bar (record bar.progress { message = text })) now
   obeyed (SetPrefix text) bar now = update (with_progress bar (record bar.progress { prefix = text })) now
   obeyed (SetStyle style) bar now = (record bar { style = record style { tab = bar.progress.tab } }, No)
-  obeyed (PutPosition position) bar now = (with_progress bar (record bar.progress { position = position }), No)
-  obeyed (PutMessage text) bar now = (with_progress bar (record bar.progress { message = text }), No)
-  obeyed (PutPrefix text) bar now = (with_progress bar (record bar.progress { prefix = text }), No)
-  obeyed (PutFinish by) bar now = (record bar { on_finish = by }, No)
-  obeyed (PutTabWidth tab) bar now = (with_tab bar tab, No)
+  obeyed (WithPosition position) bar now = (with_progress bar (record bar.progress { position = position }), No)
+  obeyed (WithMessage text) bar now = (with_progress bar (record bar.progress { message = text }), No)
+  obeyed (WithPrefix text) bar now = (with_progress bar (record bar.progress { prefix = text }), No)
+  obeyed (WithFinish by) bar now = (record bar { on_finish = by }, No)
+  obeyed (WithTabWidth tab) bar now = (with_tab bar tab, No)
   obeyed (SetTabWidth tab) bar now = (with_tab bar tab, Forced)
   obeyed (SetElapsed nanos) bar now = (if nat_lt now nanos then bar else with_progress bar (record bar.progress { start = now - nanos }), No)
   obeyed ResetEta bar now = (with_progress bar (rate_reset bar.progress now), No)
   obeyed ResetElapsed bar now = (with_progress bar (record (rate_reset bar.progress now) { start = now }), No)
   obeyed Reset bar now = asks_draw (reset bar now)
-  obeyed (FinishBy by) bar now = finish by bar now
+  obeyed (Finish by) bar now = finish by bar now
   obeyed FinishUsingStyle bar now = finish bar.on_finish bar now
   obeyed ForceDraw bar now = (bar, Forced)
 
@@ -176,12 +176,12 @@ width_takes_memory tab bar = has_tab bar.progress.message || (has_tab bar.progre
 abbrev pub takes_memory : {K : Type 0} → Command K → BarRecord K → Bool
 takes_memory (SetMessage text) bar = is_some_text text
 takes_memory (SetPrefix text) bar = is_some_text text
-takes_memory (PutMessage text) bar = is_some_text text
-takes_memory (PutPrefix text) bar = is_some_text text
+takes_memory (WithMessage text) bar = is_some_text text
+takes_memory (WithPrefix text) bar = is_some_text text
 takes_memory (SetStyle style) bar = not (bar.progress.tab == style.tab)
-takes_memory (PutTabWidth tab) bar = width_takes_memory tab bar
+takes_memory (WithTabWidth tab) bar = width_takes_memory tab bar
 takes_memory (SetTabWidth tab) bar = width_takes_memory tab bar
-takes_memory (FinishBy by) bar = finish_takes_memory by
+takes_memory (Finish by) bar = finish_takes_memory by
 takes_memory FinishUsingStyle bar = finish_takes_memory bar.on_finish
 takes_memory _ bar = false
 
@@ -189,11 +189,11 @@ takes_memory _ bar = false
 abbrev pub copy_takes_memory : {K : Type 0} → Command K → Bool
 copy_takes_memory (SetMessage text) = is_some_text text
 copy_takes_memory (SetPrefix text) = is_some_text text
-copy_takes_memory (PutMessage text) = is_some_text text
-copy_takes_memory (PutPrefix text) = is_some_text text
+copy_takes_memory (WithMessage text) = is_some_text text
+copy_takes_memory (WithPrefix text) = is_some_text text
 copy_takes_memory (SetStyle style) = true
-copy_takes_memory (PutFinish by) = finish_takes_memory by
-copy_takes_memory (FinishBy by) = finish_takes_memory by
+copy_takes_memory (WithFinish by) = finish_takes_memory by
+copy_takes_memory (Finish by) = finish_takes_memory by
 copy_takes_memory _ = false
 
 -- ---- commands as values
@@ -214,16 +214,16 @@ command_of (told.DecLength n) = DecLength n
 command_of (told.SetMessage text) = SetMessage (string_bytes text)
 command_of (told.SetPrefix text) = SetPrefix (string_bytes text)
 command_of (told.SetStyle style) = SetStyle style
-command_of (told.WithPosition position) = PutPosition position
-command_of (told.WithMessage text) = PutMessage (string_bytes text)
-command_of (told.WithPrefix text) = PutPrefix (string_bytes text)
-command_of (told.WithFinish finish) = PutFinish (finish_of finish)
-command_of (told.WithTabWidth tab) = PutTabWidth tab
+command_of (told.WithPosition position) = WithPosition position
+command_of (told.WithMessage text) = WithMessage (string_bytes text)
+command_of (told.WithPrefix text) = WithPrefix (string_bytes text)
+command_of (told.WithFinish finish) = WithFinish (finish_of finish)
+command_of (told.WithTabWidth tab) = WithTabWidth tab
 command_of (told.SetTabWidth tab) = SetTabWidth tab
 command_of (told.SetElapsed nanos) = SetElapsed nanos
 command_of told.ResetEta = ResetEta
 command_of told.ResetElapsed = ResetElapsed
 command_of told.Reset = Reset
-command_of (told.Finish by) = FinishBy (finish_of by)
+command_of (told.Finish by) = Finish (finish_of by)
 command_of told.FinishUsingStyle = FinishUsingStyle
 command_of told.ForceDraw = ForceDraw

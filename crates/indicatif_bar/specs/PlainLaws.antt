@@ -10,8 +10,8 @@ use Rattle.indicatif_bar.specs.Progress.{Progress}
 use Rattle.indicatif_bar.specs.Trackers.{Tracking, TrackerStep, tracker_after, telling}
 use Rattle.indicatif_bar.specs.Styles.{BarStyle}
 use Rattle.indicatif_bar.specs.StyleLaws.{IsPlainText, AreTaken}
-use Rattle.indicatif_bar.specs.Finishes.{BarFinish, WithMessage, AbandonWithMessage}
-use Rattle.indicatif_bar.specs.Commands.{BarRecord, Command, SetMessage, SetPrefix, SetStyle, PutMessage, PutPrefix, PutFinish, FinishBy}
+use Rattle.indicatif_bar.specs.Finishes.{BarFinish, WithMessage as LeaveWithMessage, AbandonWithMessage}
+use Rattle.indicatif_bar.specs.Commands.{BarRecord, Command, SetMessage, SetPrefix, SetStyle, WithMessage, WithPrefix, WithFinish, Finish}
 use Rattle.indicatif_bar.specs.Runs.{Runs, AllPlain}
 use Rattle.indicatif_bar.specs.Lone.{LoneState, LoneCall, Obey, Log, Clear}
 use Rattle.indicatif_bar.specs.LoneBars.{lone_bar}
@@ -46,7 +46,7 @@ pub record IsPlainStyle {K : Type 0} (m : Tracking K) (style : BarStyle K) : Typ
 
 -- the message of a finish
 abbrev pub IsPlainFinish : BarFinish → Type 0
-IsPlainFinish (WithMessage text) = IsPlainWithTabs text
+IsPlainFinish (LeaveWithMessage text) = IsPlainWithTabs text
 IsPlainFinish (AbandonWithMessage text) = IsPlainWithTabs text
 IsPlainFinish _ = Unit {0}
 
@@ -63,10 +63,10 @@ module _ {K : Type 0} (m : Tracking K) where
   IsPlainCommand (SetMessage text) = IsPlainWithTabs text
   IsPlainCommand (SetPrefix text) = IsPlainWithTabs text
   IsPlainCommand (SetStyle style) = IsPlainStyle m style
-  IsPlainCommand (PutMessage text) = IsPlainWithTabs text
-  IsPlainCommand (PutPrefix text) = IsPlainWithTabs text
-  IsPlainCommand (PutFinish by) = IsPlainFinish by
-  IsPlainCommand (FinishBy by) = IsPlainFinish by
+  IsPlainCommand (WithMessage text) = IsPlainWithTabs text
+  IsPlainCommand (WithPrefix text) = IsPlainWithTabs text
+  IsPlainCommand (WithFinish by) = IsPlainFinish by
+  IsPlainCommand (Finish by) = IsPlainFinish by
   IsPlainCommand _ = Unit {0}
 
   -- those of a call of a lone bar

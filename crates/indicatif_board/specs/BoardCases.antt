@@ -9,7 +9,7 @@ use Rattle.indicatif_bar.specs.Machines.{Target, Deed, outcomes, Leads}
 use Rattle.indicatif_bar.specs.Says.{TakesMemory}
 use Rattle.indicatif_bar.specs.Cases.{terminal_of_size, nowhere, rows_of_lines, bar_saying, untracked as no_trackers}
 use Rattle.indicatif_bar.specs.Finishes.{AndLeave}
-use Rattle.indicatif_bar.specs.Commands.{BarRecord, Command, Tick, SetElapsed, PutFinish}
+use Rattle.indicatif_bar.specs.Commands.{BarRecord, Command, Tick, SetElapsed, WithFinish}
 use Rattle.indicatif_bar.specs.declared.ask.Ask.{Ask}
 use Rattle.indicatif_bar.specs.declared.ask.Ask.TheVariants.{No, Unforced, Forced}
 use Rattle.indicatif_board.specs.BoardBars.{board_bars}
@@ -330,7 +330,7 @@ LateOnBoard =
 -- of two bars that lose their owners, the one that is to be left leaves its row, and the other's row is gone
 abbrev pub OneIsLeft : Type 0
 OneIsLeft =
-    let calls = add_bar (codes "a") ∷ add_bar (codes "b") ∷ Tell (id 0) (PutFinish AndLeave) ∷ Tell (id 0) Tick ∷ Tell (id 1) Tick ∷ Drop (id 0) ∷ Drop (id 1) ∷ [] in
+    let calls = add_bar (codes "a") ∷ add_bar (codes "b") ∷ Tell (id 0) (WithFinish AndLeave) ∷ Tell (id 0) Tick ∷ Tell (id 1) Tick ∷ Drop (id 0) ∷ Drop (id 1) ∷ [] in
     let both = ran_bars calls in
     (both.0 ≡ Given (id 0) ∷ Given (id 1) ∷ Drew Limited ∷ Drew Yes ∷ Drew Yes ∷ Drew Yes ∷ Drew Yes ∷ [])
     × (order_of both.1.members ≡ [])

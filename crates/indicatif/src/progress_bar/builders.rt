@@ -36,7 +36,7 @@ impl<T: TermLike + Drop, C: Clock + Drop, R: Wait + Clone + Drop, K: Tracks> Pro
     ///
     /// Refused: `Memory`; this owner is given up.
     pub fn with_tab_width(self, tab: usize) -> Result<Self, Refusal>
-        ensures { IfErr result (λ e. CanAnswer K (Lone.Obey (Command.PutTabWidth tab)) (Err e)) }
+        ensures { IfErr result (λ e. CanAnswer K (Lone.Obey (Command.WithTabWidth tab)) (Err e)) }
     {
         match self.tell(BarCommand::WithTabWidth(tab)) {
             Ok(_) => Ok(self),
@@ -48,9 +48,9 @@ impl<T: TermLike + Drop, C: Clock + Drop, R: Wait + Clone + Drop, K: Tracks> Pro
     ///
     /// Refused: `Memory`; this owner is given up.
     pub fn with_prefix(self, text: &str) -> Result<Self, Refusal>
-        ensures { IfErr result (λ e. CanAnswer K (Lone.Obey (Command.PutPrefix text.now)) (Err e)) }
+        ensures { IfErr result (λ e. CanAnswer K (Lone.Obey (Command.WithPrefix text.now)) (Err e)) }
     {
-        match self.tell_text(TextCommand::PutPrefix, text) {
+        match self.tell_text(TextCommand::WithPrefix, text) {
             Ok(_) => Ok(self),
             Err(refusal) => Err(refusal),
         }
@@ -60,9 +60,9 @@ impl<T: TermLike + Drop, C: Clock + Drop, R: Wait + Clone + Drop, K: Tracks> Pro
     ///
     /// Refused: `Memory`; this owner is given up.
     pub fn with_message(self, text: &str) -> Result<Self, Refusal>
-        ensures { IfErr result (λ e. CanAnswer K (Lone.Obey (Command.PutMessage text.now)) (Err e)) }
+        ensures { IfErr result (λ e. CanAnswer K (Lone.Obey (Command.WithMessage text.now)) (Err e)) }
     {
-        match self.tell_text(TextCommand::PutMessage, text) {
+        match self.tell_text(TextCommand::WithMessage, text) {
             Ok(_) => Ok(self),
             Err(refusal) => Err(refusal),
         }
@@ -81,7 +81,7 @@ impl<T: TermLike + Drop, C: Clock + Drop, R: Wait + Clone + Drop, K: Tracks> Pro
     ///
     /// Refused: on a board alone, as each command there; this owner is given up.
     pub fn with_position(self, position: u64) -> Result<Self, Refusal>
-        ensures { IfErr result (λ e. CanAnswer K (Lone.Obey (Command.PutPosition position)) (Err e)) }
+        ensures { IfErr result (λ e. CanAnswer K (Lone.Obey (Command.WithPosition position)) (Err e)) }
     {
         match self.tell(BarCommand::WithPosition(position)) {
             Ok(_) => Ok(self),
@@ -107,7 +107,7 @@ impl<T: TermLike + Drop, C: Clock + Drop, R: Wait + Clone + Drop, K: Tracks> Pro
     ///
     /// Refused: on a board alone, as each command there; this owner is given up.
     pub fn with_finish(self, finish: ProgressFinish) -> Result<Self, Refusal>
-        ensures { IfErr result (λ e. CanAnswer K (Lone.Obey (Command.PutFinish (finish_of finish))) (Err e)) }
+        ensures { IfErr result (λ e. CanAnswer K (Lone.Obey (Command.WithFinish (finish_of finish))) (Err e)) }
     {
         match self.tell(BarCommand::WithFinish(finish)) {
             Ok(_) => Ok(self),

@@ -23,9 +23,9 @@ pub enum TextCommand {
     /// Another prefix, and a draw.
     Prefix,
     /// Another message, and no draw.
-    PutMessage,
+    WithMessage,
     /// Another prefix, and no draw.
-    PutPrefix,
+    WithPrefix,
     /// It is finished at its length, with this message.
     Finish,
     /// It is finished where it stands, with this message.
@@ -41,8 +41,8 @@ impl TextCommand {
             TextCommand::Log => Call::BarLog(id, text),
             TextCommand::Message => Call::Bar(id, BarCommand::SetMessage(text)),
             TextCommand::Prefix => Call::Bar(id, BarCommand::SetPrefix(text)),
-            TextCommand::PutMessage => Call::Bar(id, BarCommand::WithMessage(text)),
-            TextCommand::PutPrefix => Call::Bar(id, BarCommand::WithPrefix(text)),
+            TextCommand::WithMessage => Call::Bar(id, BarCommand::WithMessage(text)),
+            TextCommand::WithPrefix => Call::Bar(id, BarCommand::WithPrefix(text)),
             TextCommand::Finish => {
                 Call::Bar(id, BarCommand::Finish(ProgressFinish::WithMessage(text)))
             }
@@ -69,8 +69,8 @@ impl TextCommand {
             TextCommand::Log => bar.println(text, now),
             TextCommand::Message => bar.set_message(text, now),
             TextCommand::Prefix => bar.set_prefix(text, now),
-            TextCommand::PutMessage => bar.with_message(text, now),
-            TextCommand::PutPrefix => bar.with_prefix(text, now),
+            TextCommand::WithMessage => bar.with_message(text, now),
+            TextCommand::WithPrefix => bar.with_prefix(text, now),
             TextCommand::Finish => bar.finish_with_message(text, now),
             TextCommand::Abandon => bar.abandon_with_message(text, now),
         }

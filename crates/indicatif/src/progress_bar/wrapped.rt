@@ -1,6 +1,6 @@
 //! Wrappers that move a shared bar, and what is said of their bar before it moves.
 ghost use Rattle.std.specs.Prelude.{◌≡◌, IfOk, IfErr, Err};
-ghost use Rattle.indicatif_bar.specs.Commands.{PutPosition, PutFinish, PutMessage, PutPrefix, SetStyle, SetElapsed};
+ghost use Rattle.indicatif_bar.specs.Commands.{WithPosition, WithFinish, WithMessage, WithPrefix, SetStyle, SetElapsed};
 ghost use Rattle.indicatif_bar.specs.Finishes.{finish_of};
 ghost use Rattle.indicatif_bar.specs.Lone as Lone;
 ghost use Rattle.indicatif.specs.Fronts.{CanAnswer};
@@ -134,7 +134,7 @@ impl<
     /// Refused: on a board alone, as each command there.
     pub fn with_position(self, position: u64) -> Result<Self, Refusal>
         ensures itself { IfOk result (λ wrapped. wrapped ≡ self) }
-        ensures refused { IfErr result (λ e. CanAnswer K (Lone.Obey (PutPosition position)) (Err e)) }
+        ensures refused { IfErr result (λ e. CanAnswer K (Lone.Obey (WithPosition position)) (Err e)) }
     {
         match self.progress.tell(BarCommand::WithPosition(position)) {
             Ok(_) => Ok(self),
@@ -147,7 +147,7 @@ impl<
     /// Refused: on a board alone, as each command there.
     pub fn with_finish(self, finish: ProgressFinish) -> Result<Self, Refusal>
         ensures itself { IfOk result (λ wrapped. wrapped ≡ self) }
-        ensures refused { IfErr result (λ e. CanAnswer K (Lone.Obey (PutFinish (finish_of finish))) (Err e)) }
+        ensures refused { IfErr result (λ e. CanAnswer K (Lone.Obey (WithFinish (finish_of finish))) (Err e)) }
     {
         match self.progress.tell(BarCommand::WithFinish(finish)) {
             Ok(_) => Ok(self),
@@ -173,9 +173,9 @@ impl<
     /// Refused: `Memory`; on a board as each command there.
     pub fn with_prefix(self, text: &str) -> Result<Self, Refusal>
         ensures itself { IfOk result (λ wrapped. wrapped ≡ self) }
-        ensures refused { IfErr result (λ e. CanAnswer K (Lone.Obey (PutPrefix text.now)) (Err e)) }
+        ensures refused { IfErr result (λ e. CanAnswer K (Lone.Obey (WithPrefix text.now)) (Err e)) }
     {
-        match self.progress.tell_text(TextCommand::PutPrefix, text) {
+        match self.progress.tell_text(TextCommand::WithPrefix, text) {
             Ok(_) => Ok(self),
             Err(refusal) => Err(refusal),
         }
@@ -186,9 +186,9 @@ impl<
     /// Refused: `Memory`; on a board as each command there.
     pub fn with_message(self, text: &str) -> Result<Self, Refusal>
         ensures itself { IfOk result (λ wrapped. wrapped ≡ self) }
-        ensures refused { IfErr result (λ e. CanAnswer K (Lone.Obey (PutMessage text.now)) (Err e)) }
+        ensures refused { IfErr result (λ e. CanAnswer K (Lone.Obey (WithMessage text.now)) (Err e)) }
     {
-        match self.progress.tell_text(TextCommand::PutMessage, text) {
+        match self.progress.tell_text(TextCommand::WithMessage, text) {
             Ok(_) => Ok(self),
             Err(refusal) => Err(refusal),
         }

@@ -3,10 +3,10 @@ ghost use Rattle.std.specs.Prelude.{◌≡◌, ◌<◌, Ok, Err, IsTrue, IsFalse
 ghost use Rattle.std.specs.Fn.{FnOnceReturnsAt};
 ghost use Rattle.indicatif_bar.specs.declared.state.commands.Change.{Change as Changed};
 ghost use Rattle.indicatif_bar.specs.Runs.{wrote};
-ghost use Rattle.indicatif_bar.specs.Finishes.{AndLeave, WithMessage, AndClear, Abandon, AbandonWithMessage, finish_of};
+ghost use Rattle.indicatif_bar.specs.Finishes.{AndLeave, WithMessage as LeaveWithMessage, AndClear, Abandon, AbandonWithMessage, finish_of};
 ghost use Rattle.indicatif_bar.specs.Commands.{Tick, TickerTick, SetTicker, Inc, Dec, SetPosition, Update, SetLength, UnsetLength, IncLength, DecLength, SetMessage, SetPrefix, SetStyle};
-ghost use Rattle.indicatif_bar.specs.Commands.{PutPosition, PutMessage, PutPrefix, PutFinish, PutTabWidth, SetTabWidth, SetElapsed, ResetEta};
-ghost use Rattle.indicatif_bar.specs.Commands.{ResetElapsed, Reset, FinishBy, FinishUsingStyle, ForceDraw, takes_memory};
+ghost use Rattle.indicatif_bar.specs.Commands.{WithPosition, WithMessage, WithPrefix, WithFinish, WithTabWidth, SetTabWidth, SetElapsed, ResetEta};
+ghost use Rattle.indicatif_bar.specs.Commands.{ResetElapsed, Reset, Finish, FinishUsingStyle, ForceDraw, takes_memory};
 ghost use Rattle.indicatif_bar.specs.Lone.{Log, Clear};
 ghost use Rattle.indicatif_bar.specs.LoneBars.{LoneIsNowhere, record_of, lone_moves, lone_terminal, LoneLeadsBy, Obeys, ObeysOrNot};
 
@@ -149,7 +149,7 @@ impl<K: Tracks, T: TermLike + Drop> LoneBar<K, T> {
 
     /// The bar is finished at its length, where it has one, and stays on the screen. A draw by force.
     pub fn finish(&mut self, now: Moment) -> Result<Drawn, Refusal>
-        ensures { Obeys K.means T.view self.old self.new (FinishBy AndLeave) now result }
+        ensures { Obeys K.means T.view self.old self.new (Finish AndLeave) now result }
     {
         let ask = self.shown.bar.finish(now);
         self.obey(ask, now)
@@ -157,7 +157,7 @@ impl<K: Tracks, T: TermLike + Drop> LoneBar<K, T> {
 
     /// The bar is finished at its length, where it has one, and goes from the screen: it has no lines any more. A draw by force.
     pub fn finish_and_clear(&mut self, now: Moment) -> Result<Drawn, Refusal>
-        ensures { Obeys K.means T.view self.old self.new (FinishBy AndClear) now result }
+        ensures { Obeys K.means T.view self.old self.new (Finish AndClear) now result }
     {
         let ask = self.shown.bar.finish_and_clear(now);
         self.obey(ask, now)
@@ -165,7 +165,7 @@ impl<K: Tracks, T: TermLike + Drop> LoneBar<K, T> {
 
     /// The bar is finished where it stands, for work that is given up, and stays on the screen. A draw by force.
     pub fn abandon(&mut self, now: Moment) -> Result<Drawn, Refusal>
-        ensures { Obeys K.means T.view self.old self.new (FinishBy Abandon) now result }
+        ensures { Obeys K.means T.view self.old self.new (Finish Abandon) now result }
     {
         let ask = self.shown.bar.abandon(now);
         self.obey(ask, now)
@@ -173,7 +173,7 @@ impl<K: Tracks, T: TermLike + Drop> LoneBar<K, T> {
 
     /// Another position. No draw is asked. The rate counts it with the next step, unless a tick and `reset_eta` follow.
     pub fn with_position(&mut self, position: u64, now: Moment) -> Result<Drawn, Refusal>
-        ensures obeys { Obeys K.means T.view self.old self.new (PutPosition position) now result }
+        ensures obeys { Obeys K.means T.view self.old self.new (WithPosition position) now result }
         ensures limited { result ≡ Ok Drawn.Limited }
     {
         let ask = self.shown.bar.with_position(position, now);
@@ -182,7 +182,7 @@ impl<K: Tracks, T: TermLike + Drop> LoneBar<K, T> {
 
     /// What finishes the bar by `finish_using_style`. No draw is asked.
     pub fn with_finish(&mut self, finish: ProgressFinish, now: Moment) -> Result<Drawn, Refusal>
-        ensures obeys { Obeys K.means T.view self.old self.new (PutFinish (finish_of finish)) now result }
+        ensures obeys { Obeys K.means T.view self.old self.new (WithFinish (finish_of finish)) now result }
         ensures limited { result ≡ Ok Drawn.Limited }
     {
         let ask = self.shown.bar.with_finish(finish, now);
@@ -252,9 +252,9 @@ impl<K: Tracks, T: TermLike + Drop> LoneBar<K, T> {
     ///
     /// Refused: `Memory`, only where the text isn't empty; nothing has changed then.
     pub fn with_message(&mut self, text: &str, now: Moment) -> Result<Drawn, Refusal>
-        ensures obeys { ObeysOrNot K.means T.view self.old self.new (PutMessage text.now) now result }
+        ensures obeys { ObeysOrNot K.means T.view self.old self.new (WithMessage text.now) now result }
         ensures memory { IfErr result (λ e. (e ≡ Refusal.Memory)
-            × IsTrue (takes_memory (PutMessage text.now) (record_of self.old))) }
+            × IsTrue (takes_memory (WithMessage text.now) (record_of self.old))) }
         ensures unchanged { OnErr result (self.new ≡ self.old) }
         ensures limited { IfOk result (λ drawn. drawn ≡ Drawn.Limited) }
     {
@@ -266,9 +266,9 @@ impl<K: Tracks, T: TermLike + Drop> LoneBar<K, T> {
     ///
     /// Refused: `Memory`, only where the text isn't empty; nothing has changed then.
     pub fn with_prefix(&mut self, text: &str, now: Moment) -> Result<Drawn, Refusal>
-        ensures obeys { ObeysOrNot K.means T.view self.old self.new (PutPrefix text.now) now result }
+        ensures obeys { ObeysOrNot K.means T.view self.old self.new (WithPrefix text.now) now result }
         ensures memory { IfErr result (λ e. (e ≡ Refusal.Memory)
-            × IsTrue (takes_memory (PutPrefix text.now) (record_of self.old))) }
+            × IsTrue (takes_memory (WithPrefix text.now) (record_of self.old))) }
         ensures unchanged { OnErr result (self.new ≡ self.old) }
         ensures limited { IfOk result (λ drawn. drawn ≡ Drawn.Limited) }
     {
@@ -280,9 +280,9 @@ impl<K: Tracks, T: TermLike + Drop> LoneBar<K, T> {
     ///
     /// Refused: `Memory`, only where the message or the prefix has a tab, or the style another width of tabs; nothing has changed then.
     pub fn with_tab_width(&mut self, tab: usize, now: Moment) -> Result<Drawn, Refusal>
-        ensures obeys { ObeysOrNot K.means T.view self.old self.new (PutTabWidth tab) now result }
+        ensures obeys { ObeysOrNot K.means T.view self.old self.new (WithTabWidth tab) now result }
         ensures memory { IfErr result (λ e. (e ≡ Refusal.Memory)
-            × IsTrue (takes_memory (PutTabWidth tab) (record_of self.old))) }
+            × IsTrue (takes_memory (WithTabWidth tab) (record_of self.old))) }
         ensures unchanged { OnErr result (self.new ≡ self.old) }
         ensures limited { IfOk result (λ drawn. drawn ≡ Drawn.Limited) }
     {
@@ -333,7 +333,7 @@ impl<K: Tracks, T: TermLike + Drop> LoneBar<K, T> {
     ///
     /// Refused: `Memory`, only where the message isn't empty; nothing has changed then. Else as a draw.
     pub fn finish_with_message(&mut self, text: &str, now: Moment) -> Result<Drawn, Refusal>
-        ensures { ObeysOrNot K.means T.view self.old self.new (FinishBy (WithMessage text.now)) now result }
+        ensures { ObeysOrNot K.means T.view self.old self.new (Finish (LeaveWithMessage text.now)) now result }
     {
         let asked = self.shown.bar.finish_with_message(text, now);
         self.obey_unless(asked, now)
@@ -343,7 +343,7 @@ impl<K: Tracks, T: TermLike + Drop> LoneBar<K, T> {
     ///
     /// Refused: as `finish_with_message`.
     pub fn abandon_with_message(&mut self, text: &str, now: Moment) -> Result<Drawn, Refusal>
-        ensures { ObeysOrNot K.means T.view self.old self.new (FinishBy (AbandonWithMessage text.now)) now result }
+        ensures { ObeysOrNot K.means T.view self.old self.new (Finish (AbandonWithMessage text.now)) now result }
     {
         let asked = self.shown.bar.abandon_with_message(text, now);
         self.obey_unless(asked, now)

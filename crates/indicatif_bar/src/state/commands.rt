@@ -4,9 +4,9 @@ ghost use Rattle.std.specs.Fn.{FnOnceReturnsAt};
 ghost use Rattle.indicatif_bar.specs.Progress.{is_finished};
 ghost use Rattle.indicatif_bar.specs.declared.state.commands.Change.{Change};
 ghost use Rattle.indicatif_bar.specs.Commands.{Tick, TickerTick, SetTicker, Inc, Dec, SetPosition, Update, SetLength, UnsetLength, IncLength, DecLength, SetMessage, SetPrefix, SetStyle};
-ghost use Rattle.indicatif_bar.specs.Commands.{PutPosition, PutMessage, PutPrefix, PutFinish, PutTabWidth, SetTabWidth, SetElapsed, ResetEta, ResetElapsed, Reset, FinishBy, FinishUsingStyle};
+ghost use Rattle.indicatif_bar.specs.Commands.{WithPosition, WithMessage, WithPrefix, WithFinish, WithTabWidth, SetTabWidth, SetElapsed, ResetEta, ResetElapsed, Reset, Finish, FinishUsingStyle};
 ghost use Rattle.indicatif_bar.specs.Commands.{ForceDraw, obeyed, after_drop, command_of, copy_takes_memory, is_beyond_clock, takes_memory, update, with_length, redraw_ask};
-ghost use Rattle.indicatif_bar.specs.Finishes.{AndLeave, WithMessage, AndClear, Abandon, AbandonWithMessage, finish_of};
+ghost use Rattle.indicatif_bar.specs.Finishes.{AndLeave, WithMessage as LeaveWithMessage, AndClear, Abandon, AbandonWithMessage, finish_of};
 
 use crate::ask::Ask;
 use crate::finish::{ProgressFinish, same_text};
@@ -349,7 +349,7 @@ impl<K: Tracks> BarState<K> {
 
     /// Another position. No draw is asked. The rate counts it with the next step, unless a tick and `reset_eta` follow.
     pub fn with_position(&mut self, position: u64, now: Moment) -> Ask
-        ensures { (self.new, result) ≡ obeyed K.means (PutPosition position) self.old now }
+        ensures { (self.new, result) ≡ obeyed K.means (WithPosition position) self.old now }
     {
         self.progress.set_pos(position);
         Ask::No
@@ -359,10 +359,10 @@ impl<K: Tracks> BarState<K> {
     ///
     /// Refused: `Memory`, only where the text isn't empty; nothing has changed then.
     pub fn with_message(&mut self, text: &str, now: Moment) -> Result<Ask, Refusal>
-        ensures done { IfOk result (λ ask. (self.new, ask) ≡ obeyed K.means (PutMessage text.now) self.old now) }
+        ensures done { IfOk result (λ ask. (self.new, ask) ≡ obeyed K.means (WithMessage text.now) self.old now) }
         ensures unchanged { OnErr result (self.new ≡ self.old) }
         ensures memory { IfErr result (λ e. (e ≡ Refusal.Memory)
-            × IsTrue (takes_memory (PutMessage text.now) self.old)) }
+            × IsTrue (takes_memory (WithMessage text.now) self.old)) }
     {
         self.progress.set_message(text)?;
         Ok(Ask::No)
@@ -372,10 +372,10 @@ impl<K: Tracks> BarState<K> {
     ///
     /// Refused: `Memory`, only where the text isn't empty; nothing has changed then.
     pub fn with_prefix(&mut self, text: &str, now: Moment) -> Result<Ask, Refusal>
-        ensures done { IfOk result (λ ask. (self.new, ask) ≡ obeyed K.means (PutPrefix text.now) self.old now) }
+        ensures done { IfOk result (λ ask. (self.new, ask) ≡ obeyed K.means (WithPrefix text.now) self.old now) }
         ensures unchanged { OnErr result (self.new ≡ self.old) }
         ensures memory { IfErr result (λ e. (e ≡ Refusal.Memory)
-            × IsTrue (takes_memory (PutPrefix text.now) self.old)) }
+            × IsTrue (takes_memory (WithPrefix text.now) self.old)) }
     {
         self.progress.set_prefix(text)?;
         Ok(Ask::No)
@@ -383,7 +383,7 @@ impl<K: Tracks> BarState<K> {
 
     /// What finishes the bar when its owner is gone, or by `finish_using_style`.
     pub fn with_finish(&mut self, finish: ProgressFinish, now: Moment) -> Ask
-        ensures { (self.new, result) ≡ obeyed K.means (PutFinish (finish_of finish)) self.old now }
+        ensures { (self.new, result) ≡ obeyed K.means (WithFinish (finish_of finish)) self.old now }
     {
         self.on_finish = finish;
         Ask::No
@@ -394,10 +394,10 @@ impl<K: Tracks> BarState<K> {
     /// Refused: `Memory`, only where the message or the prefix has a tab, or the style another width of tabs; nothing has changed
     /// then.
     pub fn with_tab_width(&mut self, tab: usize, now: Moment) -> Result<Ask, Refusal>
-        ensures done { IfOk result (λ ask. (self.new, ask) ≡ obeyed K.means (PutTabWidth tab) self.old now) }
+        ensures done { IfOk result (λ ask. (self.new, ask) ≡ obeyed K.means (WithTabWidth tab) self.old now) }
         ensures unchanged { OnErr result (self.new ≡ self.old) }
         ensures memory { IfErr result (λ e. (e ≡ Refusal.Memory)
-            × IsTrue (takes_memory (PutTabWidth tab) self.old)) }
+            × IsTrue (takes_memory (WithTabWidth tab) self.old)) }
     {
         let widened = self.progress.widened(tab)?;
         self.style.set_tab_width(tab)?;
@@ -474,7 +474,7 @@ impl<K: Tracks> BarState<K> {
 
     /// The bar is finished at its length, where it has one, and stays on the screen. A draw is forced.
     pub fn finish(&mut self, now: Moment) -> Ask
-        ensures { (self.new, result) ≡ obeyed K.means (FinishBy AndLeave) self.old now }
+        ensures { (self.new, result) ≡ obeyed K.means (Finish AndLeave) self.old now }
     {
         self.progress.finish(Status::DoneVisible, now);
         Ask::Forced
@@ -484,10 +484,10 @@ impl<K: Tracks> BarState<K> {
     ///
     /// Refused: `Memory`, only where the message isn't empty; nothing has changed then.
     pub fn finish_with_message(&mut self, text: &str, now: Moment) -> Result<Ask, Refusal>
-        ensures done { IfOk result (λ ask. (self.new, ask) ≡ obeyed K.means (FinishBy (WithMessage text.now)) self.old now) }
+        ensures done { IfOk result (λ ask. (self.new, ask) ≡ obeyed K.means (Finish (LeaveWithMessage text.now)) self.old now) }
         ensures unchanged { OnErr result (self.new ≡ self.old) }
         ensures memory { IfErr result (λ e. (e ≡ Refusal.Memory)
-            × IsTrue (takes_memory (FinishBy (WithMessage text.now)) self.old)) }
+            × IsTrue (takes_memory (Finish (LeaveWithMessage text.now)) self.old)) }
     {
         self.progress.set_message(text)?;
         Ok(self.finish(now))
@@ -495,7 +495,7 @@ impl<K: Tracks> BarState<K> {
 
     /// The bar is finished at its length, where it has one, and goes from the screen: it has no lines from then on. A draw is forced.
     pub fn finish_and_clear(&mut self, now: Moment) -> Ask
-        ensures { (self.new, result) ≡ obeyed K.means (FinishBy AndClear) self.old now }
+        ensures { (self.new, result) ≡ obeyed K.means (Finish AndClear) self.old now }
     {
         self.progress.finish(Status::DoneHidden, now);
         Ask::Forced
@@ -503,7 +503,7 @@ impl<K: Tracks> BarState<K> {
 
     /// The bar is finished where it stands, for work that is given up, and stays on the screen. A draw is forced.
     pub fn abandon(&mut self, now: Moment) -> Ask
-        ensures { (self.new, result) ≡ obeyed K.means (FinishBy Abandon) self.old now }
+        ensures { (self.new, result) ≡ obeyed K.means (Finish Abandon) self.old now }
     {
         self.progress.abandon(now);
         Ask::Forced
@@ -513,10 +513,10 @@ impl<K: Tracks> BarState<K> {
     ///
     /// Refused: `Memory`, only where the message isn't empty; nothing has changed then.
     pub fn abandon_with_message(&mut self, text: &str, now: Moment) -> Result<Ask, Refusal>
-        ensures done { IfOk result (λ ask. (self.new, ask) ≡ obeyed K.means (FinishBy (AbandonWithMessage text.now)) self.old now) }
+        ensures done { IfOk result (λ ask. (self.new, ask) ≡ obeyed K.means (Finish (AbandonWithMessage text.now)) self.old now) }
         ensures unchanged { OnErr result (self.new ≡ self.old) }
         ensures memory { IfErr result (λ e. (e ≡ Refusal.Memory)
-            × IsTrue (takes_memory (FinishBy (AbandonWithMessage text.now)) self.old)) }
+            × IsTrue (takes_memory (Finish (AbandonWithMessage text.now)) self.old)) }
     {
         self.progress.set_message(text)?;
         Ok(self.abandon(now))
@@ -526,10 +526,10 @@ impl<K: Tracks> BarState<K> {
     ///
     /// Refused: `Memory`, only where the finish has a message that isn't empty; nothing has changed then.
     pub fn finish_by(&mut self, finish: &ProgressFinish, now: Moment) -> Result<Ask, Refusal>
-        ensures done { IfOk result (λ ask. (self.new, ask) ≡ obeyed K.means (FinishBy (finish_of finish.now)) self.old now) }
+        ensures done { IfOk result (λ ask. (self.new, ask) ≡ obeyed K.means (Finish (finish_of finish.now)) self.old now) }
         ensures unchanged { OnErr result (self.new ≡ self.old) }
         ensures memory { IfErr result (λ e. (e ≡ Refusal.Memory)
-            × IsTrue (takes_memory (FinishBy (finish_of finish.now)) self.old)) }
+            × IsTrue (takes_memory (Finish (finish_of finish.now)) self.old)) }
     {
         self.progress.finish_by(finish, now)?;
         Ok(Ask::Forced)

@@ -1,13 +1,13 @@
 use Rattle.std.proofs.Common.{refl}
-use Rattle.indicatif_bar.specs.Commands.{PutMessage}
+use Rattle.indicatif_bar.specs.Commands.{WithMessage}
 use Rattle.indicatif_bar.proofs.CommandAnswerLemmas.{told_with_memory}
 use Rattle.indicatif_bar.proofs.lone.LoneBar.with_message.Goals as goal
 
 pub returns-clause-obeys : goal.returns-clause-obeys
 returns-clause-obeys g c =
-    c.obey_unless.ensures.obeys c.args.self.now (PutMessage c.args.text.now)
+    c.obey_unless.ensures.obeys c.args.self.now (WithMessage c.args.text.now)
     (record {
       as_told = told_with_memory g.K.Tracks.means c.args.self.now.shown.bar c.with_message-asked.new.self c.args.now
-          (PutMessage c.args.text.now) c.with_message-asked.result refl c.with_message-asked.ensures.done c.with_message-asked.ensures.unchanged c.with_message-asked.ensures.memory;
+          (WithMessage c.args.text.now) c.with_message-asked.result refl c.with_message-asked.ensures.done c.with_message-asked.ensures.unchanged c.with_message-asked.ensures.memory;
       rest = refl;
     })

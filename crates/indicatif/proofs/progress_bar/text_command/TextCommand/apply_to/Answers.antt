@@ -9,11 +9,11 @@ returns-in-Message-clause-leads g c = rw c.in-Message.is c.set_message.ensures.l
 pub returns-in-Prefix-clause-leads : goal.returns-in-Prefix-clause-leads
 returns-in-Prefix-clause-leads g c = rw c.in-Prefix.is c.set_prefix.ensures.leads
 
-pub returns-in-PutMessage-clause-leads : goal.returns-in-PutMessage-clause-leads
-returns-in-PutMessage-clause-leads g c = rw c.in-PutMessage.is c.with_message.ensures.obeys.leads
+pub returns-in-WithMessage-clause-leads : goal.returns-in-WithMessage-clause-leads
+returns-in-WithMessage-clause-leads g c = rw c.in-WithMessage.is c.with_message.ensures.obeys.leads
 
-pub returns-in-PutPrefix-clause-leads : goal.returns-in-PutPrefix-clause-leads
-returns-in-PutPrefix-clause-leads g c = rw c.in-PutPrefix.is c.with_prefix.ensures.obeys.leads
+pub returns-in-WithPrefix-clause-leads : goal.returns-in-WithPrefix-clause-leads
+returns-in-WithPrefix-clause-leads g c = rw c.in-WithPrefix.is c.with_prefix.ensures.obeys.leads
 
 pub returns-in-Finish-clause-leads : goal.returns-in-Finish-clause-leads
 returns-in-Finish-clause-leads g c = rw c.in-Finish.is c.finish_with_message.ensures.leads
