@@ -44,14 +44,14 @@ module _ (w h : ℕ) (opening : Screen) (above : List (List Cell)) where
       StandsAfter w h opening above t (next_row ++ clear_bytes) (above ++ (more ++ blank_row w ∷ [])) (suc row) (suc (suc row)) true
   one more row front t e s =
       let down = next_leads w h opening above t more row (suc row) front s e in
-      let here : Stands w h opening (above ++ more) (suc row) (suc (suc row)) true (after t next_row) = restand w h opening above (after t next_row) _ _ _ _ _ _ true true refl refl (omega arith) refl down.stands in
+      let here : Stands w h opening (above ++ more) (suc row) (suc (suc row)) true (after t next_row) = restand w h opening above (after t next_row) (above ++ more) (above ++ more) (suc row) (suc row) (max (suc row) (suc (suc row))) (suc (suc row)) true true refl refl (omega arith) refl down.stands in
       let n = length-append above more in
       let there = appears w h opening (above ++ more) (after t next_row) 1 (suc row) (suc (suc row)) true (omega (arith, n, e)) here in
       let clear = clear_leads w h opening above (after t next_row) more (blank_row w) [] (suc (suc row)) true
       (restand w h opening above (after t next_row) _ _ _ _ _ _ true true (append_assoc above more (blank_row w ∷ [])) e refl refl there) in
-      leads_then w h opening above t next_row clear_bytes _ _ _ _ _ _ true true
-      (relead w h opening above t next_row _ _ _ _ _ _ true true refl refl (omega arith) refl down)
-      (relead w h opening above (after t next_row) clear_bytes _ _ _ _ _ _ true true refl (sym e) refl refl clear)
+      leads_then w h opening above t next_row clear_bytes (above ++ more) (above ++ (more ++ blank_row w ∷ [])) (suc row) (suc row) (suc (suc row)) (suc (suc row)) true true
+      (relead w h opening above t next_row (above ++ more) (above ++ more) (suc row) (suc row) (max (suc row) (suc (suc row))) (suc (suc row)) true true refl refl (omega arith) refl down)
+      (relead w h opening above (after t next_row) clear_bytes _ _ (length above + length more) (suc row) (suc (suc row)) (suc (suc row)) true true refl (sym e) refl refl clear)
 
   more_reached : (n : ℕ) (more : List (List Cell)) (row : ℕ) (t : Terminal) → suc row ≡ length above + length more → Stands w h opening (above ++ more) row (suc row) true t →
       StandsAfter w h opening above t (rows_down n) (above ++ (more ++ replicate n (blank_row w))) (row + n) (suc row + n) true
