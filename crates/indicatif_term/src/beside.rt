@@ -15,13 +15,14 @@ use crate::window::Window;
 use indicatif_text::columns::Refusal;
 
 /// A line that is to be drawn: its rows, how many columns it takes of the last one, and the index of the same line among those that
-/// stand there, where that was found.
+/// stand there, where that was found; how often that was edited.
 #[derive(Clone, Copy)]
 pub struct SizedLine<'a> {
     pub text: &'a str,
     pub rows: usize,
     pub last: usize,
     pub narrow: bool,
+    pub edits: usize,
     pub like: Option<usize>,
 }
 
@@ -40,6 +41,7 @@ impl<'a> SizedLine<'a> {
             rows: self.rows,
             last: self.last,
             narrow: self.narrow,
+            edits: self.edits,
             step: Step::Whole,
             like: self.like,
         })
@@ -88,6 +90,7 @@ impl<'a> Beside<'a> {
                     rows: line.rows,
                     last: line.last,
                     narrow: line.narrow,
+                    edits: line.edits,
                     like: Some(at),
                 });
             }
@@ -98,6 +101,7 @@ impl<'a> Beside<'a> {
             rows: metrics.height,
             last: metrics.last_line_width,
             narrow: is_narrow_text(text),
+            edits: 0,
             like: None,
         })
     }
@@ -270,6 +274,7 @@ pub fn below_blanks(
             rows: 1,
             last: 0,
             narrow: true,
+            edits: 0,
             step: Step::Whole,
             like: None,
         })?;

@@ -30,6 +30,7 @@ impl StandingLine {
             rows: self.rows,
             last: self.last,
             narrow: self.narrow,
+            edits: self.edits,
             step: Step::Whole,
             like: None,
         })

@@ -11,7 +11,7 @@ ghost use Rattle.indicatif_term.specs.Standing.{placed_of, placed, AreReady};
 use crate::beside::height_of;
 use crate::inks::{Colours, Reading};
 use crate::last_char::{ends_plainly, last_char};
-use crate::painting::{empty_down, go_up, put_below, put_spaces, take_back_rows};
+use crate::painting::{empty_down, go_down, go_up, put_below, put_spaces, take_back_rows};
 use crate::parting::{Part, Step};
 use crate::remembered::StandingLine;
 use crate::row_edits::{Rest, go_right, write_row};
@@ -275,14 +275,4 @@ fn write_end<T: TermLike>(term: &mut T, down: usize, text: &str, width: usize) -
     term.write_str("\r")?;
     go_right(term, width.saturating_sub(1))?;
     term.write_str(text)
-}
-
-/// Down so many rows; none is no call.
-fn go_down<T: TermLike>(term: &mut T, rows: usize) -> io::Result<()>
-    ensures { Writes (move_bytes DOWN rows) (T.view term.old) (T.view term.new) result }
-{
-    if rows == 0 {
-        return Ok(());
-    }
-    term.move_cursor_down(rows)
 }

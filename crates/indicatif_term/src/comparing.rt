@@ -10,18 +10,23 @@ use crate::parting::{Part, Row, Step, is_narrow_text, parting};
 use crate::remembered::StandingLine;
 use crate::window::Window;
 
-/// What becomes of a line where another comes in its place: how many columns that takes of its last row, and whether each of its
-/// characters takes one.
+/// How often a line is edited at most before it is written as a whole, so that nothing that somebody else wrote into its row stays there.
+const MOST_EDITS: usize = 99;
+
+/// What becomes of a line where another comes in its place: how many columns that takes of its last row, whether each of its
+/// characters takes one, and how often the line in that place was edited since it was written as a whole.
 #[derive(Clone, Copy, Drop)]
 pub struct Turn {
     pub step: Step,
     pub last: usize,
     pub narrow: bool,
+    pub edits: usize,
 }
 
 /// What becomes of a line that stands where another text comes in its place, if that has as many rows. Only lines of one row whose
 /// visible characters take one column each are edited, and aren't measured; so a terminal that takes a character for wider or narrower
-/// shows its lines whole. Where the cursor is to wait, edits leave it behind the end of the row.
+/// shows its lines whole. Each hundredth of the changes of a line writes it as a whole, too. Where the cursor is to wait, edits leave it
+/// behind the end of the row.
 pub fn compare(line: &StandingLine, text: &str, window: Window, waits: bool) -> Option<Turn>
     requires line { IsLine window.columns line.now }
     ensures rows { IfSome result (λ t. line.now.rows ≡ length (rows_of window.columns (chars text.now))) }
@@ -35,19 +40,20 @@ pub fn compare(line: &StandingLine, text: &str, window: Window, waits: bool) -> 
             step: Step::Within(part),
             last: part.last,
             narrow: line.narrow,
+            edits: line.edits.saturating_add(1),
         }),
         None => measure(line, text, window),
     }
 }
 
-/// The part of a line that is written, if only lines of one row are looked at. A line that was cut to another size has no colours in its
+/// The part of a line that is written, if it was edited less than so often. Only lines of one row are looked at. A line that was cut to another size has no colours in its
 /// text, while its cells may have some: so of lines that aren't known to be narrow only those with colours are edited.
 fn part_of(line: &StandingLine, text: &str, window: Window, waits: bool) -> Option<Part>
     requires line { IsLine window.columns line.now }
     ensures small { IfSome result (λ p. window.columns ≤ 65535) }
     ensures parted { IfSome result (λ p. (line.now.rows ≡ 1) × Parted window.columns waits line.now.narrow (string_bytes line.now.text) text.now p) }
 {
-    if line.rows != 1 || window.columns > 65535 {
+    if line.rows != 1 || line.edits >= MOST_EDITS || window.columns > 65535 {
         return None;
     }
     let stands = line.text.as_bytes();
@@ -92,5 +98,6 @@ fn measure(line: &StandingLine, text: &str, window: Window) -> Option<Turn>
         step: Step::Whole,
         last: metrics.last_line_width,
         narrow: is_narrow_text(text),
+        edits: 0,
     })
 }

@@ -1,5 +1,5 @@
 //! What an engine remembers of its rows: their counts, and how these go on.
-ghost use Rattle.std.specs.Prelude.{◌≡◌, ℕ, ◌+◌, ◌-◌, ◌<◌, ◌≤◌, ◌^◌, ◌==◌, min, max, List, IsTrue, Bool, length, drop, sum_by, if◌then◌else◌};
+ghost use Rattle.std.specs.Prelude.{◌≡◌, ◌⊎◌, ℕ, ◌+◌, ◌-◌, ◌<◌, ◌≤◌, ◌^◌, ◌==◌, min, max, List, IsTrue, Bool, length, drop, sum_by, if◌then◌else◌};
 ghost use Rattle.std.specs.List.{list_any};
 ghost use Rattle.indicatif_term.specs.Lists.{blanks_for};
 
@@ -21,6 +21,23 @@ pub enum Keep {
     Behind,
 }
 
+/// Rows that a drawing is the first to reach: how far the row above them is below the cursor's, and how many they are.
+#[derive(Clone, Copy, Drop)]
+pub struct Fresh {
+    pub down: usize,
+    pub rows: usize,
+    pub ghost small: { down + rows ≤ 65535 },
+}
+
+impl Fresh {
+    /// None.
+    pub fn none() -> Fresh
+        ensures { result.rows ≡ 0 }
+    {
+        Fresh { down: 0, rows: 0 }
+    }
+}
+
 /// The counts of the rows that may still change.
 #[derive(Drop)]
 pub struct Counts {
@@ -37,6 +54,8 @@ pub struct Counts {
     pub reached: usize,
     /// Whether the cursor rests at the front of the row after the lists.
     pub below: bool,
+    /// Whether anything may stand in the rows that weren't reached: the terminal has failed, and not all of its window was reached since.
+    pub under: bool,
     pub ghost within: { passed ≤ length segments.items },
     pub ghost live_is: { live ≡ blanks + sum_by (λ s. s.rows) (drop passed segments.items) },
     pub ghost fits: { kept + live ≤ reached },
@@ -49,6 +68,7 @@ impl Counts {
     ghost use Rattle.indicatif_term.specs.Counts.{CountsOf};
     ghost use Rattle.indicatif_term.specs.Inside.Plans.{IsPlan, IsSummed, text_height};
     ghost use Rattle.indicatif_term.specs.Inside.Fills.{fill_columns};
+    ghost use Rattle.indicatif_term.specs.Inside.Reached.{IsFresh, IsAtop};
 
     /// Nothing drawn: the cursor is on the first row, at its front.
     pub fn new(alloc: Global) -> Counts
@@ -62,6 +82,59 @@ impl Counts {
             live: 0,
             reached: 1,
             below: true,
+            under: false,
+        }
+    }
+
+    /// The same where the terminal has failed: anything may stand below.
+    pub fn forgotten(alloc: Global) -> Counts
+        ensures { CountsOf result opening_lists }
+    {
+        Counts {
+            kept: 0,
+            blanks: 0,
+            segments: Vec::new(alloc),
+            passed: 0,
+            live: 0,
+            reached: 1,
+            below: true,
+            under: true,
+        }
+    }
+
+    /// How many rows can be reached below those that were, so that the cursor's row stays in a window of so many rows.
+    fn room(&self, height: usize) -> usize
+        ensures within { 0 < result → self.now.reached + result ≤ height }
+        ensures atop { 0 < result → IsAtop self.now → self.now.reached + result < height }
+        ensures all { (height ≤ self.now.reached + result) ⊎ (IsAtop self.now × (height ≤ self.now.reached + result + 1)) }
+    {
+        let room = height.saturating_sub(self.reached);
+        if self.kept + self.live == 0 && !self.below {
+            return room.saturating_sub(1);
+        }
+        room
+    }
+
+    /// Those of so many rows, counted from the first kept one, that weren't reached, where anything may stand in them: as far as the
+    /// cursor's row stays in a window of so many rows. All others are below the window, and come blank.
+    pub fn fresh(&self, end: usize, height: usize) -> Fresh
+        requires small { height ≤ 65535 }
+        ensures { IsFresh self.now end height result }
+    {
+        if !self.under {
+            return Fresh::none();
+        }
+        let standing = self.kept + self.live;
+        let more = end.saturating_sub(self.reached);
+        let room = self.room(height);
+        if more == 0 || room == 0 {
+            return Fresh::none();
+        }
+        let free = self.reached - standing;
+        let down = if self.below { free - 1 } else { free };
+        Fresh {
+            down,
+            rows: more.min(room),
         }
     }
 
@@ -82,6 +155,7 @@ impl Counts {
                 segments: plan.segments,
                 passed: 0,
                 live: blanks + plan.rows,
+                under: self.under,
             };
             return rows.settled(self.reached, height);
         }
@@ -92,6 +166,7 @@ impl Counts {
             segments: plan.segments,
             passed: plan.passing,
             live: plan.rows - passing_rows,
+            under: self.under,
         };
         rows.settled(self.reached, height)
     }
@@ -113,6 +188,7 @@ impl Counts {
             segments: plan.segments,
             passed: 0,
             live: blanks + plan.rows,
+            under: self.under,
         };
         rows.settled(self.reached.saturating_sub(text), height)
     }
@@ -129,6 +205,7 @@ impl Counts {
             live: 0,
             reached: self.reached,
             below: self.reached > 0,
+            under: self.under,
         }
     }
 
@@ -153,6 +230,7 @@ impl Counts {
             live,
             reached,
             below,
+            under,
         } = self;
         let next = Counts {
             kept: kept + (blanks + first.rows),
@@ -162,6 +240,7 @@ impl Counts {
             live: live - (blanks + first.rows),
             reached,
             below,
+            under,
         };
         (Keep::Passed, next)
     }
@@ -226,6 +305,8 @@ struct NextRows {
     passed: usize,
     /// All rows of live.
     live: usize,
+    /// Whether anything may stand in the rows that weren't reached.
+    under: bool,
 }
 
 impl NextRows {
@@ -253,6 +334,7 @@ impl NextRows {
             live: self.live,
             reached,
             below: self.live == 0 && kept < reached,
+            under: self.under && reached < height,
         }
     }
 }

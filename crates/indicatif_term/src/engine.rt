@@ -5,7 +5,7 @@
 //! last drawing, no text that was logged, so what it needs does not grow with that. A draw writes the lines that changed, or of them
 //! only the cells that differ, and leaves those that stay. Else, as for a log, it goes up to the first of the kept and live rows,
 //! empties them from there down, goes up again, and writes the new ones in their place. The rows above stand at every moment.
-ghost use Rattle.std.specs.Prelude.{◌≡◌, ◌∷◌, List, true, false, ◌≢◌, map, length, replicate, ◌+◌, ◌<◌, ◌≤◌, IfErr, IfSome, option_map, IsTrue, IsFalse, ◌++◌, [], ℕ, Err, false, ◌⊎◌, ◌↔◌, ◌==◌, ◌&&◌, IfOk};
+ghost use Rattle.std.specs.Prelude.{if◌then◌else◌, ◌≡◌, ◌∷◌, List, true, false, ◌≢◌, map, length, replicate, ◌+◌, ◌<◌, ◌≤◌, IfErr, IfSome, option_map, IsTrue, IsFalse, ◌++◌, [], ℕ, Err, false, ◌⊎◌, ◌↔◌, ◌==◌, ◌&&◌, IfOk};
 ghost use Rattle.indicatif_term.specs.Lists.{Lists, opening_lists};
 ghost use Rattle.indicatif_term.specs.Counts.{CountsOf};
 ghost use Rattle.indicatif_term.specs.Remembered.{Suits};
@@ -14,7 +14,7 @@ ghost use Rattle.indicatif_term.specs.Standing.{texts};
 use crate::beside::{Room, below_blanks, height_of, lines_among, lines_within};
 use crate::carried::carried;
 use crate::changing::{Changes, write_changes};
-use crate::counts::{Counts, Keep, blanks_of};
+use crate::counts::{Counts, Fresh, Keep, blanks_of};
 use crate::draw_target::{MultiProgressAlignment, ProgressDrawTarget};
 use crate::layout::plan_drawing;
 use crate::limiter::RateLimiter;
@@ -78,7 +78,8 @@ impl<T: Drop> Drop for Engine<T> {
 
 impl<T: TermLike + Drop> Engine<T> {
     ghost use Rattle.indicatif_term.specs.Lists.{Lists, drawn, logged, cleared, kept_of, fate};
-    ghost use Rattle.indicatif_term.specs.Inside.Bytes.{paint_bytes, drawing_lines};
+    ghost use Rattle.indicatif_term.specs.Inside.Bytes.{paint_bytes, reach_bytes, drawing_lines};
+    ghost use Rattle.indicatif_term.specs.Calls.{anew_bytes};
     ghost use Rattle.indicatif_term.specs.Frames.{bar_lines, all_lines, are_plain, logged_lines, text_lines, is_fault};
     ghost use Rattle.indicatif_term.specs.Inside.Plans.{frame_lines};
     ghost use Rattle.indicatif_term.specs.Engines.{engine_moves, engine_term, Fits, is_failure, Answers, Counted, Paints, lists_after};
@@ -265,6 +266,7 @@ impl<T: TermLike + Drop> Engine<T> {
             lines,
         };
         let last = plan.last;
+        let plan_rows = blanks + plan.rows;
         let next = self.counts.drawn(plan, blanks, window.rows);
         if self.can_move(&next, taken, &shown) {
             return self.overwrite(next, taken, shown);
@@ -273,6 +275,9 @@ impl<T: TermLike + Drop> Engine<T> {
             return self.rewrite(next, shown, room);
         }
         let fill = next.fill(last, window.columns);
+        let end = self.counts.kept + plan_rows;
+        let fresh = self.counts.fresh(end, window.rows);
+        let taken = Taken { rows: taken, fresh };
         self.repaint(next, taken, &drawing, fill, shown)
     }
 
@@ -334,10 +339,13 @@ impl<T: TermLike + Drop> Engine<T> {
             lines,
         };
         let last = plan.last.unwrap_or(metrics.last_line_width);
+        let end = metrics.height.saturating_add(blanks + plan.rows);
+        let fresh = self.counts.fresh(end, window.rows);
         let next = self
             .counts
             .logged(metrics.height, plan, blanks, window.rows);
         let fill = next.fill(Some(last), window.columns);
+        let taken = Taken { rows: taken, fresh };
         self.repaint(next, taken, &drawing, fill, shown)
     }
 
@@ -357,7 +365,10 @@ impl<T: TermLike + Drop> Engine<T> {
             (lists_after result l (cleared l)) }
     {
         Window::of(&self.term)?;
-        let taken = self.counts.kept + self.counts.live;
+        let taken = Taken {
+            rows: self.counts.kept + self.counts.live,
+            fresh: Fresh::none(),
+        };
         let next = self.counts.cleared(self.alloc);
         let nothing = Drawing {
             text: None,
@@ -399,10 +410,15 @@ impl<T: TermLike + Drop> Engine<T> {
         if self.counts.below != (taken == 0) || height_of(&shown.lines) < taken {
             return false;
         }
-        if taken > 0 && !self.are_known(taken, shown.width) {
+        if taken > 0 && !self.are_known(taken, shown.width) || self.goes_further(taken, shown) {
             return false;
         }
         are_even(&shown.lines, shown.width)
+    }
+
+    /// Whether the lines take more than so many rows where anything may stand below.
+    fn goes_further(&self, taken: usize, shown: &Remembered) -> bool {
+        self.counts.under && height_of(&shown.lines) > taken
     }
 
     /// Whether the lines of so many live rows are remembered, of a terminal of that width.
@@ -517,7 +533,7 @@ impl<T: TermLike + Drop> Engine<T> {
     fn room_for(&self, next: &Counts, taken: usize, shown: &Remembered) -> Option<Room>
         ensures { IfSome result (λ room. HasRoom self.now next.now taken shown.now × IsWithin shown.now.lines.items taken room) }
     {
-        if self.failed || self.counts.below || next.below {
+        if self.failed || self.counts.below || next.below || self.goes_further(taken, shown) {
             return None;
         }
         if self.shown.width != shown.width || shown.width > 65535 {
@@ -582,17 +598,17 @@ impl<T: TermLike + Drop> Engine<T> {
         ensures moves { engine_moves self.new ≡ engine_moves self.old }
         ensures forgotten { CountsOf self.new.counts opening_lists × (self.new.failed ≡ true) × (self.new.shown.width ≡ 0) }
     {
-        self.counts = Counts::new(self.alloc);
+        self.counts = Counts::forgotten(self.alloc);
         self.shown = Remembered::nothing(self.alloc);
         self.failed = true;
     }
 
-    /// Takes so many rows back, writes the drawing and so many spaces behind it in their place, and remembers the next
-    /// counts and these lines; after a failure, that a call has failed.
+    /// Takes rows back, writes the drawing and so many spaces behind it in their place, and remembers the next counts and
+    /// these lines; after a failure, that a call has failed.
     fn repaint(
         &mut self,
         next: Counts,
-        taken: usize,
+        taken: Taken,
         drawing: &Drawing<'_>,
         fill: usize,
         shown: Remembered,
@@ -600,16 +616,17 @@ impl<T: TermLike + Drop> Engine<T> {
         requires suits { ∥ ((l : Lists) × Suits next false shown l) ∥₁ }
         requires lines { drawing.now.lines ≤ length (frame_lines drawing.now.frame.now) }
         ensures writes { Draws
-            (paint_bytes self.old.failed self.old.counts.below taken (drawing_lines drawing.now) next.below
-            ++ replicate fill 0x20)
+            ((if self.old.failed then anew_bytes else []) ++ (reach_bytes taken.fresh.down taken.fresh.rows
+            ++ (paint_bytes false self.old.counts.below taken.rows (drawing_lines drawing.now) next.below ++ replicate fill 0x20)))
             (T.view (engine_term self.old)) (T.view (engine_term self.new)) result }
         ensures remembers { Remembers next shown result self.new }
         ensures moves { engine_moves self.new ≡ engine_moves self.old }
     {
         let painting = Painting {
             anew: self.failed,
+            fresh: taken.fresh,
             below: self.counts.below,
-            taken,
+            taken: taken.rows,
             drawing: *drawing,
             ends_below: next.below,
             fill,
@@ -730,6 +747,13 @@ impl<T: Resize + Drop> Engine<T> {
             shown: cut.shown,
         })
     }
+}
+
+/// How many rows a drawing takes back, and which it is the first to reach.
+#[derive(Clone, Copy, Drop)]
+struct Taken {
+    rows: usize,
+    fresh: Fresh,
 }
 
 /// The counts and the lines of what stands there, cut anew.

@@ -24,6 +24,7 @@ impl Counts {
             live: 0,
             reached: rows_below(self.below),
             below: self.below,
+            under: self.under,
         }
     }
 
@@ -47,6 +48,7 @@ impl Counts {
             segments,
             live: self.blanks + rows,
             below: self.below,
+            under: self.under,
         };
         Ok(cut.settled(height))
     }
@@ -61,6 +63,7 @@ struct CutRows {
     /// All rows of live.
     live: usize,
     below: bool,
+    under: bool,
 }
 
 impl CutRows {
@@ -90,6 +93,7 @@ impl CutRows {
             live,
             reached: reached - scrolled,
             below: self.below,
+            under: self.under,
         }
     }
 }

@@ -215,6 +215,7 @@ fn line_of(alloc: Global, glyphs: &[MarkedChar], width: usize) -> Result<Standin
         rows: 1,
         last,
         narrow: false,
+        edits: 0,
         step: Step::Whole,
         like: None,
     })

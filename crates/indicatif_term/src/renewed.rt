@@ -358,6 +358,7 @@ fn put_line(lines: &mut Vec<StandingLine>, spare: &mut Spare, line: NewLine)
     let before = replace(&mut standing.before, old);
     standing.last = turn.last;
     standing.narrow = turn.narrow;
+    standing.edits = turn.edits;
     standing.step = turn.step;
     spare.store_text(before);
 }

@@ -14,7 +14,7 @@ loop-init c = ([], no_blanks_yet, sym (append-nil c.args.lines.items))
 pub loop-preserved : goal.loop-preserved
 loop-preserved c =
     let b = c.loop.invariant in
-    let x : StandingLine = record { text = c.take_text.result; before = c.no_text.result; rows = 1; last = 0; narrow = true; step = Whole; like = None } in (
+    let x : StandingLine = record { text = c.take_text.result; before = c.no_text.result; rows = 1; last = 0; narrow = true; edits = 0; step = Whole; like = None } in (
       b.0 ++ x ∷ [],
       one_blank_more c.loop.counter b.0 x b.1 c.take_text.ensures refl refl refl,
       c.in_ok-push.ensures.items ∙ ap (λ ys. ys ++ x ∷ []) b.2 ∙ append_assoc c.args.lines.items b.0 (x ∷ []),

@@ -6,7 +6,7 @@ use Rattle.indicatif_term.specs.Lists.{cleared}
 use Rattle.indicatif_term.specs.Engines.{engine_term}
 use Rattle.indicatif_term.proofs.RememberedLemmas.{nothing_shown}
 use Rattle.indicatif_term.proofs.DrawingLemmas.{cleared-adds, cleared-sound}
-use Rattle.indicatif_term.proofs.EngineLemmas.{paints_refused, paints_by, fill_led, fits_counts, fits_failed, fits_forgets, fits_by, suits_made, clear_paints}
+use Rattle.indicatif_term.proofs.EngineLemmas.{paints_refused, paints_by, fits_counts, fits_failed, fits_forgets, fits_by, suits_made, clear_paints}
 use Rattle.indicatif_term.proofs.engine.Engine.clear.Goals as goal
 
 pub returns-in_err-of-clause-paints : goal.returns-in_err-of-clause-paints
@@ -33,6 +33,6 @@ returns-clause-paints g c = λ l fits.
     let o = fits_counts c.args.self.now l fits in
     paints_by s (g.T.TermLike.view (engine_term c.repaint.new.self)) old c.cleared-next.result _ c.repaint.result c.repaint.new.self c.args.self.now.failed l cleared
     (paint_bytes false old.below (old.kept + old.live) [] c.cleared-next.result.below) c.repaint.ensures.remembers (fits_failed c.args.self.now l fits)
-    (rw (fill_led, append-nil) at c.repaint.ensures.writes)
+    (rw (c.none.ensures, append-nil) at c.repaint.ensures.writes)
     (λ x is. clear_paints s.columns s.rows x old c.cleared-next.result (rw c.in_ok-of.ensures.0 at c.in_ok-of.field-0.some) is.counts (c.cleared-next.ensures x is.counts)) o
     (fits_forgets c.args.self.now l fits) (cleared-sound l) (cleared-adds l)

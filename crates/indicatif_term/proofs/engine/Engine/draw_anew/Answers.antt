@@ -6,7 +6,7 @@ use Rattle.indicatif_term.specs.Inside.Remembering.{Draws}
 use Rattle.indicatif_term.specs.Lists.{Lists, drawn, live_rows}
 use Rattle.indicatif_term.specs.Counts.{CountsOf}
 use Rattle.indicatif_term.specs.Shows.{looks_of}
-use Rattle.indicatif_term.specs.Inside.Bytes.{paint_bytes}
+use Rattle.indicatif_term.specs.Inside.Bytes.{paint_bytes, reach_bytes}
 use Rattle.indicatif_term.specs.Inside.Changes.{change_bytes, AreSitting}
 use Rattle.indicatif_term.specs.Standing.{placed_of, placed, AreLines}
 use Rattle.indicatif_term.specs.Inside.Moves.{moved_bytes, AreEven}
@@ -19,7 +19,7 @@ use Rattle.indicatif_term.specs.Engines.{engine_term}
 use Rattle.indicatif_term.specs.DrawTargets.{is_bottom}
 use Rattle.indicatif_term.proofs.DrawingLemmas.{drawn-adds, drawn-sound}
 use Rattle.indicatif_term.proofs.LineEndLemmas.{draw_fill}
-use Rattle.indicatif_term.proofs.EngineLemmas.{paints_refused, paints_by, led, fill_led, fits_counts, fits_failed, fits_forgets, fits_by, fits_shown, draw_paints}
+use Rattle.indicatif_term.proofs.EngineLemmas.{paints_refused, paints_by, led, fits_counts, fits_failed, fits_forgets, fits_by, fits_shown, draw_paints}
 use Rattle.indicatif_term.proofs.SkippingLemmas.{drawn_shown, drawn_suits, sits_live, draw_changes, split_at, counted_by, some_lines}
 use Rattle.indicatif_term.proofs.OverLemmas.{AreWide}
 use Rattle.indicatif_term.proofs.MovingLemmas.{live_wide, draw_moves}
@@ -278,6 +278,7 @@ returns-clause-paints g c = λ l fits plain.
     let o = fits_counts c.args.self.now l fits in
     let p = c.in_ok-planned.ensures.planned in
     let plan = c.in_ok-planned.planned.plan in
+    let f = c.fresh-fresh.result in
     let blanks = rw c.is_bottom.ensures at (c.blanks_of-blanks.ensures.blanks old.live 0 (omega arith)) in
     let t = c.in_ok-lines.ensures.lines ∙ ap (λ xs. replicate c.blanks_of-blanks.result [] ++ xs) c.in_ok-planned.ensures.lines.texts_are in
     let next = λ (x : Lists) (is : CountsOf old x). rw p.rows_are at (c.drawn-next.ensures s.columns c.args.pass bottom frame x is (rw (← p.rows_are) at p.plan_is) blanks) in
@@ -286,10 +287,10 @@ returns-clause-paints g c = λ l fits plain.
     c.drawn-next.result.below c.fill-fill.result (rw p.columns_are at c.fill-fill.ensures) in
     paints_by s (g.T.TermLike.view (engine_term c.repaint.new.self)) old c.drawn-next.result _ c.repaint.result c.repaint.new.self c.args.self.now.failed l
     (drawn s.columns s.rows bottom c.args.pass frame)
-    (paint_bytes false old.below old.live lines c.drawn-next.result.below ++ fill_bytes c.drawn-next.result.below s.columns lines) c.repaint.ensures.remembers (fits_failed c.args.self.now l fits)
-    (rw (fill_led, fill) at c.repaint.ensures.writes)
-    (λ x is. draw_paints s.columns s.rows x old c.drawn-next.result c.args.pass c.blanks_of-blanks.result bottom c.args.frame.now plan
-    (rw p.columns_are at c.in_ok-planned.planned.window.some) plain p.narrow_frame is.counts p.plan_is (next x is.counts) blanks) o
+    (reach_bytes f.down f.rows ++ (paint_bytes false old.below old.live lines c.drawn-next.result.below ++ fill_bytes c.drawn-next.result.below s.columns lines)) c.repaint.ensures.remembers (fits_failed c.args.self.now l fits)
+    (rw fill at c.repaint.ensures.writes)
+    (λ x is. draw_paints s.columns s.rows x old c.drawn-next.result c.args.pass c.blanks_of-blanks.result bottom c.args.frame.now plan f
+    (rw p.columns_are at c.in_ok-planned.planned.window.some) plain p.narrow_frame is.counts p.plan_is (next x is.counts) blanks (rw p.rows_are at c.fresh-fresh.ensures)) o
     (fits_forgets c.args.self.now l fits) (drawn-sound s.columns s.rows bottom c.args.pass frame l) (drawn-adds s.columns s.rows bottom c.args.pass frame l)
 
 pub invariant_of-shown : goal.invariant_of-shown

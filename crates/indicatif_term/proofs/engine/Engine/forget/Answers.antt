@@ -5,7 +5,7 @@ use Rattle.indicatif_term.proofs.engine.Engine.forget.Goals as goal
 
 pub invariant_of-self : goal.invariant_of-self
 invariant_of-self g c =
-    let n = c.new.ensures in
+    let n = c.forgotten.ensures in
     record {
       some = ∣ (
         forgotten_lists,

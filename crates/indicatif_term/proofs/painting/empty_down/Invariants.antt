@@ -1,7 +1,0 @@
-use Rattle.std.proofs.Common.{◌++◌}
-use Rattle.indicatif_term.specs.Calls.{LeadsOn, clear_bytes}
-use Rattle.indicatif_term.specs.Inside.Bytes.{rows_down}
-use Rattle.indicatif_term.proofs.painting.empty_down.Given as goal
-
-abbrev pub invariant-loop : goal.invariant-loop
-invariant-loop g l = LeadsOn (clear_bytes ++ rows_down l.counter) (g.T.TermLike.view l.fn.term) (g.T.TermLike.view l.term)
