@@ -14,7 +14,7 @@
 //!
 //! - `fronts`: bars and boards for tests, and what they show. `recordings`: what a board has recorded.
 //! - `shown`: a terminal that others see. `owners`: what the last owner of a bar leaves there. `watched`: boards there, while a closure
-//!   runs, and where the cursor only moves. `bars`: what crosses threads, and a terminal in a box.
+//!   runs, and where the cursor only moves. `pauses`: what answers and what waits meanwhile, with threads. `bars`: what crosses threads, and a terminal in a box.
 //! - `boards`: boards that threads share.
 //! - `shared`: what is said of a wrapper's bar, and threads at one bar. `readers`: two readers of one bar.
 //! - `closures`: what is done under a lock. `given_up`: what threads of tickers give up, also in two tests of the crate `indicatif`, and
@@ -97,6 +97,7 @@ mod own_bars;
 #[cfg(test)]
 mod owners;
 #[cfg(test)]
+mod pauses;
 #[cfg(test)]
 mod pieces;
 #[cfg(test)]

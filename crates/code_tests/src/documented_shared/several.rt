@@ -2,7 +2,7 @@
 use crate::checks::Granted;
 use crate::fronts::{board_shows, setup};
 use indicatif::style::Tracks;
-use indicatif::{MultiProgress, ProgressBar, RecordReader, Recorded, StepClock, TermLike};
+use indicatif::{Drawn, MultiProgress, ProgressBar, RecordReader, Recorded, StepClock, TermLike};
 
 #[derive(Drop)]
 struct Length;
@@ -31,4 +31,21 @@ fn line_above_a_bar(rt: HostRuntime) {
     board.set_move_cursor(true).granted(rt);
     board_shows(rt, &board, "a.txt");
     same!(rt; board.with_record(Length), 0);
+}
+
+/// A bar is read while a closure runs.
+#[test]
+fn reading_in_a_pause(rt: HostRuntime) {
+    let rt = &rt;
+    let alloc = rt.alloc();
+    let setup = setup(rt, alloc, 20);
+    let board = MultiProgress::new(*rt, alloc, setup, 1).expect(rt, "granted");
+    let clock = StepClock { next: 0, step: 1 };
+    let bar = board
+        .add(ProgressBar::hidden(*rt, alloc, clock).expect(rt, "granted"))
+        .expect(rt, "granted");
+    let (position, drawn) = board.suspend(|| bar.position());
+    same!(rt; (position, drawn), (0, Ok(Drawn::Yes)));
+    let (position, drawn) = bar.suspend(|| bar.position());
+    same!(rt; (position, drawn), (0, Ok(Drawn::Yes)));
 }

@@ -1,0 +1,300 @@
+//! Pauses, with threads: while the closure of a `suspend` runs, readings answer, and what draws waits until it has run.
+use crate::checks::Granted;
+use crate::owners::{Bar, bar_on};
+use crate::shown::{Bytes, is_seen, no_bytes, setup_on};
+use crate::ticking::{tick_off, ticks_on, waits};
+use crate::watched::{Board, bar_of, board_on};
+use indicatif::{Drawn, Refusal};
+use std::alloc::Global;
+use std::process::Abort;
+use std::sync::atomic::{AtomicU64, Ordering};
+use std::sync::{Arc, Wait};
+use std::thread::{Threads, join, sleep};
+use std::time::{Clock, Duration};
+
+/// A board with two bars on a terminal that others see; what pauses them, and what is called meanwhile.
+#[derive(Drop)]
+struct Scene<R: Wait + Clone + Drop> {
+    rt: R,
+    alloc: Global,
+    bytes: Bytes,
+    board: Board<R>,
+    one: Bar<R>,
+    other: Bar<R>,
+    pauses: Pauses,
+    call: Call,
+    stage: AtomicU64,
+}
+
+/// Which pause it is.
+#[derive(Clone, Copy, Drop)]
+enum Pauses {
+    OfBoard,
+    OfBar,
+    OfOtherBar,
+}
+
+/// What is called while a closure runs.
+#[derive(Clone, Copy, Drop)]
+enum Call {
+    Inc,
+    Message,
+    Above,
+    AboveBoard,
+    Clear,
+}
+
+/// Stages: the closure runs.
+const PAUSED: u64 = 1;
+
+/// The other thread is at its call.
+const MADE: u64 = 2;
+
+/// Its call has come back.
+const ANSWERED: u64 = 3;
+
+/// Two bars that stand on a board, `0/10` and `b`.
+fn make_scene<R: Wait + Copy + Clone + Drop + Abort>(
+    rt: R,
+    alloc: Global,
+    (pauses, call): (Pauses, Call),
+) -> Scene<R> {
+    let rt = &rt;
+    let bytes = no_bytes(rt, alloc);
+    let board = board_on(*rt, alloc, &bytes, 10);
+    let one = bar_of(&board, *rt, alloc, "{pos}/10{msg}");
+    let other = bar_of(&board, *rt, alloc, "b");
+    same!(rt; one.tick(), Ok(Drawn::Yes));
+    same!(rt; other.tick(), Ok(Drawn::Yes));
+    is_seen(rt, alloc, &bytes, "0/10\nb");
+    let stage = AtomicU64::new(0);
+    Scene {
+        rt: *rt,
+        alloc,
+        bytes,
+        board,
+        one,
+        other,
+        pauses,
+        call,
+        stage,
+    }
+}
+
+/// A bar that stands alone, `0/10`, and another owner of it; its board has no bars.
+fn lone_scene<R: Wait + Copy + Clone + Drop + Abort>(rt: R, alloc: Global, call: Call) -> Scene<R> {
+    let rt = &rt;
+    let bytes = no_bytes(rt, alloc);
+    let board = board_on(*rt, alloc, &bytes, 10);
+    let one = bar_on(*rt, alloc, &bytes, "{pos}/10{msg}");
+    let other = one.clone().expect(rt, "granted");
+    same!(rt; one.tick(), Ok(Drawn::Yes));
+    is_seen(rt, alloc, &bytes, "0/10");
+    let stage = AtomicU64::new(0);
+    Scene {
+        rt: *rt,
+        alloc,
+        bytes,
+        board,
+        one,
+        other,
+        pauses: Pauses::OfBar,
+        call,
+        stage,
+    }
+}
+
+/// Whether this stage comes, by the last of 10,000 looks a millisecond apart.
+fn comes<R: Clock>(rt: &R, stage: &AtomicU64, wanted: u64) -> bool {
+    for _ in 0..10_000u32 {
+        if stage.load(Ordering::SeqCst) >= wanted {
+            return true;
+        }
+        sleep(rt, Duration::from_millis(1));
+    }
+    false
+}
+
+/// While a closure runs: the other thread is at its call, which doesn't come back. Nothing stands on the terminal, and the bars are read.
+fn looks<R: Wait + Clock + Clone + Drop + Abort>(scene: &Scene<R>) -> (u64, Option<u64>, bool) {
+    let rt = &scene.rt;
+    scene.stage.store(PAUSED, Ordering::SeqCst);
+    holds!(rt; comes(rt, &scene.stage, MADE));
+    waits(rt);
+    same!(rt; scene.stage.load(Ordering::SeqCst), MADE);
+    is_seen(rt, scene.alloc, &scene.bytes, "");
+    let length = scene.one.length();
+    (scene.one.position(), length, scene.other.is_finished())
+}
+
+/// The scene's pause: what was read in it, and what the draw behind it answered.
+fn paused<R: Wait + Clock + Clone + Drop + Abort>(
+    scene: &Scene<R>,
+) -> ((u64, Option<u64>, bool), Result<Drawn, Refusal>) {
+    match scene.pauses {
+        Pauses::OfBoard => scene.board.suspend(move || looks(scene)),
+        Pauses::OfBar => scene.one.suspend(move || looks(scene)),
+        Pauses::OfOtherBar => scene.other.suspend(move || looks(scene)),
+    }
+}
+
+/// The scene's call.
+fn made_call<R: Wait + Clone + Drop>(scene: &Scene<R>) -> Result<Drawn, Refusal> {
+    match scene.call {
+        Call::Inc => scene.one.inc(1),
+        Call::Message => scene.one.set_message("!"),
+        Call::Above => scene.one.println("x"),
+        Call::AboveBoard => scene.board.println("x"),
+        Call::Clear => scene.board.clear(),
+    }
+}
+
+/// Makes the scene's call in its pause. It draws once the pause is over.
+fn calls<R: Wait + Clock + Clone + Drop + Abort>(scene: &Scene<R>) -> Result<Drawn, Refusal> {
+    let rt = &scene.rt;
+    holds!(rt; comes(rt, &scene.stage, PAUSED));
+    scene.stage.store(MADE, Ordering::SeqCst);
+    let answer = made_call(scene);
+    scene.stage.store(ANSWERED, Ordering::SeqCst);
+    answer
+}
+
+/// A thread pauses the scene while another makes its call: this stands there at the end.
+fn waits_for_pause<R: Wait + Threads + Clock + Clone + Drop + Abort + Send + Sync>(
+    rt: &R,
+    scene: &Scene<R>,
+    wanted: &str,
+) {
+    let (paused, answer) = join(rt, || paused(scene), || calls(scene));
+    same!(rt; paused, ((0, Some(10), false), Ok(Drawn::Yes)));
+    same!(rt; answer, Ok(Drawn::Yes));
+    is_seen(rt, scene.alloc, &scene.bytes, wanted);
+}
+
+/// What draws waits for the end of a board's pause, also of one that a bar of it began.
+#[test]
+fn what_draws_waits_for_a_board(rt: HostRuntime) {
+    let rt = &rt;
+    let alloc = rt.alloc();
+    let moved = make_scene(*rt, alloc, (Pauses::OfBoard, Call::Inc));
+    waits_for_pause(rt, &moved, "1/10\nb");
+    let told = make_scene(*rt, alloc, (Pauses::OfOtherBar, Call::Message));
+    waits_for_pause(rt, &told, "0/10!\nb");
+    let above = make_scene(*rt, alloc, (Pauses::OfBar, Call::Above));
+    waits_for_pause(rt, &above, "x\n0/10\nb");
+    let above = make_scene(*rt, alloc, (Pauses::OfOtherBar, Call::AboveBoard));
+    waits_for_pause(rt, &above, "x\n0/10\nb");
+    let cleared = make_scene(*rt, alloc, (Pauses::OfBoard, Call::Clear));
+    waits_for_pause(rt, &cleared, "");
+}
+
+/// So it does for that of a bar that stands alone.
+#[test]
+fn what_draws_waits_for_a_bar(rt: HostRuntime) {
+    let rt = &rt;
+    let alloc = rt.alloc();
+    waits_for_pause(rt, &lone_scene(*rt, alloc, Call::Inc), "1/10");
+    waits_for_pause(rt, &lone_scene(*rt, alloc, Call::Message), "0/10!");
+    waits_for_pause(rt, &lone_scene(*rt, alloc, Call::Above), "x\n0/10");
+}
+
+// ---- what waits for nothing
+
+/// An hour, in nanoseconds.
+const HOUR: u64 = 3_600_000_000_000;
+
+/// While a closure runs: a bar goes, and another comes, whose ticker is told on and off. Nothing is drawn. That bar.
+fn takes_turns<R: Wait + Threads + Clock + Copy + Clone + Drop + Abort + Send + 'static>(
+    rt: &R,
+    scene: &Scene<R>,
+) -> Bar<R> {
+    same!(rt; scene.board.remove(&scene.other), Ok(()));
+    let third = bar_of(&scene.board, *rt, scene.alloc, "c");
+    same!(rt; third.enable_steady_tick(HOUR), Ok(()));
+    same!(rt; tick_off(&third), Ok(()));
+    is_seen(rt, scene.alloc, &scene.bytes, "");
+    third
+}
+
+/// A pause of the scene's board, in which bars come and go.
+fn turns_in_pause<R: Wait + Threads + Clock + Copy + Clone + Drop + Abort + Send + 'static>(
+    scene: &Scene<R>,
+) {
+    let rt = &scene.rt;
+    let (third, drawn) = scene.board.suspend(move || takes_turns(&scene.rt, scene));
+    same!(rt; drawn, Ok(Drawn::Yes));
+    is_seen(rt, scene.alloc, &scene.bytes, "0/10");
+    same!(rt; third.tick(), Ok(Drawn::Yes));
+    is_seen(rt, scene.alloc, &scene.bytes, "0/10\nc");
+}
+
+/// What draws nothing waits for nothing, also in the closure itself.
+#[test]
+fn what_draws_nothing_waits_for_nothing(rt: HostRuntime) {
+    let rt = &rt;
+    turns_in_pause(&make_scene(*rt, rt.alloc(), (Pauses::OfBoard, Call::Inc)));
+}
+
+// ---- tickers
+
+/// A millisecond, in nanoseconds.
+const OFTEN: u64 = 1_000_000;
+
+/// While a closure runs: the first bar's ticker doesn't tick, and nothing stands there.
+fn is_still<R: Wait + Clock + Clone + Drop + Abort>(scene: &Scene<R>) -> bool {
+    let rt = &scene.rt;
+    let before = scene.one.ticks();
+    waits(rt);
+    is_seen(rt, scene.alloc, &scene.bytes, "");
+    scene.one.ticks() == before
+}
+
+/// Ticks before and behind a pause of the board, and of its other bar; none comes in them.
+fn ticks_around<R: Wait + Threads + Clock + Copy + Clone + Drop + Abort + Send + 'static>(
+    scene: &Scene<R>,
+) {
+    let rt = &scene.rt;
+    same!(rt; scene.one.enable_steady_tick(OFTEN), Ok(()));
+    holds!(rt; ticks_on(rt, &scene.one, scene.one.ticks()));
+    let paused = scene.board.suspend(move || is_still(scene));
+    same!(rt; paused, (true, Ok(Drawn::Yes)));
+    holds!(rt; ticks_on(rt, &scene.one, scene.one.ticks()));
+    let paused = scene.other.suspend(move || is_still(scene));
+    same!(rt; paused, (true, Ok(Drawn::Yes)));
+    holds!(rt; ticks_on(rt, &scene.one, scene.one.ticks()));
+    same!(rt; tick_off(&scene.one), Ok(()));
+    is_seen(rt, scene.alloc, &scene.bytes, "0/10\nb");
+}
+
+/// A ticker doesn't tick while a closure runs, of its board or of its bar, and goes on behind it.
+#[test]
+fn a_ticker_waits(rt: HostRuntime) {
+    let rt = &rt;
+    ticks_around(&make_scene(*rt, rt.alloc(), (Pauses::OfBoard, Call::Inc)));
+}
+
+// ---- another target
+
+/// Ticks the first bar until the other thread has changed the target; what stands on the old one has been taken back.
+fn moves_away<R: Wait + Threads + Clock + Copy + Clone + Drop + Abort + Send + 'static>(
+    scene: &Scene<R>,
+) {
+    let rt = &scene.rt;
+    same!(rt; scene.one.enable_steady_tick(OFTEN), Ok(()));
+    holds!(rt; ticks_on(rt, &scene.one, scene.one.ticks()));
+    let bytes = no_bytes(rt, scene.alloc);
+    let target = setup_on(*rt, &bytes, 10).target;
+    scene.board.move_to(target).granted(rt);
+    is_seen(rt, scene.alloc, &scene.bytes, "");
+    holds!(rt; ticks_on(rt, &scene.one, scene.one.ticks().saturating_add(1)));
+    same!(rt; tick_off(&scene.one), Ok(()));
+    is_seen(rt, scene.alloc, &scene.bytes, "");
+    is_seen(rt, scene.alloc, &bytes, "0/10\nb");
+}
+
+/// `move_to` beside a ticker leaves no row on the old target, and bars go on on the new one.
+#[test]
+fn another_target_at_once(rt: HostRuntime) {
+    let rt = &rt;
+    moves_away(&make_scene(*rt, rt.alloc(), (Pauses::OfBoard, Call::Inc)));
+}
