@@ -129,6 +129,8 @@ def statements(block):
         if depth == 0 and "".join(lines).strip():
             yield plain("\n".join(lines)).rstrip(";")
             lines = []
+    # (a bracket in a text may stay open)
+    yield from filter(None, [plain("\n".join(lines)).rstrip(";")])
 
 
 def spellings(statement):
