@@ -67,4 +67,6 @@ tick_held 20000
 message_held 20000
 wrap_iter 20000
 inc_front 20000
+inc_board 20000
+message_board 2000
 LIST

@@ -8,4 +8,3 @@ pub mod Pieces
 pub mod PositionChange
 pub mod Requests
 pub mod SharedBoards
-pub mod TextCommand

@@ -9,12 +9,12 @@
 //! - `locked_bar`: what its lock keeps; `any_bar`: the bar there, alone or on a board; `member_bar`: a bar on a board.
 //! - `board_cell`: a board's lock, and its pauses (`pause`).
 //! - `locked_board`: what a board's lock keeps; `any_board`: the board there, with its history or without.
-//! - `text_command`: what a bar is told with a text; `position_change`: what moves its position.
+//! - `position_change`: what moves its position.
 //! - `ticker`: which steady ticker it has; `steady`: the thread that ticks.
 ghost use Rattle.std.specs.Prelude.{◌≡◌, ◌⊎◌, ℕ, IfErr};
 ghost use Rattle.std.specs.Fn.{FnOnceReturnsAt};
 ghost use Rattle.indicatif_bar.specs.Commands as Command;
-ghost use Rattle.indicatif_bar.specs.Commands.{command_of};
+ghost use Rattle.indicatif_bar.specs.Commands.{command_as};
 ghost use Rattle.indicatif_bar.specs.Finishes as Finish;
 ghost use Rattle.indicatif_bar.specs.Lone as Lone;
 ghost use Rattle.indicatif_bar.specs.Progress.{Progress};
@@ -22,7 +22,6 @@ ghost use Rattle.indicatif_bar.specs.declared.state.commands.Change.{Change as C
 ghost use Rattle.indicatif.specs.Fronts.{CanAnswer, CanDraw, CanMove, CanTurn, IsMissing, MemoryOrForeign, unchanged};
 ghost use Rattle.indicatif.specs.Inside.LockedBar.{OwnerJoins};
 ghost use Rattle.indicatif.specs.Inside.PositionChange.{position_command};
-ghost use Rattle.indicatif.specs.Inside.TextCommand.{text_call};
 
 mod any_bar;
 mod any_board;
@@ -40,7 +39,6 @@ mod readings;
 mod request;
 mod shared_bar;
 mod steady;
-mod text_command;
 mod ticker;
 mod told;
 mod unlocked;
@@ -53,11 +51,11 @@ pub use self::multi::{MultiProgress, RecordReader};
 use self::position_change::PositionChange;
 use self::request::Tried;
 use self::shared_bar::SharedBar;
-use self::text_command::TextCommand;
 pub use self::unlocked::{UnlockedBar, UnlockedBoard};
 pub use self::weak::WeakProgressBar;
 use crate::moves::{Move, Moves, Reading};
 use crate::seek::SeekMax;
+use indicatif_bar::lone::LoneCall;
 use indicatif_bar::state::{BarCommand, Change, ProgressFinish, ProgressState};
 use indicatif_bar::style::{NoTracker, ProgressStyle, Tracks};
 use indicatif_board::multi::{BarId, InsertLocation};
@@ -77,9 +75,10 @@ use std::sync::{Arc, Wait};
 ///
 /// Once the last owner is gone, by `release` or by being dropped, a bar that isn't finished is finished by its stored finish.
 ///
-/// A bar that stands on a board answers as the board does when it is told that call of that bar; so each command may be refused
-/// `NotMember` there, where the board has lost the bar to one of the same id, and `Memory`, where a copy of its text finds none. Where
-/// the board keeps its history, each may be refused `Memory` because that has no room; nothing has changed then.
+/// A text is lent: the bar's record copies its message and its prefix, and nobody copies the lines above a bar. A bar that stands on a
+/// board answers as the board does when it is told that call of that bar; so each command may be refused `NotMember` there, where the
+/// board has lost the bar to one of the same id. Where the board keeps its history, each may be refused `Memory` because that has no
+/// room, or no room for a copy of the text; nothing has changed then.
 ///
 /// Its clauses say which answers a call can have, by the call alone. At most these come: they allow `ForeignBar` too, which a bar's own
 /// board never answers. That the bar under the lock was changed so is what tests show, since no clause can name what a lock keeps.
@@ -106,11 +105,11 @@ impl<T: TermLike + Drop, C: Clock + Drop, R: Wait + Clone + Drop, K: Tracks> Pro
     R,
     K,
 > {
-    /// A command of the bar.
-    fn tell(&self, command: BarCommand<K>) -> Result<Drawn, Refusal>
-        ensures { CanAnswer K (Lone.Obey (command_of command)) result }
+    /// A command of the bar. Its text is lent: nobody copies it but the bar's record, and the history of a board that keeps one.
+    fn tell(&self, command: BarCommand<K, &str>) -> Result<Drawn, Refusal>
+        ensures { CanAnswer K (Lone.Obey (command_as (λ text. text.now) command.entry)) result }
     {
-        self.state.tell(&self.rt, command)
+        self.state.tell(&self.rt, LoneCall::Bar(command))
     }
 
     /// A change of the bar's position. Mostly the lock is free, and no pause is on: two comparisons tell that.
@@ -126,13 +125,6 @@ impl<T: TermLike + Drop, C: Clock + Drop, R: Wait + Clone + Drop, K: Tracks> Pro
             }
         }
         self.tell(change.command())
-    }
-
-    /// A call of the bar with a text.
-    fn tell_text(&self, told: TextCommand, text: &str) -> Result<Drawn, Refusal>
-        ensures { CanAnswer K (text_call told text.now) result }
-    {
-        self.state.tell_text(&self.rt, told, text)
     }
 
     /// One more tick, up to 2^64 - 1, and a draw: a spinner shows its next text. While a steady ticker is on, nothing changes.
@@ -201,14 +193,14 @@ impl<T: TermLike + Drop, C: Clock + Drop, R: Wait + Clone + Drop, K: Tracks> Pro
     pub fn set_message(&self, text: &str) -> Result<Drawn, Refusal>
         ensures { CanAnswer K (Lone.Obey (Command.SetMessage text.now)) result }
     {
-        self.tell_text(TextCommand::Message, text)
+        self.tell(BarCommand::SetMessage(text))
     }
 
     /// Sets the prefix, and asks for a draw. It shows only where the template has `{prefix}`.
     pub fn set_prefix(&self, text: &str) -> Result<Drawn, Refusal>
         ensures { CanAnswer K (Lone.Obey (Command.SetPrefix text.now)) result }
     {
-        self.tell_text(TextCommand::Prefix, text)
+        self.tell(BarCommand::SetPrefix(text))
     }
 
     /// Sets the style, and gives it the bar's width of tabs. Asks for no draw: the next one is in this style.
@@ -269,7 +261,7 @@ impl<T: TermLike + Drop, C: Clock + Drop, R: Wait + Clone + Drop, K: Tracks> Pro
     pub fn finish_with_message(&self, text: &str) -> Result<Drawn, Refusal>
         ensures { CanAnswer K (Lone.Obey (Command.Finish (Finish.WithMessage text.now))) result }
     {
-        self.tell_text(TextCommand::Finish, text)
+        self.tell(BarCommand::Finish(ProgressFinish::WithMessage(text)))
     }
 
     /// Finishes the bar at its length, if it has one, and forces a draw. The bar leaves the screen: it has no more lines.
@@ -290,7 +282,7 @@ impl<T: TermLike + Drop, C: Clock + Drop, R: Wait + Clone + Drop, K: Tracks> Pro
     pub fn abandon_with_message(&self, text: &str) -> Result<Drawn, Refusal>
         ensures { CanAnswer K (Lone.Obey (Command.Finish (Finish.AbandonWithMessage text.now))) result }
     {
-        self.tell_text(TextCommand::Abandon, text)
+        self.tell(BarCommand::Finish(ProgressFinish::AbandonWithMessage(text)))
     }
 
     /// Finishes the bar by its stored finish (`with_finish`; the default is `AndClear`), and forces a draw.
@@ -322,7 +314,7 @@ impl<T: TermLike + Drop, C: Clock + Drop, R: Wait + Clone + Drop, K: Tracks> Pro
     pub fn println(&self, text: &str) -> Result<Drawn, Refusal>
         ensures { CanAnswer K (Lone.Log text.now) result }
     {
-        self.tell_text(TextCommand::Log, text)
+        self.state.tell(&self.rt, LoneCall::Log(text))
     }
 
     /// Takes the bar's rows back (on a board the rows of all bars), calls `f` once, and forces a draw, at the moment of the clear. It returns

@@ -1,4 +1,6 @@
 -- A bar's record and what each command makes of it. Texts are lists of bytes in UTF-8, moments and times nanoseconds.
+use Rattle.std.specs.declared.string.String.{String}
+use Rattle.std.specs.declared.alloc.Global.{Global}
 use Rattle.std.specs.Prelude.{not, ◌||◌, ◌==◌, ℕ, string_bytes, ◌+◌, ◌-◌, ◌%◌, ◌^◌, Bool, true, false, nat_lt, min, List, Option, Some, None, if◌then◌else◌, unwrap_or, option_map}
 use Rattle.indicatif_bar.specs.declared.ask.Ask.{Ask}
 use Rattle.indicatif_bar.specs.declared.ask.Ask.TheVariants.{No, Unforced, Forced}
@@ -10,7 +12,7 @@ use Rattle.indicatif_bar.specs.Trackers.{Tracking, changed_trackers}
 use Rattle.indicatif_bar.specs.Styles.{BarStyle}
 use Rattle.indicatif_bar.specs.declared.state.commands.BarCommand.{BarCommand}
 use Rattle.indicatif_bar.specs.declared.state.commands.BarCommand.TheVariants as told
-use Rattle.indicatif_bar.specs.Finishes.{BarFinish, AndClear, finish_of, finished_by, finish_takes_memory}
+use Rattle.indicatif_bar.specs.Finishes.{BarFinish, AndClear, finish_as, finish_of, finished_by, finish_takes_memory}
 
 pub record BarRecord (K : Type 0) : Type 0 where
   pub progress : Progress
@@ -198,32 +200,36 @@ copy_takes_memory _ = false
 
 -- ---- commands as values
 
--- the command that a value stands for
-abbrev pub command_of : {K : Type 0} → BarCommand K → Command K
-command_of told.Tick = Tick
-command_of told.TickerTick = TickerTick
-command_of (told.SetTicker installed) = SetTicker installed
-command_of (told.Inc n) = Inc n
-command_of (told.Dec n) = Dec n
-command_of (told.SetPosition position) = SetPosition position
-command_of (told.Update change) = Update change.pos change.len
-command_of (told.SetLength n) = SetLength n
-command_of told.UnsetLength = UnsetLength
-command_of (told.IncLength n) = IncLength n
-command_of (told.DecLength n) = DecLength n
-command_of (told.SetMessage text) = SetMessage (string_bytes text)
-command_of (told.SetPrefix text) = SetPrefix (string_bytes text)
-command_of (told.SetStyle style) = SetStyle style
-command_of (told.WithPosition position) = WithPosition position
-command_of (told.WithMessage text) = WithMessage (string_bytes text)
-command_of (told.WithPrefix text) = WithPrefix (string_bytes text)
-command_of (told.WithFinish finish) = WithFinish (finish_of finish)
-command_of (told.WithTabWidth tab) = WithTabWidth tab
-command_of (told.SetTabWidth tab) = SetTabWidth tab
-command_of (told.SetElapsed nanos) = SetElapsed nanos
-command_of told.ResetEta = ResetEta
-command_of told.ResetElapsed = ResetElapsed
-command_of told.Reset = Reset
-command_of (told.Finish by) = Finish (finish_of by)
-command_of told.FinishUsingStyle = FinishUsingStyle
-command_of told.ForceDraw = ForceDraw
+-- the command that a value stands for, whose text has these bytes
+abbrev pub command_as : {K S : Type 0} → (S → List ℕ) → BarCommand K S → Command K
+command_as bytes told.Tick = Tick
+command_as bytes told.TickerTick = TickerTick
+command_as bytes (told.SetTicker installed) = SetTicker installed
+command_as bytes (told.Inc n) = Inc n
+command_as bytes (told.Dec n) = Dec n
+command_as bytes (told.SetPosition position) = SetPosition position
+command_as bytes (told.Update change) = Update change.pos change.len
+command_as bytes (told.SetLength n) = SetLength n
+command_as bytes told.UnsetLength = UnsetLength
+command_as bytes (told.IncLength n) = IncLength n
+command_as bytes (told.DecLength n) = DecLength n
+command_as bytes (told.SetMessage text) = SetMessage (bytes text)
+command_as bytes (told.SetPrefix text) = SetPrefix (bytes text)
+command_as bytes (told.SetStyle style) = SetStyle style
+command_as bytes (told.WithPosition position) = WithPosition position
+command_as bytes (told.WithMessage text) = WithMessage (bytes text)
+command_as bytes (told.WithPrefix text) = WithPrefix (bytes text)
+command_as bytes (told.WithFinish finish) = WithFinish (finish_of finish)
+command_as bytes (told.WithTabWidth tab) = WithTabWidth tab
+command_as bytes (told.SetTabWidth tab) = SetTabWidth tab
+command_as bytes (told.SetElapsed nanos) = SetElapsed nanos
+command_as bytes told.ResetEta = ResetEta
+command_as bytes told.ResetElapsed = ResetElapsed
+command_as bytes told.Reset = Reset
+command_as bytes (told.Finish by) = Finish (finish_as bytes by)
+command_as bytes told.FinishUsingStyle = FinishUsingStyle
+command_as bytes told.ForceDraw = ForceDraw
+
+-- the same of one with a text of its own
+abbrev pub command_of : {K : Type 0} → BarCommand K (String Global) → Command K
+command_of command = command_as string_bytes command

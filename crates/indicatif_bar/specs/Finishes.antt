@@ -1,4 +1,6 @@
 -- How a bar is finished. Texts are lists of bytes, in UTF-8.
+use Rattle.std.specs.declared.string.String.{String}
+use Rattle.std.specs.declared.alloc.Global.{Global}
 use Rattle.std.specs.Prelude.{ℕ, Bool, false, List, string_bytes}
 use Rattle.indicatif_bar.specs.declared.progress.Status.TheVariants.{DoneVisible, DoneHidden}
 use Rattle.indicatif_bar.specs.declared.finish.ProgressFinish.{ProgressFinish}
@@ -14,13 +16,17 @@ pub data BarFinish : Type 0 where
   Abandon : BarFinish
   AbandonWithMessage : (text : List ℕ) → BarFinish
 
--- the same of a finish as a value
-abbrev pub finish_of : ProgressFinish → BarFinish
-finish_of by.AndLeave = AndLeave
-finish_of (by.WithMessage text) = WithMessage (string_bytes text)
-finish_of by.AndClear = AndClear
-finish_of by.Abandon = Abandon
-finish_of (by.AbandonWithMessage text) = AbandonWithMessage (string_bytes text)
+-- the same of a finish as a value, whose message has these bytes
+abbrev pub finish_as : {S : Type 0} → (S → List ℕ) → ProgressFinish S → BarFinish
+finish_as bytes by.AndLeave = AndLeave
+finish_as bytes (by.WithMessage text) = WithMessage (bytes text)
+finish_as bytes by.AndClear = AndClear
+finish_as bytes by.Abandon = Abandon
+finish_as bytes (by.AbandonWithMessage text) = AbandonWithMessage (bytes text)
+
+-- the same of one with a message of its own
+abbrev pub finish_of : ProgressFinish (String Global) → BarFinish
+finish_of finish = finish_as string_bytes finish
 
 -- the progress after a finish
 abbrev pub finished_by : BarFinish → Progress → Progress

@@ -1,4 +1,6 @@
 -- What contracts see of a lone bar: its record, its terminal, whether it is in a given state, and what a call leads to.
+use Rattle.std.specs.declared.string.String.{String}
+use Rattle.std.specs.declared.alloc.Global.{Global}
 use Rattle.std.specs.Prelude.{◌≡◌, ◌⊎◌, ℕ, Bool, IsTrue, IsFalse, string_bytes, Option, option_map, List, [], ◌∷◌, Result, Ok, Err, refl}
 use Rattle.indicatif_text.specs.declared.refusal.Refusal.{Refusal}
 use Rattle.indicatif_text.specs.declared.refusal.Refusal.TheVariants.{Memory, ElapsedBeyondClock}
@@ -6,7 +8,7 @@ use Rattle.indicatif_text.specs.declared.refusal.Drawn.{Drawn}
 use Rattle.indicatif_term.specs.Calls.{TermView}
 use Rattle.indicatif_term.specs.Engines.{engine_moves, engine_term}
 use Rattle.indicatif_bar.specs.Trackers.{Tracking}
-use Rattle.indicatif_bar.specs.Commands.{BarRecord, Command, ForceDraw, obeyed, command_of, is_beyond_clock, takes_memory}
+use Rattle.indicatif_bar.specs.Commands.{BarRecord, Command, ForceDraw, obeyed, command_as, is_beyond_clock, takes_memory}
 use Rattle.indicatif_bar.specs.Bars.{bar_kind}
 use Rattle.indicatif_bar.specs.Machines.{Machine, target_of}
 use Rattle.indicatif_bar.specs.Runs.{CallMade, Runs, wrote}
@@ -110,12 +112,16 @@ RecordsGo m [] [] bar bar' = bar' ≡ bar
 RecordsGo {K} m (call ∷ calls) (answer ∷ answers) bar bar' = (x : BarRecord K) × RecordGoes m call.0 call.1 answer bar x × RecordsGo m calls answers x bar'
 RecordsGo m _ _ bar bar' = ⊥
 
--- a call that is a value, as its definition
-abbrev pub lone_call_of : {K : Type 0} → LoneCallValue K → LoneCall (Command K)
-lone_call_of (BarCall command) = Obey (command_of command)
-lone_call_of (LogCall text) = Log (string_bytes text)
-lone_call_of ClearCall = Clear
+-- a call that is a value, as its definition; its text has these bytes
+abbrev pub lone_call_as : {K S : Type 0} → (S → List ℕ) → LoneCallValue K S → LoneCall (Command K)
+lone_call_as bytes (BarCall command) = Obey (command_as bytes command)
+lone_call_as bytes (LogCall text) = Log (bytes text)
+lone_call_as bytes ClearCall = Clear
+
+-- the same of one with a text of its own
+abbrev pub lone_call_of : {K : Type 0} → LoneCallValue K (String Global) → LoneCall (Command K)
+lone_call_of call = lone_call_as string_bytes call
 
 -- the same with its moment
-abbrev pub lone_timed : {K : Type 0} → LoneCallValue K × ℕ → LoneCall (Command K) × ℕ
+abbrev pub lone_timed : {K : Type 0} → LoneCallValue K (String Global) × ℕ → LoneCall (Command K) × ℕ
 lone_timed c = (lone_call_of c.0, c.1)

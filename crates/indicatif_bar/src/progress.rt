@@ -3,7 +3,7 @@ ghost use Rattle.std.specs.Prelude.{◌≡◌, ◌+◌, ◌||◌, min, OnOk, OnE
 ghost use Rattle.indicatif_bar.specs.Measures.{greatest_u64, recorded};
 ghost use Rattle.indicatif_bar.specs.Tabs.{has_tab, is_some_text};
 ghost use Rattle.indicatif_bar.specs.Progress.{Progress, is_finished, is_hidden, fraction, eta, duration, per_sec, elapsed, shown_message, shown_prefix, new_progress, rate_reset, progress_reset, at_end};
-ghost use Rattle.indicatif_bar.specs.Finishes.{finish_of, finished_by, finish_takes_memory};
+ghost use Rattle.indicatif_bar.specs.Finishes.{finish_as, finished_by, finish_takes_memory};
 ghost use Rattle.indicatif_bar.specs.Inside.Widths.{IsWidened};
 ghost use Rattle.indicatif_bar.specs.declared.progress.Status.TheVariants.{DoneVisible};
 
@@ -11,6 +11,7 @@ use crate::finish::ProgressFinish;
 use crate::measures::Samples;
 pub use crate::measures::{Fraction, Rate};
 use crate::tabbed_text::TabbedText;
+use crate::text::Text;
 use indicatif_text::columns::{Moment, Refusal};
 use std::alloc::Global;
 use std::fmt::{self, Debug, Formatter};
@@ -352,21 +353,25 @@ impl ProgressState {
     /// It is finished so at this moment.
     ///
     /// Refused: `Memory`, where the finish has a message; nothing has changed then.
-    pub(crate) fn finish_by(&mut self, finish: &ProgressFinish, now: Moment) -> Result<(), Refusal>
-        ensures done { OnOk result (self.new ≡ finished_by (finish_of finish.now) (record self.old { took = elapsed self.old now })) }
+    pub(crate) fn finish_by<S: Text>(
+        &mut self,
+        finish: &ProgressFinish<S>,
+        now: Moment,
+    ) -> Result<(), Refusal>
+        ensures done { OnOk result (self.new ≡ finished_by (finish_as S.bytes finish.now) (record self.old { took = elapsed self.old now })) }
         ensures unchanged { OnErr result (self.new ≡ self.old) }
-        ensures memory { IfErr result (λ e. (e ≡ Refusal.Memory) × IsTrue (finish_takes_memory (finish_of finish.now))) }
+        ensures memory { IfErr result (λ e. (e ≡ Refusal.Memory) × IsTrue (finish_takes_memory (finish_as S.bytes finish.now))) }
     {
         match finish {
             ProgressFinish::AndLeave => self.finish(Status::DoneVisible, now),
             ProgressFinish::WithMessage(text) => {
-                self.set_message(text.as_str())?;
+                self.set_message(text.as_text())?;
                 self.finish(Status::DoneVisible, now);
             }
             ProgressFinish::AndClear => self.finish(Status::DoneHidden, now),
             ProgressFinish::Abandon => self.abandon(now),
             ProgressFinish::AbandonWithMessage(text) => {
-                self.set_message(text.as_str())?;
+                self.set_message(text.as_text())?;
                 self.abandon(now);
             }
         }

@@ -1,9 +1,9 @@
 //! Calls and answers equal to others.
-ghost use Rattle.std.specs.Prelude.{◌≡◌, string_bytes, IfOk, IfErr, IsTrue};
-ghost use Rattle.indicatif_bar.specs.Tabs.{is_some_text};
+ghost use Rattle.std.specs.Prelude.{◌≡◌, IfOk, IfErr, IsTrue};
 ghost use Rattle.indicatif_board.specs.Calls.{call_of, entrant_of, call_copy_takes, entrant_copy_takes};
 
 use crate::calls::{Answer, Call, Candidate};
+use indicatif_bar::state::own_text;
 use indicatif_bar::style::Tracks;
 use indicatif_text::columns::Refusal;
 use std::alloc::Global;
@@ -27,8 +27,8 @@ impl<K: Tracks> Call<K> {
             },
             Call::Remove(id) => Call::Remove(*id),
             Call::Drop(id) => Call::Drop(*id),
-            Call::Log(text) => Call::Log(same_text(alloc, text)?),
-            Call::BarLog(id, text) => Call::BarLog(*id, same_text(alloc, text)?),
+            Call::Log(text) => Call::Log(own_text(alloc, text)?),
+            Call::BarLog(id, text) => Call::BarLog(*id, own_text(alloc, text)?),
             Call::Clear => Call::Clear,
             Call::Redraw => Call::Redraw,
             Call::Align(alignment) => Call::Align(*alignment),
@@ -72,15 +72,4 @@ impl Answer {
             Answer::Refused(refusal) => Answer::Refused(*refusal),
         }
     }
-}
-
-/// The same text. An empty one takes no memory.
-fn same_text(alloc: Global, text: &String) -> Result<String, Refusal>
-    ensures same { IfOk result (λ other. string_bytes other ≡ string_bytes text.now) }
-    ensures memory { IfErr result (λ e. (e ≡ Refusal.Memory) × IsTrue (is_some_text (string_bytes text.now))) }
-{
-    if text.is_empty() {
-        return Ok(String::new(alloc));
-    }
-    Ok(String::from_str(alloc, text.as_str())?)
 }

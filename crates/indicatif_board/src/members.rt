@@ -3,9 +3,9 @@ ghost use Rattle.std.specs.Prelude.{◌≡◌, ◌<◌, ◌≤◌, ◌+◌, ◌+
 ghost use Rattle.std.specs.List.{insert, remove, prefix_len, position_or_len};
 ghost use Rattle.std.specs.VecDeque.{deque_len, deque_capacity};
 ghost use Rattle.indicatif_bar.specs.Progress.{is_finished};
-ghost use Rattle.indicatif_bar.specs.Commands.{FinishUsingStyle, command_of, obeyed, after_drop, takes_memory, is_beyond_clock};
+ghost use Rattle.indicatif_bar.specs.Commands.{FinishUsingStyle, command_as, obeyed, after_drop, takes_memory, is_beyond_clock};
 
-use indicatif_bar::state::{Ask, BarCommand, BarState};
+use indicatif_bar::state::{Ask, BarCommand, BarState, Text};
 use indicatif_bar::style::Tracks;
 use indicatif_text::columns::{Moment, Refusal};
 use std::alloc::Global;
@@ -69,16 +69,16 @@ impl<K: Tracks> Seated<K> {
         self.member.dropped
     }
 
-    /// Its bar is told something, as `BarState::apply`.
-    pub fn obey(&mut self, command: BarCommand<K>, now: Moment) -> Result<Ask, Refusal>
-        ensures done { IfOk result (λ ask. (self.new.bar, ask) ≡ obeyed K.means (command_of command) self.old.bar now) }
+    /// Its bar is told something, as `BarState::tell`.
+    pub fn obey<S: Text>(&mut self, command: BarCommand<K, S>, now: Moment) -> Result<Ask, Refusal>
+        ensures done { IfOk result (λ ask. (self.new.bar, ask) ≡ obeyed K.means (command_as S.bytes command) self.old.bar now) }
         ensures unchanged { OnErr result (self.new.bar ≡ self.old.bar) }
-        ensures beyond { (result ≡ Err Refusal.ElapsedBeyondClock) ↔ IsTrue (is_beyond_clock (command_of command) now) }
-        ensures memory { result ≡ Err Refusal.Memory → IsTrue (takes_memory (command_of command) self.old.bar) }
+        ensures beyond { (result ≡ Err Refusal.ElapsedBeyondClock) ↔ IsTrue (is_beyond_clock (command_as S.bytes command) now) }
+        ensures memory { result ≡ Err Refusal.Memory → IsTrue (takes_memory (command_as S.bytes command) self.old.bar) }
         ensures no_other { IfErr result (λ e. (e ≡ Refusal.ElapsedBeyondClock) ⊎ (e ≡ Refusal.Memory)) }
         ensures stays { self.new ≡ record self.old { bar = self.new.bar } }
     {
-        self.member.bar.apply(command, now)
+        self.member.bar.tell(command, now)
     }
 
     /// Its bar's owner is gone, as `BarState::dropped`; the member itself doesn't say so yet.

@@ -8,7 +8,7 @@ ghost use Rattle.std.specs.Prelude.{◌≡◌, ◌≢◌, ◌==◌, ◌↔◌, �
 ghost use Rattle.std.specs.VecDeque.{deque_len};
 ghost use Rattle.indicatif_term.specs.Lists.{opening_lists};
 ghost use Rattle.indicatif_term.specs.DrawTargets.{is_bottom, term_of, limiter_of};
-ghost use Rattle.indicatif_bar.specs.Commands.{BarRecord, command_of, is_beyond_clock};
+ghost use Rattle.indicatif_bar.specs.Commands.{BarRecord, command_as, command_of, is_beyond_clock};
 ghost use Rattle.indicatif_bar.specs.Machines.{target_of};
 ghost use Rattle.indicatif_bar.specs.Runs.{wrote};
 ghost use Rattle.indicatif_bar.specs.Shown.{DrewOn};
@@ -31,7 +31,7 @@ pub use crate::recorded::{Entry, Opening, Recorded, Size};
 use crate::shown_bars::ShownBars;
 pub use crate::slots::MultiState;
 use indicatif_bar::stage::{Stage, Writing};
-use indicatif_bar::state::{Ask, BarCommand, BarState};
+use indicatif_bar::state::{Ask, BarCommand, BarState, Text};
 use indicatif_bar::style::Tracks;
 use indicatif_term::draw_target::{MultiProgressAlignment, ProgressDrawTarget};
 use indicatif_term::term_like::{Resize, TermLike};
@@ -192,10 +192,46 @@ impl<K: Tracks, T: TermLike + Drop> Board<K, T> {
         self.shown.alignment = alignment;
     }
 
-    /// A command of a bar, and the draw that it asks for.
+    /// A command of a bar, whose text may be lent, and the draw that it asks for.
+    ///
+    /// ```
+    /// board.tell(id, BarCommand::SetMessage("copying"), now)?; // no copy of the text is made but the record's
+    /// ```
     ///
     /// Refused: `ForeignBar`, `NotMember`, `NoColumns`, `TooWide`, `Terminal` or `Memory`, as `Board` says; and
     /// `ElapsedBeyondClock`, where the command sets an elapsed time that is more than the moment: nothing has changed then.
+    pub fn tell<S: Text>(
+        &mut self,
+        id: BarId,
+        command: BarCommand<K, S>,
+        now: Moment,
+    ) -> Result<Drawn, Refusal>
+        ensures silent { IsFalse (wrote result) → terminal_of self.new ≡ terminal_of self.old }
+        ensures nowhere { IsNowhere T.view self.old → IsFalse (wrote result) }
+        ensures board_id { board_id_of self.new ≡ board_id_of self.old }
+        ensures moves { moves_of self.new ≡ moves_of self.old }
+        ensures leads { LeadsBy K.means T.view self.old self.new (Tell (id_of id) (command_as S.bytes command)) now (says result) }
+        ensures foreign { id.board ≢ board_id_of self.old → (result ≡ Err Refusal.ForeignBar) × (self.new ≡ self.old) }
+        ensures not_member { id.board ≡ board_id_of self.old → (result ≡ Err Refusal.NotMember) ↔ (record_at id.number self.old ≡ None) }
+        ensures beyond { id.board ≡ board_id_of self.old → IsTrue (is_some (record_at id.number self.old)) →
+            (result ≡ Err Refusal.ElapsedBeyondClock) ↔ IsTrue (is_beyond_clock (command_as S.bytes command) now) }
+        ensures unchanged { result ≡ Err Refusal.NotMember → self.new ≡ self.old }
+        ensures untouched { result ≡ Err Refusal.ElapsedBeyondClock → AllStays self.old self.new }
+        ensures record { id.board ≡ board_id_of self.old → RecordObeys K.means id.number (command_as S.bytes command) now result self.old self.new }
+        ensures slots { SlotsLeft self.old self.new }
+        ensures head { result ≡ Ok Drawn.Yes → HeadHasRecord self.new }
+        ensures stay { result ≢ Ok Drawn.Yes → slots_of self.new ≡ slots_of self.old }
+        ensures others { OtherRecordsStay id.number self.old self.new }
+    {
+        let at = self.find(id)?;
+        let shown = &mut self.shown;
+        let ask = shown.members[at].obey(command, now)?;
+        self.draw(ask, Some(at), Writing::Frame, now)
+    }
+
+    /// As `tell`, for a command with a text of its own.
+    ///
+    /// Refused: as `tell`.
     pub fn command(
         &mut self,
         id: BarId,
@@ -219,10 +255,7 @@ impl<K: Tracks, T: TermLike + Drop> Board<K, T> {
         ensures stay { result ≢ Ok Drawn.Yes → slots_of self.new ≡ slots_of self.old }
         ensures others { OtherRecordsStay id.number self.old self.new }
     {
-        let at = self.find(id)?;
-        let shown = &mut self.shown;
-        let ask = shown.members[at].obey(command, now)?;
-        self.draw(ask, Some(at), Writing::Frame, now)
+        self.tell(id, command, now)
     }
 
     /// Writes the text's lines above the bars, by force; the bars go on below them. A line is ended by `\n` or `\r\n`; an empty text is one empty line;

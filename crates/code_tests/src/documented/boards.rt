@@ -1,6 +1,6 @@
 //! Examples of a board.
 use crate::checks::Granted;
-use indicatif_bar::state::BarState;
+use indicatif_bar::state::{BarCommand, BarState};
 use indicatif_bar::style::{NoTracker, ProgressStyle};
 use indicatif_board::multi::{Answer, BarId, Board, Call, Candidate, InsertLocation};
 use indicatif_term::draw_target::ProgressDrawTarget;
@@ -112,6 +112,10 @@ fn answers_of_calls(rt: HostRuntime) {
     let now = 0;
     let mut board = board_of(rt, alloc);
     let id = take_in(rt, alloc, &mut board);
+    board
+        .tell(id, BarCommand::SetMessage("copying"), now)
+        .granted(rt);
+    same!(rt; board.bar(id).granted(rt).message(), "copying");
     log_and_clear(rt, alloc, &mut board);
     let (answer, removed) = board.apply(Call::Remove(id), now);
     same!(rt; answer, Answer::Done);

@@ -61,6 +61,8 @@ fn commands_and_copies(rt: HostRuntime) {
     let before = bar.try_clone().granted(rt);
     bar.inc(1, now);
     same!(rt; (before.state().pos(), bar.state().pos()), (3, 4));
+    let ask = bar.tell(BarCommand::SetMessage("copying"), now).granted(rt);
+    same!(rt; (bar.message(), ask), ("copying", Ask::Unforced));
 }
 
 /// The rate since a reset; what asks for draws; and a finish that leaves the bar.

@@ -1,20 +1,23 @@
 //! A board without its history, or with it.
 ghost use Rattle.std.specs.Prelude.{◌≡◌, ◌⊎◌, ℕ, Some, None, IfOk, IfErr, IfSome, Ok, Err, MatchResult};
-ghost use Rattle.indicatif_bar.specs.Commands.{command_of};
-ghost use Rattle.indicatif_board.specs.Boards.{Tell, Remove, Refused, drawn_of};
+ghost use Rattle.indicatif_bar.specs.LoneBars.{lone_call_as};
+ghost use Rattle.indicatif_board.specs.Boards.{Log, Remove, Refused, drawn_of, says};
 ghost use Rattle.indicatif_board.specs.BoardValues.{id_of};
 ghost use Rattle.indicatif_board.specs.Calls.{call_of, answer_of};
+ghost use Rattle.indicatif_board.specs.Multi.{LeadsBy};
 ghost use Rattle.indicatif_board.specs.Recorded.{IsOneRun};
 ghost use Rattle.indicatif.specs.Fronts.{CanClear};
 ghost use Rattle.indicatif.specs.Inside.AnyBoard.{BoardMakes, BoardDraws, BoardRemoves, BoardTurns, BoardMoves, BoardMovesTo, refused_with};
-ghost use Rattle.indicatif.specs.Inside.SharedBoards.{SharedAnswers, SharedDraws, given_by};
+ghost use Rattle.indicatif.specs.Inside.SharedBoards.{SharedAnswers, SharedDraws, given_by, on_board};
 
-use indicatif_bar::state::{BarCommand, BarState};
+use indicatif_bar::lone::LoneCall;
+use indicatif_bar::state::{BarState, Text, own_text};
 use indicatif_bar::style::Tracks;
 use indicatif_board::multi::{Answer, BarId, Board, Call, Recorded};
 use indicatif_term::draw_target::ProgressDrawTarget;
 use indicatif_term::term_like::TermLike;
 use indicatif_text::columns::{Drawn, Moment, Refusal};
+use std::alloc::Global;
 
 /// A board, with its history or without.
 #[derive(Drop)]
@@ -52,17 +55,43 @@ impl<K: Tracks, T: TermLike + Drop> AnyBoard<K, T> {
         drawn_of(self.call(call, now))
     }
 
-    /// A command of a bar. No call is made of it where no history keeps that.
-    pub fn tell(&mut self, id: BarId, command: BarCommand<K>, now: Moment) -> Result<Drawn, Refusal>
-        ensures made { BoardDraws K.means T.view self.old (Tell (id_of id) (command_of command)) now result self.new }
-        ensures can { SharedDraws K (Tell (id_of id) (command_of command)) result }
+    /// A call of a bar that is on the board. Its text is copied, by `alloc`, only where a history keeps it.
+    pub fn tell<S: Text>(
+        &mut self,
+        id: BarId,
+        call: LoneCall<K, S>,
+        alloc: Global,
+        now: Moment,
+    ) -> Result<Drawn, Refusal>
+        ensures made { BoardDraws K.means T.view self.old (on_board (id_of id) (lone_call_as S.bytes call)) now result self.new }
+        ensures can { SharedDraws K (on_board (id_of id) (lone_call_as S.bytes call)) result }
     {
         match self {
             AnyBoard::Open(board) => {
                 board.order();
-                board.command(id, command, now)
+                tell_board(board, id, call, now)
             }
-            AnyBoard::Recorded(_) => self.draw(Call::Bar(id, command), now),
+            AnyBoard::Recorded(_) => match call_of_bar(id, &call, alloc) {
+                Ok(kept) => self.draw(kept, now),
+                Err(_) => Err(Refusal::Memory),
+            },
+        }
+    }
+
+    /// Lines of text above the bars. The text is copied, by `alloc`, only where a history keeps it.
+    pub fn println(&mut self, text: &str, alloc: Global, now: Moment) -> Result<Drawn, Refusal>
+        ensures made { BoardDraws K.means T.view self.old (Log text.now) now result self.new }
+        ensures can { SharedDraws K (Log text.now) result }
+    {
+        match self {
+            AnyBoard::Open(board) => {
+                board.order();
+                board.println(text, now)
+            }
+            AnyBoard::Recorded(_) => match String::from_str(alloc, text) {
+                Ok(kept) => self.draw(Call::Log(kept), now),
+                Err(_) => Err(Refusal::Memory),
+            },
         }
     }
 
@@ -146,6 +175,37 @@ impl<K: Tracks, T: TermLike + Drop> AnyBoard<K, T> {
             }
         }
     }
+}
+
+/// A call of a bar that is on a board without a history.
+fn tell_board<K: Tracks, T: TermLike + Drop, S: Text>(
+    board: &mut Board<K, T>,
+    id: BarId,
+    call: LoneCall<K, S>,
+    now: Moment,
+) -> Result<Drawn, Refusal>
+    ensures { LeadsBy K.means T.view board.old board.new (on_board (id_of id) (lone_call_as S.bytes call)) now (says result) }
+{
+    match call {
+        LoneCall::Bar(command) => board.tell(id, command, now),
+        LoneCall::Log(text) => board.bar_println(id, text.as_text(), now),
+        LoneCall::Clear => board.clear(now),
+    }
+}
+
+/// The same as a value that a history keeps, with a text of its own.
+fn call_of_bar<K: Tracks, S: Text>(
+    id: BarId,
+    call: &LoneCall<K, S>,
+    alloc: Global,
+) -> Result<Call<K>, Refusal>
+    ensures { IfOk result (λ kept. call_of kept ≡ on_board (id_of id) (lone_call_as S.bytes call.now)) }
+{
+    Ok(match call {
+        LoneCall::Bar(command) => Call::Bar(id, command.try_clone(alloc)?),
+        LoneCall::Log(text) => Call::BarLog(id, own_text(alloc, text)?),
+        LoneCall::Clear => Call::Clear,
+    })
 }
 
 /// What a board with its history answered.

@@ -6,7 +6,6 @@ ghost use Rattle.indicatif_bar.specs.Lone as Lone;
 ghost use Rattle.indicatif.specs.Fronts.{CanAnswer};
 
 use crate::progress_bar::ProgressBar;
-use crate::progress_bar::text_command::TextCommand;
 use indicatif_bar::state::{BarCommand, ProgressFinish};
 use indicatif_bar::style::{ProgressStyle, Tracks};
 use indicatif_term::term_like::TermLike;
@@ -50,7 +49,7 @@ impl<T: TermLike + Drop, C: Clock + Drop, R: Wait + Clone + Drop, K: Tracks> Pro
     pub fn with_prefix(self, text: &str) -> Result<Self, Refusal>
         ensures { IfErr result (λ e. CanAnswer K (Lone.Obey (Command.WithPrefix text.now)) (Err e)) }
     {
-        match self.tell_text(TextCommand::WithPrefix, text) {
+        match self.tell(BarCommand::WithPrefix(text)) {
             Ok(_) => Ok(self),
             Err(refusal) => Err(refusal),
         }
@@ -62,7 +61,7 @@ impl<T: TermLike + Drop, C: Clock + Drop, R: Wait + Clone + Drop, K: Tracks> Pro
     pub fn with_message(self, text: &str) -> Result<Self, Refusal>
         ensures { IfErr result (λ e. CanAnswer K (Lone.Obey (Command.WithMessage text.now)) (Err e)) }
     {
-        match self.tell_text(TextCommand::WithMessage, text) {
+        match self.tell(BarCommand::WithMessage(text)) {
             Ok(_) => Ok(self),
             Err(refusal) => Err(refusal),
         }

@@ -2,9 +2,9 @@
 ghost use Rattle.std.specs.Prelude.{◌≡◌, ◌≢◌, ◌<◌, ◌-◌, ℕ, Some, None, Ok, Err, true, false, IsTrue, IsFalse, IfOk, IfErr, MatchResult};
 ghost use Rattle.std.specs.Fn.{FnOnceReturnsAt};
 ghost use Rattle.indicatif_term.specs.DrawTargets.{term_of};
-ghost use Rattle.indicatif_bar.specs.Commands.{Update, SetTicker, SetPosition, FinishUsingStyle, command_of};
+ghost use Rattle.indicatif_bar.specs.Commands.{Update, SetTicker, SetPosition, FinishUsingStyle};
 ghost use Rattle.indicatif_bar.specs.Lone as Lone;
-ghost use Rattle.indicatif_bar.specs.LoneBars.{record_of};
+ghost use Rattle.indicatif_bar.specs.LoneBars.{lone_call_as, record_of};
 ghost use Rattle.indicatif_bar.specs.Progress.{eta, per_sec, duration, elapsed, is_finished};
 ghost use Rattle.indicatif_bar.specs.declared.state.commands.Change.{Change as Changed};
 ghost use Rattle.indicatif.specs.Fronts.{IsMissing, MemoryOrForeign};
@@ -12,7 +12,6 @@ ghost use Rattle.indicatif.specs.Inside.Requests.{BarTries, BarHalts, BarRedraws
 ghost use Rattle.indicatif.specs.Inside.AnyBar.{MadeBy, BarMakes, BarEnds, BarLeaves, BarTurns, IsOf, IsUnfinished, Measures};
 ghost use Rattle.indicatif.specs.Inside.LockedBar.{OwnerJoins, OwnerLeaves};
 ghost use Rattle.indicatif.specs.Inside.PositionChange.{position_command};
-ghost use Rattle.indicatif.specs.Inside.TextCommand.{text_call};
 ghost use Rattle.indicatif.specs.Seek.{after_move};
 
 mod told;
@@ -23,11 +22,10 @@ use crate::progress_bar::member_bar::{Leaving, MemberBar};
 use crate::progress_bar::pause::Pause;
 use crate::progress_bar::position_change::PositionChange;
 use crate::progress_bar::request::Tried;
-use crate::progress_bar::text_command::TextCommand;
 use crate::progress_bar::ticker::Ticker;
 use crate::seek::SeekMax;
 use indicatif_bar::lone::{LoneBar, LoneCall};
-use indicatif_bar::state::{BarCommand, Change, ProgressState, Rate};
+use indicatif_bar::state::{BarCommand, Change, ProgressState, Rate, Text};
 use indicatif_bar::style::Tracks;
 use indicatif_board::multi::InsertLocation;
 use indicatif_term::draw_target::ProgressDrawTarget;
@@ -108,22 +106,22 @@ pub enum Halt<K: Tracks, T: Drop, C> {
 
 /// A call of a bar that stands alone follows one of `bar`, which tells that it is in some state: clauses speak of that.
 impl<K: Tracks, T: TermLike + Drop, C: Clock + Drop> LockedBar<K, T, C> {
-    /// A command of the bar.
-    pub fn tell<R: Wait>(
+    /// A call of the bar.
+    pub fn tell<R: Wait, S: Text>(
         &mut self,
         rt: &R,
-        command: BarCommand<K>,
-    ) -> Tried<Result<Drawn, Refusal>, BarCommand<K>>
-        ensures bar { BarTries K.means T.view self.old.bar (Lone.Obey (command_of command)) result command self.new.bar }
+        call: LoneCall<K, S>,
+    ) -> Tried<Result<Drawn, Refusal>, LoneCall<K, S>>
+        ensures bar { BarTries K.means T.view self.old.bar (lone_call_as S.bytes call) result call self.new.bar }
         ensures ticker { self.new.ticker ≡ self.old.ticker }
     {
         let now = self.clock.now();
         match &mut self.bar {
             AnyBar::Alone(bar) => {
                 bar.bar();
-                Tried::Made(bar.call(LoneCall::Bar(command), now))
+                Tried::Made(bar.tell(call, now))
             }
-            AnyBar::Member(member) => member.tell(rt, command, now),
+            AnyBar::Member(member) => member.tell(rt, call, now),
         }
     }
 
@@ -133,13 +131,12 @@ impl<K: Tracks, T: TermLike + Drop, C: Clock + Drop> LockedBar<K, T, C> {
         ensures ticker { self.new.ticker ≡ self.old.ticker }
     {
         let now = self.clock.now();
-        let command = BarCommand::SetTicker(installed);
         match &mut self.bar {
             AnyBar::Alone(bar) => {
                 bar.bar();
-                bar.call(LoneCall::Bar(command), now)
+                bar.call(LoneCall::Bar(BarCommand::SetTicker(installed)), now)
             }
-            AnyBar::Member(member) => member.tell_at_once(rt, command, now),
+            AnyBar::Member(member) => member.set_ticker(rt, installed, now),
         }
     }
 
@@ -182,25 +179,6 @@ impl<K: Tracks, T: TermLike + Drop, C: Clock + Drop> LockedBar<K, T, C> {
                 Tried::Made(PositionChange::To(place).apply_to(bar, now))
             }
             AnyBar::Member(member) => member.place_after(rt, seeks, n, now),
-        }
-    }
-
-    /// A call with a text.
-    pub fn tell_text<R: Wait>(
-        &mut self,
-        rt: &R,
-        told: TextCommand,
-        text: &str,
-    ) -> Tried<Result<Drawn, Refusal>, ()>
-        ensures { IfMade result (λ answer. BarMakes K.means T.view self.old.bar (text_call told text.now) answer self.new.bar) }
-    {
-        let now = self.clock.now();
-        match &mut self.bar {
-            AnyBar::Alone(bar) => {
-                bar.bar();
-                Tried::Made(told.apply_to(bar, text, now))
-            }
-            AnyBar::Member(member) => member.tell_text(rt, told, text, now),
         }
     }
 

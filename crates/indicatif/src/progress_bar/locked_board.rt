@@ -1,6 +1,6 @@
 //! What the lock of a shared board keeps.
 ghost use Rattle.std.specs.Prelude.{◌≡◌, ◌⊎◌, ℕ, Some, None, IfOk, IfErr, Ok, Err, MatchResult};
-ghost use Rattle.indicatif_board.specs.Boards.{Insert, Remove, Clear, Redraw, Refused};
+ghost use Rattle.indicatif_board.specs.Boards.{Insert, Remove, Log, Clear, Redraw, Refused};
 ghost use Rattle.indicatif_board.specs.BoardValues.{id_of};
 ghost use Rattle.indicatif_board.specs.Calls.{call_of, entrant_of, place_at};
 ghost use Rattle.indicatif.specs.Fronts.{CanClear, CanDraw};
@@ -15,6 +15,7 @@ use indicatif_board::multi::{BarId, Call, Candidate, InsertLocation};
 use indicatif_term::draw_target::ProgressDrawTarget;
 use indicatif_term::term_like::TermLike;
 use indicatif_text::columns::{Clock, Drawn, Moment, Refusal};
+use std::alloc::Global;
 
 /// A board, its clock, and whether it is in a pause.
 #[derive(Drop)]
@@ -73,6 +74,15 @@ impl<K: Tracks, T: TermLike + Drop, C: Clock + Drop> LockedBoard<K, T, C> {
     {
         let now = self.clock.now();
         self.board.draw(call, now)
+    }
+
+    /// Lines of text above the bars. The text is copied, by `alloc`, only where a history keeps it.
+    pub fn println(&mut self, text: &str, alloc: Global) -> Result<Drawn, Refusal>
+        ensures made { (now : ℕ) × BoardDraws K.means T.view self.old.board (Log text.now) now result self.new.board }
+        ensures can { SharedDraws K (Log text.now) result }
+    {
+        let now = self.clock.now();
+        self.board.println(text, alloc, now)
     }
 
     /// Takes a bar in.

@@ -1,7 +1,8 @@
 //! A shared bar that is on a board.
 ghost use Rattle.std.specs.Prelude.{◌≡◌, ◌⊎◌, ℕ};
 ghost use Rattle.std.specs.Fn.{FnOnceReturnsAt};
-ghost use Rattle.indicatif_bar.specs.Commands.{Update, SetPosition, command_of};
+ghost use Rattle.indicatif_bar.specs.Commands.{Update, SetPosition, SetTicker};
+ghost use Rattle.indicatif_bar.specs.LoneBars.{lone_call_as};
 ghost use Rattle.indicatif_bar.specs.Progress.{Progress};
 ghost use Rattle.indicatif_bar.specs.declared.state.commands.Change.{Change as Changed};
 ghost use Rattle.indicatif_board.specs.Boards.{Tell, Drop as Dropped};
@@ -10,16 +11,15 @@ ghost use Rattle.indicatif.specs.Fronts.{CanDraw, unchanged};
 ghost use Rattle.indicatif.specs.Inside.Requests.{IfMade, LeavesSo, MatchTried};
 ghost use Rattle.indicatif.specs.Inside.PositionChange.{position_command};
 ghost use Rattle.indicatif.specs.Inside.SharedBoards.{SharedDraws, on_board};
-ghost use Rattle.indicatif.specs.Inside.TextCommand.{text_call};
 ghost use Rattle.indicatif.specs.Seek.{after_move};
 
 use crate::progress_bar::any_board::AnyBoard;
 use crate::progress_bar::board_cell::SharedBoard;
 use crate::progress_bar::position_change::PositionChange;
 use crate::progress_bar::request::Tried;
-use crate::progress_bar::text_command::TextCommand;
 use crate::seek::SeekMax;
-use indicatif_bar::state::{BarCommand, BarState, Change, ProgressState};
+use indicatif_bar::lone::LoneCall;
+use indicatif_bar::state::{BarCommand, BarState, Change, ProgressState, Text};
 use indicatif_bar::style::Tracks;
 use indicatif_board::multi::{BarId, Call};
 use indicatif_term::term_like::TermLike;
@@ -27,7 +27,7 @@ use indicatif_text::columns::{Clock, Drawn, Moment, Refusal};
 use std::alloc::Global;
 use std::sync::Wait;
 
-/// A bar on a board: the board, the bar's number there, and what its texts are made by.
+/// A bar on a board: the board, the bar's number there, and what copies of its texts for a history are made by.
 pub struct MemberBar<K: Tracks, T: Drop, C> {
     pub board: SharedBoard<K, T, C>,
     pub id: BarId,
@@ -89,31 +89,35 @@ pub enum Leaving<K: Tracks> {
 
 /// Each call is handed back where the board is in a pause.
 impl<K: Tracks, T: TermLike + Drop, C: Clock + Drop> MemberBar<K, T, C> {
-    /// A command of the bar.
-    pub fn tell<R: Wait>(
+    /// A call of the bar.
+    pub fn tell<R: Wait, S: Text>(
         &self,
         rt: &R,
-        command: BarCommand<K>,
+        call: LoneCall<K, S>,
         now: Moment,
-    ) -> Tried<Result<Drawn, Refusal>, BarCommand<K>>
-        ensures { MatchTried result (λ answer. SharedDraws K (Tell (id_of self.now.id) (command_of command)) answer) (λ again. again ≡ command) }
+    ) -> Tried<Result<Drawn, Refusal>, LoneCall<K, S>>
+        ensures { MatchTried result (λ answer. SharedDraws K (on_board (id_of self.now.id) (lone_call_as S.bytes call)) answer) (λ again. again ≡ call) }
     {
         match self.board.try_turn(rt) {
-            Some(mut locked) => Tried::Made(locked.board.tell(self.id, command, now)),
-            None => Tried::ComeAgain(command),
+            Some(mut locked) => Tried::Made(locked.board.tell(self.id, call, self.alloc, now)),
+            None => Tried::ComeAgain(call),
         }
     }
 
-    /// The same also in a pause, for a command that asks for no draw.
-    pub fn tell_at_once<R: Wait>(
+    /// Whether a ticker is installed: told also in a pause, since it asks for no draw.
+    pub fn set_ticker<R: Wait>(
         &self,
         rt: &R,
-        command: BarCommand<K>,
+        installed: bool,
         now: Moment,
     ) -> Result<Drawn, Refusal>
-        ensures { SharedDraws K (Tell (id_of self.now.id) (command_of command)) result }
+        ensures { SharedDraws K (Tell (id_of self.now.id) (SetTicker installed)) result }
     {
-        self.board.lock(rt).board.tell(self.id, command, now)
+        let call: LoneCall<K> = LoneCall::Bar(BarCommand::SetTicker(installed));
+        self.board
+            .lock(rt)
+            .board
+            .tell(self.id, call, self.alloc, now)
     }
 
     /// A change of the position.
@@ -125,8 +129,9 @@ impl<K: Tracks, T: TermLike + Drop, C: Clock + Drop> MemberBar<K, T, C> {
     ) -> Tried<Result<Drawn, Refusal>, ()>
         ensures { IfMade result (λ answer. SharedDraws K (Tell (id_of self.now.id) (position_command change)) answer) }
     {
+        let call: LoneCall<K> = LoneCall::Bar(change.command());
         match self.board.try_turn(rt) {
-            Some(mut locked) => Tried::Made(locked.board.tell(self.id, change.command(), now)),
+            Some(mut locked) => Tried::Made(locked.board.tell(self.id, call, self.alloc, now)),
             None => Tried::ComeAgain(()),
         }
     }
@@ -153,7 +158,8 @@ impl<K: Tracks, T: TermLike + Drop, C: Clock + Drop> MemberBar<K, T, C> {
         match self.board.try_turn(rt) {
             Some(mut locked) => {
                 let change = change_by(locked.board.as_board().bar(self.id), f);
-                Tried::Made(locked.board.tell(self.id, BarCommand::Update(change), now))
+                let call: LoneCall<K> = LoneCall::Bar(BarCommand::Update(change));
+                Tried::Made(locked.board.tell(self.id, call, self.alloc, now))
             }
             None => Tried::ComeAgain(f),
         }
@@ -174,28 +180,9 @@ impl<K: Tracks, T: TermLike + Drop, C: Clock + Drop> MemberBar<K, T, C> {
             Some(mut locked) => {
                 let position = position_of(locked.board.as_board().bar(self.id));
                 let place = seeks.update_seq(position, n);
-                let command = BarCommand::SetPosition(place);
-                Tried::Made(locked.board.tell(self.id, command, now))
+                let call: LoneCall<K> = LoneCall::Bar(BarCommand::SetPosition(place));
+                Tried::Made(locked.board.tell(self.id, call, self.alloc, now))
             }
-            None => Tried::ComeAgain(()),
-        }
-    }
-
-    /// A call with a text, of which the board is handed a copy.
-    pub fn tell_text<R: Wait>(
-        &self,
-        rt: &R,
-        told: TextCommand,
-        text: &str,
-        now: Moment,
-    ) -> Tried<Result<Drawn, Refusal>, ()>
-        ensures { IfMade result (λ answer. SharedDraws K (on_board (id_of self.now.id) (text_call told text.now)) answer) }
-    {
-        let Ok(text) = String::from_str(self.alloc, text) else {
-            return Tried::Made(Err(Refusal::Memory));
-        };
-        match self.board.try_turn(rt) {
-            Some(mut locked) => Tried::Made(locked.board.draw(told.call(self.id, text), now)),
             None => Tried::ComeAgain(()),
         }
     }

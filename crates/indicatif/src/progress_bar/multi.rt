@@ -258,16 +258,12 @@ impl<T: TermLike + Drop, C: Clock + Drop, R: Wait + Clone + Drop, K: Tracks> Mul
     /// Writes the text's lines above the bars, by force; the bars go on below them. On a hidden target the text is dropped: `println_or`
     /// writes it elsewhere there.
     ///
-    /// Refused: as `Board::println`; `Memory` also for a copy of the text, on a hidden target too, and where the history has no room. Nothing
-    /// has changed then.
+    /// Refused: as `Board::println`; `Memory` also where a board that keeps its history has no room for it. Nothing has changed then.
     #[tactic(auto, unfolding(crate::specs::Inside::SharedBoards::SharedDraws))]
     pub fn println(&self, text: &str) -> Result<Drawn, Refusal>
         ensures { CanDraw result }
     {
-        match String::from_str(self.alloc, text) {
-            Ok(text) => self.board.turn(&self.rt).draw(Call::Log(text)),
-            Err(_) => Err(Refusal::Memory),
-        }
+        self.board.turn(&self.rt).println(text, self.alloc)
     }
 
     /// Takes the bars' rows back, by force. The next draw shows the bars again, but for those that were dropped.

@@ -1,6 +1,6 @@
 //! What moves a bar's position.
-ghost use Rattle.std.specs.Prelude.{◌≡◌};
-ghost use Rattle.indicatif_bar.specs.Commands.{command_of};
+ghost use Rattle.std.specs.Prelude.{◌≡◌, ℕ, List};
+ghost use Rattle.indicatif_bar.specs.Commands.{command_as};
 ghost use Rattle.indicatif_bar.specs.LoneBars.{Obeys};
 ghost use Rattle.indicatif.specs.Inside.PositionChange.{position_command};
 
@@ -23,8 +23,8 @@ pub enum PositionChange {
 
 impl PositionChange {
     /// The command of a bar on a board.
-    pub fn command<K>(self) -> BarCommand<K>
-        ensures { command_of result ≡ position_command self }
+    pub fn command<K, S>(self) -> BarCommand<K, S>
+        ensures { (bytes : S → List ℕ) → command_as bytes result ≡ position_command self }
     {
         match self {
             PositionChange::Up(delta) => BarCommand::Inc(delta),

@@ -1,19 +1,19 @@
 //! A bar's lock, its pauses, and what waits for them.
 ghost use Rattle.std.specs.Prelude.{◌≡◌, ◌⊎◌, ℕ};
 ghost use Rattle.std.specs.Fn.{FnOnceReturnsAt};
-ghost use Rattle.indicatif_bar.specs.Commands.{Update, command_of};
+ghost use Rattle.indicatif_bar.specs.Commands.{Update};
 ghost use Rattle.indicatif_bar.specs.Lone as Lone;
+ghost use Rattle.indicatif_bar.specs.LoneBars.{lone_call_as};
 ghost use Rattle.indicatif_bar.specs.Progress.{Progress};
 ghost use Rattle.indicatif_bar.specs.declared.state.commands.Change.{Change as Changed};
 ghost use Rattle.indicatif.specs.Fronts.{CanAnswer, CanDraw, CanMove, CanTurn, unchanged};
-ghost use Rattle.indicatif.specs.Inside.TextCommand.{text_call};
 ghost use Rattle.indicatif.specs.Seek.{after_move};
 
 use crate::progress_bar::locked_bar::{Halt, LockedBar};
 use crate::progress_bar::request::Tried;
-use crate::progress_bar::text_command::TextCommand;
 use crate::seek::SeekMax;
-use indicatif_bar::state::{BarCommand, Change, ProgressState};
+use indicatif_bar::lone::LoneCall;
+use indicatif_bar::state::{Change, ProgressState, Text};
 use indicatif_bar::style::Tracks;
 use indicatif_term::draw_target::ProgressDrawTarget;
 use indicatif_term::term_like::TermLike;
@@ -40,12 +40,12 @@ impl<K: Tracks, T: TermLike + Drop, C: Clock + Drop> SharedBar<K, T, C> {
             .wait_while(rt, locked, |locked| locked.is_paused())
     }
 
-    /// A command of the bar.
+    /// A call of the bar. Its text may be lent.
     #[tactic(auto, using(crate::proofs::FrontLemmas::place_answers))]
-    pub fn tell<R: Wait>(&self, rt: &R, command: BarCommand<K>) -> Result<Drawn, Refusal>
-        ensures { CanAnswer K (Lone.Obey (command_of command)) result }
+    pub fn tell<R: Wait, S: Text>(&self, rt: &R, call: LoneCall<K, S>) -> Result<Drawn, Refusal>
+        ensures { CanAnswer K (lone_call_as S.bytes call) result }
     {
-        let mut left = command;
+        let mut left = call;
         for _ in rt.forever() {
             let mut locked = self.turn(rt);
             match locked.tell(rt, left) {
@@ -53,26 +53,6 @@ impl<K: Tracks, T: TermLike + Drop, C: Clock + Drop> SharedBar<K, T, C> {
                 Tried::ComeAgain(again) => left = again,
             }
             wait_for_board(rt, locked);
-        }
-        unreachable!()
-    }
-
-    /// A call with a text.
-    #[tactic(auto, using(crate::proofs::FrontLemmas::place_answers))]
-    pub fn tell_text<R: Wait>(
-        &self,
-        rt: &R,
-        told: TextCommand,
-        text: &str,
-    ) -> Result<Drawn, Refusal>
-        ensures { CanAnswer K (text_call told text.now) result }
-    {
-        for _ in rt.forever() {
-            let mut locked = self.turn(rt);
-            match locked.tell_text(rt, told, text) {
-                Tried::Made(answer) => return answer,
-                Tried::ComeAgain(()) => wait_for_board(rt, locked),
-            }
         }
         unreachable!()
     }

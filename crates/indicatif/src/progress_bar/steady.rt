@@ -8,6 +8,7 @@ ghost use Rattle.indicatif.specs.Fronts.{CanAnswer};
 use crate::progress_bar::ProgressBar;
 use crate::progress_bar::request::Tried;
 use crate::progress_bar::shared_bar::{SharedBar, wait_for_board};
+use indicatif_bar::lone::LoneCall;
 use indicatif_bar::state::BarCommand;
 use indicatif_bar::style::Tracks;
 use indicatif_term::term_like::TermLike;
@@ -30,7 +31,8 @@ fn run_ticker<K: Tracks, T: TermLike + Drop, C: Clock + Drop, R: Wait + time::Cl
         if !locked.ticks_by(rt, number) {
             break;
         }
-        match locked.tell(rt, BarCommand::TickerTick) {
+        let tick: LoneCall<K> = LoneCall::Bar(BarCommand::TickerTick);
+        match locked.tell(rt, tick) {
             Tried::Made(_) => {
                 let (locked, _) = cell
                     .changed

@@ -7,7 +7,6 @@ ghost use Rattle.indicatif.specs.Fronts.{CanAnswer};
 ghost use Rattle.indicatif.specs.Wrap.{Wraps};
 
 use crate::progress_bar::ProgressBar;
-use crate::progress_bar::text_command::TextCommand;
 use crate::wrap::ProgressBarIter;
 use futures::stream::Stream;
 use indicatif_bar::state::{BarCommand, ProgressFinish};
@@ -175,7 +174,7 @@ impl<
         ensures itself { IfOk result (λ wrapped. wrapped ≡ self) }
         ensures refused { IfErr result (λ e. CanAnswer K (Lone.Obey (WithPrefix text.now)) (Err e)) }
     {
-        match self.progress.tell_text(TextCommand::WithPrefix, text) {
+        match self.progress.tell(BarCommand::WithPrefix(text)) {
             Ok(_) => Ok(self),
             Err(refusal) => Err(refusal),
         }
@@ -188,7 +187,7 @@ impl<
         ensures itself { IfOk result (λ wrapped. wrapped ≡ self) }
         ensures refused { IfErr result (λ e. CanAnswer K (Lone.Obey (WithMessage text.now)) (Err e)) }
     {
-        match self.progress.tell_text(TextCommand::WithMessage, text) {
+        match self.progress.tell(BarCommand::WithMessage(text)) {
             Ok(_) => Ok(self),
             Err(refusal) => Err(refusal),
         }

@@ -5,14 +5,15 @@ ghost use Rattle.indicatif_bar.specs.Progress.{is_finished};
 ghost use Rattle.indicatif_bar.specs.declared.state.commands.Change.{Change};
 ghost use Rattle.indicatif_bar.specs.Commands.{Tick, TickerTick, SetTicker, Inc, Dec, SetPosition, Update, SetLength, UnsetLength, IncLength, DecLength, SetMessage, SetPrefix, SetStyle};
 ghost use Rattle.indicatif_bar.specs.Commands.{WithPosition, WithMessage, WithPrefix, WithFinish, WithTabWidth, SetTabWidth, SetElapsed, ResetEta, ResetElapsed, Reset, Finish, FinishUsingStyle};
-ghost use Rattle.indicatif_bar.specs.Commands.{ForceDraw, obeyed, after_drop, command_of, copy_takes_memory, is_beyond_clock, takes_memory, update, with_length, redraw_ask};
-ghost use Rattle.indicatif_bar.specs.Finishes.{AndLeave, WithMessage as LeaveWithMessage, AndClear, Abandon, AbandonWithMessage, finish_of};
+ghost use Rattle.indicatif_bar.specs.Commands.{ForceDraw, obeyed, after_drop, command_as, command_of, copy_takes_memory, is_beyond_clock, takes_memory, update, with_length, redraw_ask};
+ghost use Rattle.indicatif_bar.specs.Finishes.{AndLeave, WithMessage as LeaveWithMessage, AndClear, Abandon, AbandonWithMessage, finish_as, finish_of};
 
 use crate::ask::Ask;
-use crate::finish::{ProgressFinish, same_text};
+use crate::finish::ProgressFinish;
 use crate::progress::{ProgressState, Status};
 use crate::state::BarState;
 use crate::style::ProgressStyle;
+use crate::text::{Text, own_text};
 use crate::tracker::Tracks;
 use indicatif_text::columns::{Moment, Refusal};
 use std::alloc::Global;
@@ -34,11 +35,13 @@ pub struct Change {
 /// A command of a bar as a value. Each is the call of `BarState` with its name, but `Update` is `set_change` and `Finish` is
 /// `finish_by`; `with_style` and `with_elapsed` are `SetStyle` and `SetElapsed`.
 ///
+/// Its text is its own, so that a history can keep it, unless a lent one is named: `BarCommand<K, &str>` (`Text`).
+///
 /// ```
 /// let ask = bar.apply(BarCommand::Inc(2), now)?; // as `bar.inc(2, now)`
 /// ```
 #[derive(Drop)]
-pub enum BarCommand<K> {
+pub enum BarCommand<K, S = String> {
     /// A tick, unless a steady ticker is installed.
     Tick,
     /// A steady ticker's own tick.
@@ -62,17 +65,17 @@ pub enum BarCommand<K> {
     /// A shorter length, down to 0, where there is one.
     DecLength(u64),
     /// Another message, and a draw.
-    SetMessage(String),
+    SetMessage(S),
     /// Another prefix, and a draw.
-    SetPrefix(String),
+    SetPrefix(S),
     /// Another style.
     SetStyle(ProgressStyle<K>),
     /// Another position, and no draw.
     WithPosition(u64),
     /// Another message, and no draw.
-    WithMessage(String),
+    WithMessage(S),
     /// Another prefix, and no draw.
-    WithPrefix(String),
+    WithPrefix(S),
     /// What finishes the bar when it is dropped, or by `FinishUsingStyle`.
     WithFinish(ProgressFinish),
     /// So many spaces for a tab, and no draw.
@@ -88,15 +91,15 @@ pub enum BarCommand<K> {
     /// All is counted from now, from position 0.
     Reset,
     /// The bar is finished.
-    Finish(ProgressFinish),
+    Finish(ProgressFinish<S>),
     /// The bar is finished by what `WithFinish` stored.
     FinishUsingStyle,
     /// A draw by force.
     ForceDraw,
 }
 
-impl<K: Tracks> BarCommand<K> {
-    /// Another command, equal to this one.
+impl<K: Tracks, S: Text> BarCommand<K, S> {
+    /// Another command, equal to this one, with a text of its own.
     ///
     /// ```
     /// let again = command.try_clone(alloc)?;
@@ -104,8 +107,8 @@ impl<K: Tracks> BarCommand<K> {
     ///
     /// Refused: `Memory`, only where it has a style, or a text that isn't empty.
     pub fn try_clone(&self, alloc: Global) -> Result<BarCommand<K>, Refusal>
-        ensures same { IfOk result (λ other. command_of other ≡ command_of self.now) }
-        ensures memory { IfErr result (λ e. (e ≡ Refusal.Memory) × IsTrue (copy_takes_memory (command_of self.now))) }
+        ensures same { IfOk result (λ other. command_of other ≡ command_as S.bytes self.now) }
+        ensures memory { IfErr result (λ e. (e ≡ Refusal.Memory) × IsTrue (copy_takes_memory (command_as S.bytes self.now))) }
     {
         Ok(match self {
             BarCommand::Tick => BarCommand::Tick,
@@ -119,12 +122,12 @@ impl<K: Tracks> BarCommand<K> {
             BarCommand::UnsetLength => BarCommand::UnsetLength,
             BarCommand::IncLength(delta) => BarCommand::IncLength(*delta),
             BarCommand::DecLength(delta) => BarCommand::DecLength(*delta),
-            BarCommand::SetMessage(text) => BarCommand::SetMessage(same_text(alloc, text)?),
-            BarCommand::SetPrefix(text) => BarCommand::SetPrefix(same_text(alloc, text)?),
+            BarCommand::SetMessage(text) => BarCommand::SetMessage(own_text(alloc, text)?),
+            BarCommand::SetPrefix(text) => BarCommand::SetPrefix(own_text(alloc, text)?),
             BarCommand::SetStyle(style) => BarCommand::SetStyle(style.try_clone()?),
             BarCommand::WithPosition(position) => BarCommand::WithPosition(*position),
-            BarCommand::WithMessage(text) => BarCommand::WithMessage(same_text(alloc, text)?),
-            BarCommand::WithPrefix(text) => BarCommand::WithPrefix(same_text(alloc, text)?),
+            BarCommand::WithMessage(text) => BarCommand::WithMessage(own_text(alloc, text)?),
+            BarCommand::WithPrefix(text) => BarCommand::WithPrefix(own_text(alloc, text)?),
             BarCommand::WithFinish(finish) => BarCommand::WithFinish(finish.try_clone(alloc)?),
             BarCommand::WithTabWidth(tab) => BarCommand::WithTabWidth(*tab),
             BarCommand::SetTabWidth(tab) => BarCommand::SetTabWidth(*tab),
@@ -525,11 +528,15 @@ impl<K: Tracks> BarState<K> {
     /// The bar is finished so. A draw is forced.
     ///
     /// Refused: `Memory`, only where the finish has a message that isn't empty; nothing has changed then.
-    pub fn finish_by(&mut self, finish: &ProgressFinish, now: Moment) -> Result<Ask, Refusal>
-        ensures done { IfOk result (λ ask. (self.new, ask) ≡ obeyed K.means (Finish (finish_of finish.now)) self.old now) }
+    pub fn finish_by<S: Text>(
+        &mut self,
+        finish: &ProgressFinish<S>,
+        now: Moment,
+    ) -> Result<Ask, Refusal>
+        ensures done { IfOk result (λ ask. (self.new, ask) ≡ obeyed K.means (Finish (finish_as S.bytes finish.now)) self.old now) }
         ensures unchanged { OnErr result (self.new ≡ self.old) }
         ensures memory { IfErr result (λ e. (e ≡ Refusal.Memory)
-            × IsTrue (takes_memory (Finish (finish_of finish.now)) self.old)) }
+            × IsTrue (takes_memory (Finish (finish_as S.bytes finish.now)) self.old)) }
     {
         self.progress.finish_by(finish, now)?;
         Ok(Ask::Forced)
@@ -571,15 +578,19 @@ impl<K: Tracks> BarState<K> {
         Ask::Forced
     }
 
-    /// Does what the command says: the call that `BarCommand` names.
+    /// Does what the command says: the call that `BarCommand` names. The text may be lent, and is copied into the record alone.
     ///
     /// Refused: `ElapsedBeyondClock`, exactly where an elapsed time is more than the moment; `Memory`, where the command takes
     /// some. Nothing has changed then.
-    pub fn apply(&mut self, command: BarCommand<K>, now: Moment) -> Result<Ask, Refusal>
-        ensures done { IfOk result (λ ask. (self.new, ask) ≡ obeyed K.means (command_of command) self.old now) }
+    pub fn tell<S: Text>(
+        &mut self,
+        command: BarCommand<K, S>,
+        now: Moment,
+    ) -> Result<Ask, Refusal>
+        ensures done { IfOk result (λ ask. (self.new, ask) ≡ obeyed K.means (command_as S.bytes command) self.old now) }
         ensures unchanged { OnErr result (self.new ≡ self.old) }
-        ensures beyond { (result ≡ Err Refusal.ElapsedBeyondClock) ↔ IsTrue (is_beyond_clock (command_of command) now) }
-        ensures memory { result ≡ Err Refusal.Memory → IsTrue (takes_memory (command_of command) self.old) }
+        ensures beyond { (result ≡ Err Refusal.ElapsedBeyondClock) ↔ IsTrue (is_beyond_clock (command_as S.bytes command) now) }
+        ensures memory { result ≡ Err Refusal.Memory → IsTrue (takes_memory (command_as S.bytes command) self.old) }
         ensures no_other { IfErr result (λ e. (e ≡ Refusal.ElapsedBeyondClock) ⊎ (e ≡ Refusal.Memory)) }
     {
         match command {
@@ -594,12 +605,12 @@ impl<K: Tracks> BarState<K> {
             BarCommand::UnsetLength => Ok(self.unset_length(now)),
             BarCommand::IncLength(delta) => Ok(self.inc_length(delta, now)),
             BarCommand::DecLength(delta) => Ok(self.dec_length(delta, now)),
-            BarCommand::SetMessage(text) => self.set_message(text.as_str(), now),
-            BarCommand::SetPrefix(text) => self.set_prefix(text.as_str(), now),
+            BarCommand::SetMessage(text) => self.set_message(text.as_text(), now),
+            BarCommand::SetPrefix(text) => self.set_prefix(text.as_text(), now),
             BarCommand::SetStyle(style) => self.set_style(style, now),
             BarCommand::WithPosition(position) => Ok(self.with_position(position, now)),
-            BarCommand::WithMessage(text) => self.with_message(text.as_str(), now),
-            BarCommand::WithPrefix(text) => self.with_prefix(text.as_str(), now),
+            BarCommand::WithMessage(text) => self.with_message(text.as_text(), now),
+            BarCommand::WithPrefix(text) => self.with_prefix(text.as_text(), now),
             BarCommand::WithFinish(finish) => Ok(self.with_finish(finish, now)),
             BarCommand::WithTabWidth(tab) => self.with_tab_width(tab, now),
             BarCommand::SetTabWidth(tab) => self.set_tab_width(tab, now),
@@ -611,5 +622,18 @@ impl<K: Tracks> BarState<K> {
             BarCommand::FinishUsingStyle => self.finish_using_style(now),
             BarCommand::ForceDraw => Ok(self.force_draw(now)),
         }
+    }
+
+    /// As `tell`, for a command with a text of its own.
+    ///
+    /// Refused: as `tell`.
+    pub fn apply(&mut self, command: BarCommand<K>, now: Moment) -> Result<Ask, Refusal>
+        ensures done { IfOk result (λ ask. (self.new, ask) ≡ obeyed K.means (command_of command) self.old now) }
+        ensures unchanged { OnErr result (self.new ≡ self.old) }
+        ensures beyond { (result ≡ Err Refusal.ElapsedBeyondClock) ↔ IsTrue (is_beyond_clock (command_of command) now) }
+        ensures memory { result ≡ Err Refusal.Memory → IsTrue (takes_memory (command_of command) self.old) }
+        ensures no_other { IfErr result (λ e. (e ≡ Refusal.ElapsedBeyondClock) ⊎ (e ≡ Refusal.Memory)) }
+    {
+        self.tell(command, now)
     }
 }

@@ -5,7 +5,7 @@ use Rattle.std.proofs.lemmas.Bool.{cases_Bool, eqb-true, eq-eqb, false≢true}
 use Rattle.indicatif_board.specs.ShownBars.{record_in, record_on}
 use Rattle.indicatif_text.specs.declared.refusal.Refusal.TheVariants.{ElapsedBeyondClock, NotMember}
 use Rattle.indicatif_term.specs.DrawTargets.{is_bottom}
-use Rattle.indicatif_bar.specs.Commands.{BarRecord, obeyed, command_of, is_beyond_clock, takes_memory}
+use Rattle.indicatif_bar.specs.Commands.{BarRecord, obeyed, command_as, is_beyond_clock, takes_memory}
 use Rattle.indicatif_bar.specs.Kinds.{Frame}
 use Rattle.indicatif_bar.specs.Machines.{target_of}
 use Rattle.indicatif_bar.specs.Shown.{DrewOn}
@@ -19,14 +19,14 @@ use Rattle.indicatif_board.proofs.MemberLemmas.{told_at, told_placed, same_at, s
 use Rattle.indicatif_board.proofs.BoardCallLemmas.{made_by_draw, made_at_once, made_short, made_turned_away, turned_quietly, command_deed, late_deed, in_time_of}
 use Rattle.indicatif_board.proofs.BarRecordLemmas.{is_there, same_error, not_of_draw, record_stands, has_record, told_on, told_apart}
 use Rattle.indicatif_board.proofs.LeavingLemmas.{none_left}
-use Rattle.indicatif_board.proofs.multi.Board.command.Goals as goal
+use Rattle.indicatif_board.proofs.multi.Board.tell.Goals as goal
 
 pub returns-in_err-at-clause-leads : goal.returns-in_err-at-clause-leads
 returns-in_err-at-clause-leads g c = λ board_id s inside.
     let tracks = g.K.Tracks.means in
     let old = known g.T.TermLike.view c.args.self.now in
     let id = id_of c.args.id in
-    let command = command_of c.args.command in
+    let command = command_as g.S.Text.bytes c.args.command in
     let x = err_from_is_err_and c.from_residual.result c.from_residual.ensures.1 in
     let why = c.in_err-at.ensures.found board_id s inside in
     let d = draws (draw_of_command (board_bars tracks) (target_of old) id.number command c.args.now s) in
@@ -46,7 +46,7 @@ returns-in_err-ask-clause-leads g c = λ board_id s inside.
     let old = known g.T.TermLike.view c.args.self.now in
     let id = id_of c.args.id in
     let now = c.args.now in
-    let command = command_of c.args.command in
+    let command = command_as g.S.Text.bytes c.args.command in
     let f = c.in_ok-at.ensures.found board_id s inside in
     let item = c.index_mut.result.now in
     let x = err_from_is_err_and c.from_residual-in_err-ask.result c.from_residual-in_err-ask.ensures.1 in
@@ -79,7 +79,7 @@ returns-clause-leads g c = λ board_id s inside.
     let old = known view c.args.self.now in
     let new = known view c.draw.new.self in
     let id = id_of c.args.id in
-    let command = command_of c.args.command in
+    let command = command_as g.S.Text.bytes c.args.command in
     let now = c.args.now in
     let item = c.index_mut.result.now in
     let f = c.in_ok-at.ensures.found board_id s inside in
@@ -145,7 +145,7 @@ returns-in_err-ask-clause-record g c = λ own bar some.
         x.1 ∙ ap Err x.2,
         elim c.in_err-ask.ensures.no_other [
           | inl late ↦ inr (late, c.in_err-ask.ensures.beyond.0 (ap Err late))
-          | inr short ↦ inl (short, subst (λ r. takes_memory (command_of c.args.command) r ≡ true) bar_is (c.in_err-ask.ensures.memory (ap Err short)))
+          | inr short ↦ inl (short, subst (λ r. takes_memory (command_as g.S.Text.bytes c.args.command) r ≡ true) bar_is (c.in_err-ask.ensures.memory (ap Err short)))
         ],
         c.in_err-ask.ensures.unchanged ∙ bar_is,
       ),
@@ -175,7 +175,7 @@ returns-clause-record g c = λ own bar some.
     let bar_is : item.bar ≡ bar = cc (sym stood ∙ some) in (
       c.obey.new.self.bar,
       c.draw.ensures.records c.args.id.number ∙ told_on b c.args.id.number c.in_ok-at.at c.in_ok-at.ensures.own item c.obey.new.self c.obey.ensures.stays c.index_mut.ensures.value,
-      inl (ap (λ r. r.0) c.in_ok-ask.ensures.done ∙ ap (λ r. (obeyed g.K.Tracks.means (command_of c.args.command) r c.args.now).0) bar_is),
+      inl (ap (λ r. r.0) c.in_ok-ask.ensures.done ∙ ap (λ r. (obeyed g.K.Tracks.means (command_as g.S.Text.bytes c.args.command) r c.args.now).0) bar_is),
     )
 
 pub returns-clause-others : goal.returns-clause-others

@@ -1,9 +1,0 @@
-use Rattle.std.proofs.Common.{refl}
-use Rattle.indicatif.proofs.FrontLemmas.{made_as}
-use Rattle.indicatif.proofs.progress_bar.locked_bar.LockedBar.tell_text.Goals as goal
-
-pub returns-in-Alone : goal.returns-in-Alone
-returns-in-Alone g c = rw c.in-Alone.is (c.apply_to.new.bar, refl, (c.now-now.result, record { was = c.bar.ensures.some; done = c.apply_to.ensures.done; leads = c.apply_to.ensures.leads }))
-
-pub returns-in-Member : goal.returns-in-Member
-returns-in-Member g c = rw c.in-Member.is (made_as c.tell_text.result (λ answer can. (refl, can)) c.tell_text.ensures)
