@@ -1,7 +1,7 @@
 #!/usr/bin/env python3
 """Refuses memory and threads to programs, and looks whether they answer as they are defined.
 
-usage: tools/refused.py [threads | memory [SCRIPT ..] | gate COMMIT]   (all of both, if nothing is said)
+usage: tools/refused.py [threads | memory [SCRIPT ..] | gate NUMBER]   (all of both, if nothing is said)
 
 - Memory: each allocation of a script of `fuzz sweeps memory` is refused in turn, one in each run, on terminals of 1 to 4 rows and 1 to 6
   columns; of the script `run` (`bars run`) on one. Each run judges itself, and says that it is as defined, and where memory was refused.
@@ -12,7 +12,7 @@ usage: tools/refused.py [threads | memory [SCRIPT ..] | gate COMMIT]   (all of b
   thread is made as large as a gigabyte, and the room of the program as small as so many stacks.) Where one is refused, the answer has to be
   `Memory`, with the bar where it was, and no piece may wait for ever.
 
-With `gate` (by .ci/run) the commit chooses the script that comes first, and after three minutes no further run is begun. The programs are those
+With `gate` (by .ci/run) the number, a sum of the sources, chooses the script that comes first, and after three minutes no further run is begun. The programs are those
 of the folder $PROGRAMS, or those that `rt ci` or `rt run` has built. The exit status is 1 if a run ends otherwise.
 """
 import collections

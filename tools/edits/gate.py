@@ -1,9 +1,9 @@
 #!/usr/bin/env python3
-"""Tries some wrong bodies, which a commit chooses: the prover has to refuse each.
+"""Tries some wrong bodies, which a number chooses: the prover has to refuse each.
 
-usage: tools/edits/gate.py COMMIT SECONDS   (by .ci/run, at its end, SECONDS after it began; at the root of the repository)
+usage: tools/edits/gate.py NUMBER SECONDS   (by .ci/run, at its end, SECONDS after it began; at the root of the repository)
 
-The commit's number chooses an edit of tools/edits/*/, and nine behind it of the same crate. On a copy of the crate, over the libraries that the
+The number (hexadecimal; of .ci/run: a sum of the sources) chooses an edit of tools/edits/*/, and nine behind it of the same crate. On a copy of the crate, over the libraries that the
 gate has built, `rt check --only` tries to prove the function in which the edit stands. Each costs half a minute to a minute of a processor, since
 a gate keeps no finished proofs of the crate itself. Where the function is proved nevertheless, `rt must-fail` has to say that the whole crate is
 refused: a contract of another function may be what the body breaks.
@@ -27,10 +27,10 @@ LATEST, BOUND, PATIENCE = 7200, 300, 600
 MOST = 10
 
 
-def chosen(commit):
-    """The crate and its edits that a commit chooses."""
+def chosen(number):
+    """The crate and its edits that a number chooses."""
     found = sorted(EDITS.glob("*/*.edit"))
-    first = found[int(commit[:12], 16) % len(found)]
+    first = found[int(number[:12], 16) % len(found)]
     own = [it for it in found if it.parent == first.parent]
     at = own.index(first)
     return first.parent.name, (own[at:] + own[:at])[:MOST]
@@ -123,11 +123,11 @@ def tried(edit, crate):
 
 
 def main():
-    commit, begun = sys.argv[1], int(sys.argv[2])
+    number, begun = sys.argv[1], int(sys.argv[2])
     if begun > LATEST:
         print(f"{begun} seconds were taken so far: no wrong body was tried")
         return 0
-    name, edits = chosen(commit)
+    name, edits = chosen(number)
     start, faults, count = time.monotonic(), 0, 0
     with tempfile.TemporaryDirectory() as room:
         crate = copied(name, pathlib.Path(room))
