@@ -9,7 +9,7 @@ a gate keeps no finished proofs of the crate itself. Where the function is prove
 refused: a contract of another function may be what the body breaks.
 
 Time never makes the gate fail: nothing is tried if it has taken two hours so far, no edit is begun after five minutes, and a check that
-goes on for longer than a quarter of an hour is stopped. The exit status is 1 if a whole crate is proved with an edit, or an edit can't be applied.
+goes on for longer than ten minutes is stopped. The exit status is 1 if a whole crate is proved with an edit, or an edit can't be applied.
 """
 import os
 import pathlib
@@ -23,7 +23,7 @@ import time
 
 EDITS = pathlib.Path("tools/edits")
 # seconds: of the gate before this step; of this step before its last edit begins; of one check
-LATEST, BOUND, PATIENCE = 7200, 300, 900
+LATEST, BOUND, PATIENCE = 7200, 300, 600
 MOST = 10
 
 
@@ -118,7 +118,8 @@ def tried(edit, crate):
     shutil.rmtree(crate / "must-fail")
     if status is None:
         return False, "its function alone is proved, and the whole check took too long: tools/edits/try.sh tries it"
-    return status != 0, said.strip().splitlines()[-1][:300] if said.strip() else f"status {status}"
+    lines = said.strip().splitlines() or [f"status {status}"]
+    return "NOT REFUSED" in said or "BAD EDIT" in said, lines[-1][:300]
 
 
 def main():

@@ -1,6 +1,6 @@
 //! Progress bars for the terminal: a port of the Rust crate `indicatif` 0.18.6 to Rattle, with its names and its templates. For a bar or a
 //! board without a lock, a theorem says what is on the screen after any list of calls (docs/THEOREM.md). For a bar or a board that threads
-//! share, it is proved which answers its calls may give. docs/PROVED.md says for each call what is proved and what is tested.
+//! share, it is proved which answers its calls may give. docs/PROVED.md says where it stands for each call what is proved and tested.
 //!
 //! # What is here
 //!
