@@ -9,7 +9,7 @@ use Rattle.indicatif_term.specs.Calls.{TermView, Writes, BreaksOff}
 use Rattle.indicatif_term.specs.Inside.Bytes.{lines_bytes}
 use Rattle.indicatif_term.specs.Inside.Pens.{Pens, Puts}
 use Rattle.indicatif_term.specs.declared.painting.Pen.{Pen}
-use Rattle.indicatif_term.proofs.CallTurnLemmas.{reaches_none, reaches_then, breaks_then, breaks_early, lines-append, or_lt_sum}
+use Rattle.indicatif_term.proofs.CallTurnLemmas.{reaches_none, reaches_then, breaks_then, breaks_early, writes_fail, lines-append, or_lt_sum}
 
 abbrev pub ok : Unit {0} → Result (Unit {0}) Error
 ok u = Ok u
@@ -31,6 +31,12 @@ module _ {T : Type 0} (view : T → TermView) where
       Writes bytes (view old.term.now) (view new.term.now) r → Pens view bytes x old new r
   pens_fail bytes x old new (Ok u) h s w = cc
   pens_fail bytes x old new (Err e) h s w = record { same = s; writes = w; place = tt }
+
+  -- a failure is handed on
+  pub pens_refused : {a : List ℕ} (b : List ℕ) (x : Bool) (old new : Pen T) (e : Error) (r : Result Unit Error) → new.term.ghost_name ≡ old.term.ghost_name → IsErrAnd r (λ y. y ≡ e) →
+      BreaksOff a (error_kind e) (view old.term.now) (view new.term.now) → Pens view (a ++ b) x old new r
+  pens_refused b x old new e (Ok u) s h q = absurd h
+  pens_refused b x old new e (Err y) s h q = record { same = s; writes = writes_fail b e (err y) h q; place = tt }
 
   pub puts_none : (p : Pen T) → ArePut view [] p p
   puts_none p = record { same = refl; writes = reaches_none (view p.term.now); place = sym (or-false p.at_end) }
