@@ -72,7 +72,7 @@ alike_fewer m n s s' e a = subst (λ k. Alike k s s') (sym e) a
 pub alike_itself : (n : ℕ) (s : Screen) → n ≤ length s.rows → Alike n s s
 alike_itself n s h = record { same = record { columns = refl; height = refl; count = refl; row = refl; column = refl }; front = refl; within = h }
 
-made_of : ℕ → ℕ → List (List Cell) → ℕ → ℕ → Screen
+abbrev made_of : ℕ → ℕ → List (List Cell) → ℕ → ℕ → Screen
 made_of columns height rows row column = record { columns = columns; height = height; rows = rows; row = row; column = column }
 
 -- where all rows are the same, so are the terminals

@@ -46,8 +46,9 @@ pub fn compare(line: &StandingLine, text: &str, window: Window, waits: bool) -> 
     }
 }
 
-/// The part of a line that is written, if it was edited less than so often. Only lines of one row are looked at. A line that was cut to another size has no colours in its
-/// text, while its cells may have some: so of lines that aren't known to be narrow only those with colours are edited.
+/// The part of a line that is written, if it was edited less than so often. Only lines of one row are looked at. A line that was cut to
+/// another size has no colours in its text, while its cells may have some: so of lines that aren't known to be narrow only those with
+/// colours are edited.
 fn part_of(line: &StandingLine, text: &str, window: Window, waits: bool) -> Option<Part>
     requires line { IsLine window.columns line.now }
     ensures small { IfSome result (λ p. window.columns ≤ 65535) }

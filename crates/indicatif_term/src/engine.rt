@@ -1,10 +1,11 @@
 //! Drawing the lines of bars on a terminal, below text that stays.
 //!
-//! The rows that an engine has written are of three kinds, from the top: those *above*, which never change again; those
-//! *kept*, of bars that are gone; and the *live* ones, of the last frame. An engine remembers their counts and the lines of its
-//! last drawing, no text that was logged, so what it needs does not grow with that. A draw writes the lines that changed, or of them
-//! only the cells that differ, and leaves those that stay. Else, as for a log, it goes up to the first of the kept and live rows,
-//! empties them from there down, goes up again, and writes the new ones in their place. The rows above stand at every moment.
+//! The rows that an engine has written are of three kinds, from the top: those *above*, which never change again; those *kept*,
+//! of bars that are gone; and the *live* ones, of the last frame. An engine remembers their counts and the lines of its last
+//! drawing, no text that was logged, so what it needs does not grow with that. A draw writes the lines that changed, or of them
+//! only the cells that differ, and leaves those that stay; each hundredth change of a line writes it whole. Else, as for a log,
+//! it goes up to the first of the kept and live rows, empties them from there down, goes up again, and writes the new ones in
+//! their place. The rows above stand at every moment.
 ghost use Rattle.std.specs.Prelude.{if◌then◌else◌, min, ◌-◌, ◌^◌, ◌≡◌, ◌∷◌, List, true, false, ◌≢◌, map, length, replicate, ◌+◌, ◌<◌, ◌≤◌, IfErr, IfSome, option_map, IsTrue, IsFalse, ◌++◌, [], ℕ, Err, false, ◌⊎◌, ◌↔◌, ◌==◌, ◌&&◌, IfOk};
 ghost use Rattle.indicatif_term.specs.Lists.{Lists, opening_lists, forgotten_lists};
 ghost use Rattle.indicatif_term.specs.Counts.{CountsOf};
@@ -40,7 +41,9 @@ use std::mem::replace;
 /// A call that is refused with `NoColumns`, `TooWide` or `Memory` has written nothing and changed nothing; it can be made
 /// again. After `Terminal`, with the kind of the terminal's own failure, some beginning of the drawing was written: the rows
 /// are forgotten, and the next drawing begins on a new row, by `write_line("")` and `clear_line`, below whatever stands there,
-/// also where the terminal broke off within an escape sequence or a character. The rows above stand then, too, and from then on.
+/// also where the terminal broke off within an escape sequence or a character. The rows above stand then, too, and from then on. As
+/// long as anything may stand below, each row that a drawing is the first to reach is emptied before it is written; frames that take
+/// other rows than those before are written whole.
 ///
 /// ```
 /// let mut engine = Engine::new(alloc, InMemoryTerm::new(alloc, 4, 5)?);
@@ -162,8 +165,8 @@ impl<T: TermLike + Drop> Engine<T> {
     /// and each line with the spaces that fill its last row. It is off at first.
     ///
     /// A draw does so where that shows the same as with it off: it has a line and at least as many rows as it takes back, none of
-    /// its rows ends early for a wide character, no line begins with a character of no columns, and what stands in the rows is
-    /// known. Any other draw, a log and a clear go as with it off.
+    /// its rows ends early for a wide character, no line begins with a character of no columns, what stands in the rows is known, and
+    /// it reaches no row in which anything may stand since a failure. Any other draw, a log and a clear go as with it off.
     ///
     /// ```
     /// engine.set_move_cursor(true); // for a terminal that flickers where rows are emptied

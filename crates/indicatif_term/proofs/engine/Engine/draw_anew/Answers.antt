@@ -288,7 +288,8 @@ returns-clause-paints g c = λ l fits plain.
     c.drawn-next.result.below c.fill-fill.result (rw p.columns_are at c.fill-fill.ensures) in
     paints_by s (g.T.TermLike.view (engine_term c.repaint.new.self)) old c.drawn-next.result _ c.repaint.result c.repaint.new.self c.args.self.now.failed l
     (drawn s.columns s.rows bottom c.args.pass frame)
-    (reach_bytes f.down f.rows ++ (paint_bytes false old.below old.live lines c.drawn-next.result.below ++ fill_bytes c.drawn-next.result.below s.columns lines)) c.repaint.ensures.remembers (fits_failed c.args.self.now l fits)
+    (reach_bytes f.down f.rows ++ (paint_bytes false old.below old.live lines c.drawn-next.result.below ++ fill_bytes c.drawn-next.result.below s.columns lines)) c.repaint.ensures.remembers
+    (fits_failed c.args.self.now l fits)
     (rw fill at c.repaint.ensures.writes)
     (λ x is. draw_paints s.columns s.rows x old c.drawn-next.result c.args.pass c.blanks_of-blanks.result bottom c.args.frame.now plan f
     (rw p.columns_are at c.in_ok-planned.planned.window.some) plain p.narrow_frame is.counts p.plan_is (next x is.counts) blanks (rw p.rows_are at c.fresh-fresh.ensures)) o
