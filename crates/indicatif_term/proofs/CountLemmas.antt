@@ -86,7 +86,8 @@ settled_counts_of h low kept blanks live segments l c s a b d e f =
       under_is = s.under_is ∙ ap (λ b. l.under && b) (rw (a, e) (under_same h low l.reach (length l.above) (length l.kept + live_height l.live) (lists_height l) f (omega arith)));
     }
 
-pub cleared_counts_of : (l : Lists) (c c' : Counts) → CountsOf c l → c'.kept ≡ 0 → c'.blanks ≡ 0 → drop c'.passed c'.segments.items ≡ [] → c'.reached ≡ c.reached → c'.below ≡ nat_lt 0 c.reached → c'.under ≡ c.under →
+pub cleared_counts_of : (l : Lists) (c c' : Counts) → CountsOf c l → c'.kept ≡ 0 → c'.blanks ≡ 0 → drop c'.passed c'.segments.items ≡ [] → c'.reached ≡ c.reached → c'.below ≡ nat_lt 0 c.reached →
+    c'.under ≡ c.under →
     CountsOf c' (cleared l)
 unfolding cleared
 cleared_counts_of l c c' o a b d e f u = record {
@@ -130,7 +131,8 @@ module _ (w h pass : ℕ) (bottom : Bool) (frame : List BarLines) (l : Lists) (c
   same_blanks = rw (live_of c l o, q.rows_are) refl
 
   go : (n : ℕ) → p.passing ≡ n → CountsOf c' (rested (settled h (passed w n (record l { live = next_live }))))
-  go zero e = settled_counts_of h c.reached c.kept (blanks_for bottom c.live 0 p.rows) (blanks_for bottom c.live 0 p.rows + p.rows) p.segments.items (record l { live = next_live }) c' (rw o.under_is at (s2 e))
+  go zero e = settled_counts_of h c.reached c.kept (blanks_for bottom c.live 0 p.rows) (blanks_for bottom c.live 0 p.rows + p.rows) p.segments.items (record l { live = next_live }) c'
+      (rw o.under_is at (s2 e))
       o.kept_is same_blanks q.segments_are (rw (same_blanks, q.rows_are) refl) (let m : c.reached + length l.above ≡ l.reach = o.reached_is in omega arith)
   go (suc n) e =
       let first = take (suc n) next_live.segments in
@@ -179,7 +181,8 @@ module _ (w h text : ℕ) (bottom : Bool) (lines : List (List ℕ)) (frame : Lis
       (segments_height (shown_rows w h frame)) =
       same_blanks_log w h text bottom lines frame l c p o q e in
       settled_counts_of h (c.reached - text) 0 (blanks_for bottom (c.kept + c.live) text p.rows) (blanks_for bottom (c.kept + c.live) text p.rows + p.rows) p.segments.items
-      (record l { above = l.above ++ flat_map (rows_of w) lines; kept = []; live = live_of_frame w h bottom (length l.kept + live_height l.live) (length (flat_map (rows_of w) lines)) frame }) c' (rw o.under_is at s)
+      (record l { above = l.above ++ flat_map (rows_of w) lines; kept = []; live = live_of_frame w h bottom (length l.kept + live_height l.live) (length (flat_map (rows_of w) lines)) frame }) c'
+      (rw o.under_is at s)
       refl same q.segments_are (rw (same, q.rows_are) refl)
       (let m : c.reached + length l.above ≡ l.reach = o.reached_is in let k : c.reached ≤ 65535 = c.small in
       let r : length (flat_map (rows_of w) lines) ≡ text_height w lines = rows_written w h text bottom lines frame l c p o q e in simp length-append (rw r (omega arith)))

@@ -182,12 +182,14 @@ module _ (w h : ℕ) (l l' : Lists) (c : Counts) (more gone : List (List Cell)) 
         let count : length (after t (pre ++ rest)).screen.rows ≡ opening.row + length z.shown + z.blank = ap (λ u. length u.screen.rows) z.terminal_is ∙ total w h opening z.shown z.blank z.opens in
         let within : opening.row + l'.reach ≤ length (after (after t pre) rest).screen.rows = omega (arith, count, z.scrolled, ap (λ u. length u.screen.rows) (after-append t pre rest)) in
         learned_both t t' pre rest (opening.row + l'.reach)
-        (subst (λ u. Alike (opening.row + l'.reach) (after (after t pre) rest).screen (after u rest).screen) (sym same) (alike_itself (opening.row + l'.reach) (after (after t pre) rest).screen within))
+        (subst (λ u. Alike (opening.row + l'.reach) (after (after t pre) rest).screen (after u rest).screen) (sym same) (alike_itself (opening.row + l'.reach) (after
+        (after t pre) rest).screen within))
 
     pub fresh_learns : whole
     fresh_learns =
         let e : c.reached + length l.above ≡ l.reach = o.reached_is in
-        let atop = λ (q : IsAtop c). let b : 0 < lists_height l = x.on_a_row (sym o.below_is ∙ q.on_row) in let d = height_is w h l c end f o fresh opening t x in let p : 0 < length l.above = omega (arith, b, d, q.none) in p in
+        let atop = λ (q : IsAtop c). let b : 0 < lists_height l = x.on_a_row (sym o.below_is
+        ∙ q.on_row) in let d = height_is w h l c end f o fresh opening t x in let p : 0 < length l.above = omega (arith, b, d, q.none) in p in
         elim (fresh.all under) [
           | inl k ↦ with_lists k
           | inr other ↦ elim other [

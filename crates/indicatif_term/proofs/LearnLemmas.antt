@@ -49,7 +49,8 @@ cleared_alike s s' a within =
     (subst (λ u. Alike (suc s.row) (with_row (record s { column = 0 }) (blank_row s.columns)) u.screen) (sym (row_cleared s')) new)
 
 -- the next row is one more
-pub next_alike : (t t' : Terminal) → Alike (t.screen.row + 1) t.screen t'.screen → t.screen.row < length t.screen.rows → Alike (t.screen.row + 2) (after t anew_bytes).screen (after t' anew_bytes).screen
+pub next_alike : (t t' : Terminal) → Alike (t.screen.row + 1) t.screen t'.screen → t.screen.row < length t.screen.rows → Alike (t.screen.row + 2) (after t anew_bytes).screen
+    (after t' anew_bytes).screen
 next_alike t t' a within =
     let s = t.screen in
     let s' = t'.screen in
@@ -83,15 +84,16 @@ same_terminal n t t' a all r =
     let count : length s'.rows ≡ length s.rows = a.same.count in
     let rows : s'.rows ≡ s.rows = sym (take_all n s'.rows (omega (arith, count, all))) ∙ a.front ∙ take_all n s.rows all in
     let screen : s' ≡ s =
-        ap (λ k. made_of k s'.height s'.rows s'.row s'.column) a.same.columns ∙ ap (λ k. made_of s.columns k s'.rows s'.row s'.column) a.same.height
-        ∙ ap (λ k. made_of s.columns s.height k s'.row s'.column) rows ∙ ap (λ k. made_of s.columns s.height s.rows k s'.column) a.same.row
-        ∙ ap (λ k. made_of s.columns s.height s.rows s.row k) a.same.column in
+    ap (λ k. made_of k s'.height s'.rows s'.row s'.column) a.same.columns ∙ ap (λ k. made_of s.columns k s'.rows s'.row s'.column) a.same.height
+    ∙ ap (λ k. made_of s.columns s.height k s'.row s'.column) rows ∙ ap (λ k. made_of s.columns s.height s.rows k s'.column) a.same.row
+    ∙ ap (λ k. made_of s.columns s.height s.rows s.row k) a.same.column in
     let of : Screen → Reader → Terminal = λ x y. record { screen = x; reader = y } in
     let e : of s' t'.reader ≡ of s t.reader = ap (λ x. of x t'.reader) screen ∙ ap (of s) r in e
 
 -- bytes after bytes
 pub learned_both : (t t' : Terminal) (a b : List ℕ) (n : ℕ) → Alike n (after (after t a) b).screen (after (after t' a) b).screen → Alike n (after t (a ++ b)).screen (after t' (a ++ b)).screen
-learned_both t t' a b n x = subst (λ u. Alike n u.screen (after t' (a ++ b)).screen) (sym (after-append t a b)) (subst (λ u. Alike n (after (after t a) b).screen u.screen) (sym (after-append t' a b)) x)
+learned_both t t' a b n x = subst (λ u. Alike n u.screen (after t' (a ++ b)).screen) (sym (after-append t a b)) (subst (λ u. Alike n (after (after t a) b).screen u.screen) (sym
+    (after-append t' a b)) x)
 
 module _ (w h : ℕ) (opening : Screen) (above : List (List Cell)) where
   stands_row : (rows : List (List Cell)) (row reach : ℕ) (front : Bool) (t : Terminal) → Stands w h opening rows row reach front t →
@@ -113,8 +115,10 @@ module _ (w h : ℕ) (opening : Screen) (above : List (List Cell)) where
       let quiet : u'.reader ≡ idle = same_reader t t' next_row r ∙ at.2 in
       let here : Alike u.screen.row u.screen u'.screen = alike_fewer u.screen.row (opening.row + suc row) u.screen u'.screen at.0 fed in
       let new = cleared_alike u.screen u'.screen here at.1 in
-      let whole = subst (λ x. Alike (suc u.screen.row) x.screen (after (resting u'.screen) clear_bytes).screen) (ap (λ x. after x clear_bytes) (sym (idle_screen u at.2)) ∙ sym (after-append t next_row clear_bytes)) new in
-      let both = subst (λ x. Alike (suc u.screen.row) (after t (next_row ++ clear_bytes)).screen x.screen) (ap (λ x. after x clear_bytes) (sym (idle_screen u' quiet)) ∙ sym (after-append t' next_row clear_bytes)) whole in
+      let whole = subst (λ x. Alike (suc u.screen.row) x.screen (after (resting u'.screen) clear_bytes).screen) (ap (λ x. after x clear_bytes) (sym (idle_screen u at.2)) ∙ sym
+      (after-append t next_row clear_bytes)) new in
+      let both = subst (λ x. Alike (suc u.screen.row) (after t (next_row ++ clear_bytes)).screen x.screen) (ap (λ x. after x clear_bytes) (sym (idle_screen u' quiet)) ∙ sym
+      (after-append t' next_row clear_bytes)) whole in
       alike_fewer (opening.row + suc (suc row)) (suc u.screen.row) _ _ (omega (arith, at.0)) both
 
   more_learn : (n : ℕ) (more : List (List Cell)) (row : ℕ) (t t' : Terminal) → suc row ≡ length above + length more → Stands w h opening (above ++ more) row (suc row) true t →

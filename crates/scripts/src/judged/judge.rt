@@ -68,6 +68,7 @@ pub struct Judge {
     above: Vec<String>,
     has_failed: bool,
     is_littered: bool,
+    is_cut: bool,
 }
 
 impl Drop for Judge {
@@ -80,6 +81,7 @@ impl Drop for Judge {
             above: _,
             has_failed: _,
             is_littered: _,
+            is_cut: _,
         } = self;
     }
 }
@@ -96,6 +98,7 @@ impl Judge {
             above: Vec::new(alloc),
             has_failed: false,
             is_littered: false,
+            is_cut: false,
         };
         match judge.begin() {
             Ok(()) => Ok(judge),
@@ -164,6 +167,7 @@ impl Judge {
         let above = cut_rows(self.alloc, &self.above, usize::from(size.cols))?;
         self.cells.resize(size.rows, size.cols)?;
         self.size = size;
+        self.is_cut = self.is_littered;
         self.above = above;
         self.reads_all(&[])?;
         if self.has_failed {
@@ -215,12 +219,12 @@ impl Judge {
         Ok(self.rows_before()? < rows)
     }
 
-    /// A text was logged: it stands somewhere below the rows above, and belongs to them from now on. Once a call has failed, what that call
-    /// left may stand behind a row of the text: a drawing empties the row that it begins on, and none below it.
+    /// A text was logged: it stands somewhere below the rows above, and belongs to them from now on. Its rows hold nothing else, also where a
+    /// call failed before. Only once the terminal got another size since then, what that call left may stand behind a row of the text.
     pub fn logged(&mut self, text: &str) -> Result<(), Finding> {
         let picture = self.cells.picture()?;
         let rows = rows_of(self.alloc, text, usize::from(self.size.cols))?;
-        match end_of(&picture, &rows, self.above.len(), self.is_littered) {
+        match end_of(&picture, &rows, self.above.len(), self.is_cut) {
             Some(end) => self.keeps(end),
             None => Err(Finding::Lost),
         }
@@ -233,10 +237,10 @@ fn begins_anew(bytes: &[u8], has_failed: bool) -> bool {
 }
 
 /// Where the first of these rows end that stand from this one on or later, as they are or at the front of others.
-fn end_of(picture: &[String], rows: &[String], from: usize, is_littered: bool) -> Option<usize> {
+fn end_of(picture: &[String], rows: &[String], from: usize, is_cut: bool) -> Option<usize> {
     for at in from..picture.len() {
         let rest = picture.get(at..)?;
-        if rest.starts_with(rows) || is_littered && fronts_are(rest, rows) {
+        if rest.starts_with(rows) || is_cut && fronts_are(rest, rows) {
             return at.checked_add(rows.len());
         }
     }
