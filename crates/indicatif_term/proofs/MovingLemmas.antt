@@ -76,9 +76,11 @@ move_up n = move_bytes 0x41 (n - 1)
 by_lines : (w h : ℕ) (l l' : Lists) (gone : List (List Cell)) (lines plain : List (List ℕ)) → 0 < w → 0 < length lines → AreSolid w lines → AreWide w gone →
     length gone ≤ length (lines_rows w lines) → length gone ≤ GREATEST → looks_of (lines_rows w lines) ≡ looks_of (lines_rows w plain) →
     resting_row l ≡ length l.above + length l.kept + (length gone - 1) → l'.below ≡ false →
-    (IsTrue l.under → length (lines_rows w plain) ≤ length gone) → (lists_height l ≤ l.reach → l.reach ≤ length l.above + h → Replaces w h l l' l.kept gone plain) → Redraws w h l l' (move_up (length gone) ++ ((0x0D ∷ []) ++ joined_lines lines))
+    (IsTrue l.under → length (lines_rows w plain) ≤ length gone) → (lists_height l ≤ l.reach → l.reach ≤ length l.above + h → Replaces w h l l' l.kept gone plain) → Redraws w h l l' (move_up
+    (length gone) ++ ((0x0D ∷ []) ++ joined_lines lines))
 by_lines w h l l' gone [] plain pos some solid wide few small same at on' no_more goes = absurd (omega arith)
-by_lines w h l l' gone (line ∷ lines) plain pos some solid wide few small same at on' no_more goes = over_redraws w h l l' l.kept gone line lines plain pos solid wide few small same at on' no_more goes
+by_lines w h l l' gone (line ∷ lines) plain pos some solid wide few small same at on' no_more goes =
+    over_redraws w h l l' l.kept gone line lines plain pos solid wide few small same at on' no_more goes
 
 pub draw_moves : (w h : ℕ) (l : Lists) (c next : Counts) (pass blanks : ℕ) (bottom : Bool) (frame : List Segment) (plan : Plan) (ls : List StandingLine) →
     let l' = drawn w h bottom pass (map bar_lines frame) l in

@@ -242,7 +242,8 @@ module _ (w h : ℕ) (l l' : Lists) (kept gone : List (List Cell)) (line : List 
 pub over_redraws : (w h : ℕ) (l l' : Lists) (kept gone : List (List Cell)) (line : List ℕ) (lines plain : List (List ℕ)) → 0 < w → AreSolid w (line ∷ lines) → AreWide w gone →
     length gone ≤ length (lines_rows w (line ∷ lines)) → length gone ≤ GREATEST → looks_of (lines_rows w (line ∷ lines)) ≡ looks_of (lines_rows w plain) →
     resting_row l ≡ length l.above + length kept + (length gone - 1) → l'.below ≡ false →
-    (IsTrue l.under → length (lines_rows w plain) ≤ length gone) → (lists_height l ≤ l.reach → l.reach ≤ length l.above + h → Replaces w h l l' kept gone plain) → Redraws w h l l' (move_bytes 0x41 (length gone - 1) ++ ((0x0D ∷ []) ++ joined_lines (line ∷ lines)))
+    (IsTrue l.under → length (lines_rows w plain) ≤ length gone) → (lists_height l ≤ l.reach → l.reach ≤ length l.above + h → Replaces w h l l' kept gone plain) → Redraws w h l l' (move_bytes 0x41
+    (length gone - 1) ++ ((0x0D ∷ []) ++ joined_lines (line ∷ lines)))
 over_redraws w h l l' kept gone line lines plain pos solid wide few small same at on' no_more goes = record {
   shows = λ opening t s. over_shows w h l l' kept gone line lines plain pos solid wide few small same at on' opening t s (goes s.reached s.movable);
   keeps = λ opening t s. over_stays w h l l' kept gone line lines plain pos solid wide few small same at on' opening t s (goes s.reached s.movable);

@@ -311,7 +311,8 @@ none_gone n kept (inr zeros) = (ap (λ k. take k kept) zeros, ap (λ k. drop k k
 not_below : (live height reach : ℕ) → 0 < live → ((live == 0) && nat_lt height reach) ≡ false
 not_below live height reach p = grind (arith, nat_tests)
 
-same_lists : (l : Lists) (above kept : List (List Cell)) (reach : ℕ) (below failed under : Bool) → above ≡ l.above → kept ≡ l.kept → reach ≡ l.reach → below ≡ l.below → failed ≡ l.failed → under ≡ l.under →
+same_lists : (l : Lists) (above kept : List (List Cell)) (reach : ℕ) (below failed under : Bool) → above ≡ l.above → kept ≡ l.kept → reach ≡ l.reach → below ≡ l.below → failed ≡ l.failed →
+    under ≡ l.under →
     let x : Lists = record { above = above; kept = kept; live = l.live; reach = reach; below = below; failed = failed; under = under } in x ≡ l
 same_lists l above kept reach below failed under a k r b f u =
     let x : Lists = record { above = above; kept = kept; live = l.live; reach = reach; below = below; failed = failed; under = under } in

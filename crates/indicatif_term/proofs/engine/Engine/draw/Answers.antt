@@ -104,7 +104,8 @@ returns-in-Some-clause-paints g c = λ l fits plain.
     (fits_failed c.args.self.now l fits) (subst (λ f. Draws (led f bytes) s v' c.renew.result) (sym may.0) writes)
     (λ x is. subst (λ n. Redraws s.columns s.rows x (drawn s.columns s.rows bottom n (map bar_lines frame) x) bytes) (sym may.1)
     (redraws_new s.columns s.rows frame counts shown new some q done.1 (done.6 ∙ done.2.texts_are) done.4 bottom l x parts.0 parts.1 done.5 o known plain is.counts is.live parts.2)) o
-    (fits_forgets c.args.self.now l fits) (drawn-sound s.columns s.rows bottom c.args.pass (map bar_lines frame) l) (drawn-adds s.columns s.rows bottom c.args.pass (map bar_lines frame) l) (drawn-known s.columns s.rows bottom c.args.pass (map bar_lines frame) l)
+    (fits_forgets c.args.self.now l fits) (drawn-sound s.columns s.rows bottom c.args.pass (map bar_lines frame) l) (drawn-adds s.columns s.rows bottom c.args.pass (map bar_lines frame) l)
+    (drawn-known s.columns s.rows bottom c.args.pass (map bar_lines frame) l)
 
 pub returns-in-None-clause-lists : goal.returns-in-None-clause-lists
 unfolding Fits

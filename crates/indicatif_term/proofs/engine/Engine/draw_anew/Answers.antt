@@ -134,7 +134,8 @@ returns-then-can_move-clause-paints g c = λ l fits plain.
     (λ x is. draw_moves s.columns s.rows x old c.drawn-next.result c.args.pass c.blanks_of-blanks.result bottom c.args.frame.now plan items
     (rw p.columns_are at win.some) plain p.narrow_frame is.counts p.plan_is (next x is.counts) blanks (can.from_below, can.from_last) can.stays_on_row t lines even can.enough can.some
     (subst (λ live. AreWide s.columns (live_rows s.columns live)) (sym is.live) wide) (λ u. within_rows old (placed items) (can.no_more u))) o
-    (fits_forgets c.args.self.now l fits) (drawn-sound s.columns s.rows bottom c.args.pass frame l) (drawn-adds s.columns s.rows bottom c.args.pass frame l) (drawn-known s.columns s.rows bottom c.args.pass frame l)
+    (fits_forgets c.args.self.now l fits) (drawn-sound s.columns s.rows bottom c.args.pass frame l) (drawn-adds s.columns s.rows bottom c.args.pass frame l)
+    (drawn-known s.columns s.rows bottom c.args.pass frame l)
 
 pub returns-in-Some-clause-counted : goal.returns-in-Some-clause-counted
 returns-in-Some-clause-counted g c =
@@ -202,7 +203,8 @@ returns-in-Some-clause-paints g c = λ l fits plain.
     (λ x is. draw_changes s.columns s.rows x old c.drawn-next.result c.args.pass c.blanks_of-blanks.result bottom c.args.frame.now plan items c.in-Some.room parts.0 parts.1 parts.2
     (rw p.columns_are at win.some) (rw p.columns_are at room.narrow) plain p.narrow_frame is.counts p.plan_is (next x is.counts) blanks room.on_row room.stays_on_row t parts.3 parts.4
     (subst (λ live. AreSitting s.columns (looks_of (live_rows s.columns live)) (placed items)) (sym is.live) sits) within lines (λ u. within_rows old (placed items) (room.no_more u))) o
-    (fits_forgets c.args.self.now l fits) (drawn-sound s.columns s.rows bottom c.args.pass frame l) (drawn-adds s.columns s.rows bottom c.args.pass frame l) (drawn-known s.columns s.rows bottom c.args.pass frame l)
+    (fits_forgets c.args.self.now l fits) (drawn-sound s.columns s.rows bottom c.args.pass frame l) (drawn-adds s.columns s.rows bottom c.args.pass frame l)
+    (drawn-known s.columns s.rows bottom c.args.pass frame l)
 
 pub rewrite-requires-clause-suits : goal.rewrite-requires-clause-suits
 rewrite-requires-clause-suits g c =
@@ -293,7 +295,8 @@ returns-clause-paints g c = λ l fits plain.
     (rw fill at c.repaint.ensures.writes)
     (λ x is. draw_paints s.columns s.rows x old c.drawn-next.result c.args.pass c.blanks_of-blanks.result bottom c.args.frame.now plan f
     (rw p.columns_are at c.in_ok-planned.planned.window.some) plain p.narrow_frame is.counts p.plan_is (next x is.counts) blanks (rw p.rows_are at c.fresh-fresh.ensures)) o
-    (fits_forgets c.args.self.now l fits) (drawn-sound s.columns s.rows bottom c.args.pass frame l) (drawn-adds s.columns s.rows bottom c.args.pass frame l) (drawn-known s.columns s.rows bottom c.args.pass frame l)
+    (fits_forgets c.args.self.now l fits) (drawn-sound s.columns s.rows bottom c.args.pass frame l) (drawn-adds s.columns s.rows bottom c.args.pass frame l)
+    (drawn-known s.columns s.rows bottom c.args.pass frame l)
 
 pub invariant_of-shown : goal.invariant_of-shown
 invariant_of-shown g c = record { right = ∣ (λ p. (c.in_ok-kept.ensures.right, c.in_ok-lines.ensures.right c.in_ok-planned.planned.window.columns c.in_ok-planned.ensures.lines.measured)) ∣₁ }

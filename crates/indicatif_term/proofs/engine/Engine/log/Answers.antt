@@ -132,7 +132,8 @@ returns-clause-paints g c = λ l fits plain.
     (λ x is. log_paints s.columns s.rows x old c.logged-next.result rows c.blanks_of-blanks.result bottom text c.args.frame.now plan end f
     (rw p.columns_are at c.in_ok-planned.planned.window.some) (logged_utf8 c.args.text.now c.utf8.text) plain p.narrow_text p.narrow_frame is.counts p.plan_is (next x is.counts) p.height_is blanks
     (rw p.rows_are at c.fresh-fresh.ensures) ends lasts) o
-    (fits_forgets c.args.self.now l fits) (logged-sound s.columns s.rows bottom (text_lines text) frame l) (logged-adds s.columns s.rows bottom (text_lines text) frame l) (logged-known s.columns s.rows bottom (text_lines text) frame l)
+    (fits_forgets c.args.self.now l fits) (logged-sound s.columns s.rows bottom (text_lines text) frame l) (logged-adds s.columns s.rows bottom (text_lines text) frame l)
+    (logged-known s.columns s.rows bottom (text_lines text) frame l)
 
 pub invariant_of-shown : goal.invariant_of-shown
 invariant_of-shown g c = record {
