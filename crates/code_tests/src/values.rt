@@ -25,7 +25,8 @@ fn plain_bar(rt: &impl Abort, alloc: Global, len: u64) -> Box<Bar> {
 #[test]
 fn finish_and_alignment_by_default(rt: HostRuntime) {
     let rt = &rt;
-    holds!(rt; matches!(ProgressFinish::default(), ProgressFinish::AndClear));
+    let finish: ProgressFinish = ProgressFinish::default();
+    holds!(rt; matches!(finish, ProgressFinish::AndClear));
     same!(rt; MultiProgressAlignment::default(),
         MultiProgressAlignment::Top);
 }
