@@ -388,6 +388,8 @@ COMMANDS = [
     ("meter", "--size of a file", 0, "100", "$P -n -i 100 lines"),
     ("meter", "--numeric without a size", 0, "14", "cat lines | $P -n -i 100"),
     ("meter", "--lines", 0, "3", "cp lines wanted; $P -n -i 100 -l lines"),
+    ("meter", "--line-mode, pv's name", 0, "3", "cp lines wanted; $P -n -i 100 --line-mode lines"),
+    ("meter", "--width, pv's name", 0, "3", "cp lines wanted; $P -n -i 100 --width 80 -l lines"),
     ("meter", "--lines --size", 0, "60", "$P -n -i 100 -l -s 5 lines"),
     ("meter", "--quiet", 0, "", "cp lines wanted; $P -q -f lines"),
     ("meter", "--rate-limit", 0, "slow", "cp bytes wanted; from=$(date +%s%N); $P -q -L 500K bytes > handed; echo $? > status; " + TOOK),

@@ -5,6 +5,7 @@ usage: tools/real_terminal.py [FILE ..]
        tools/real_terminal.py lists SEED COUNT
        tools/real_terminal.py sizes SEED COUNT
        tools/real_terminal.py model SEED COUNT > FILE   (then the program `rows` with that file's name)
+       tools/real_terminal.py widths
   FILE   files of crates/rows/data, by their names; those of FILES below if none is named
   lists  so many random lists of calls: what the engine writes, what one writes whose cursor only moves, and what one writes that
          writes whole frames (`fuzz whole_frames`) is played to three panes. All rows, with those that scrolled away and with
@@ -14,6 +15,8 @@ usage: tools/real_terminal.py [FILE ..]
          left out
   sizes  so many random scripts of the model, with sizes at which tmux has no rows to join: what a board writes is played to a
          pane that gets these sizes between the calls. All rows have to be the model's
+  widths what the boards of any_width.txt write is played to panes of each of their widths. Rows above have to stand, and each row of a
+         board has to be clipped before the pane's last column
 
 A row that tells what stands on the screen at last (`shows`, or `contents` of `cells`) is a case: the bytes that led there are
 written to a pane of its size, and what the pane shows is compared with what the row says, up to the last written row, without
@@ -177,6 +180,11 @@ class Tmux:
         """What a pane of the case's size shows after its bytes."""
         words = self.opened(case.size, case.bytes, "case")
         return trimmed(self.run(*words, "capture-pane", "-p", "-t", "case", ";", "kill-session", "-t", "case").stdout)
+
+    def shown_whole(self, size, bytes_):
+        """All rows of a pane of this size after these bytes."""
+        words = self.opened(size, bytes_, "whole")
+        return self.run(*words, "capture-pane", "-p", "-S", "-", "-t", "whole", ";", "kill-session", "-t", "whole").stdout
 
     def shown_through(self, parts):
         """All rows of a pane that gets these sizes, and behind each the bytes beside it."""
@@ -574,7 +582,73 @@ def model_row(chance):
     return f"{head} {spelled} -> 0 {''.join(it + chr(92) + 'n' for it in board.picture())}".rstrip(" ")
 
 
+# steps that only look at a pane
+LOOKS = re.compile(r"(above|clipped|rows|wraps)\b")
+
+
+def scripts_of_widths():
+    """The scripts of any_width.txt: its first and its last width, the rows and columns that are told, the rows of a pane, and the steps."""
+    scripts = []
+    for line in open(os.path.join(CRATE, "data", "front", "any_width.txt"), encoding="utf-8"):
+        steps = line.rstrip("\n").partition(" -> ")[0].split("; ")
+        begun = re.fullmatch(r"widths (\d+) (\d+) (\d+) (\d+) on (\d+)", steps[0])
+        if begun or steps[0].startswith("broken "):
+            scripts.append((begun and begun.groups(), steps[1:]))
+        elif not line.startswith("#") and line.strip():
+            scripts[-1][1].extend(steps)
+    return [(sizes, steps) for sizes, steps in scripts if sizes]
+
+
+def clipped(row, room):
+    """The longest front of a row that has room in so many columns. A wide character may end on the next one: tmux keeps it where only its
+    second cell is emptied, as DECISIONS says."""
+    out, wide = "", 0
+    for char in row:
+        columns = 0 if unicodedata.combining(char) else 2 if unicodedata.east_asian_width(char) in "WF" else 1
+        wide += columns
+        if wide > room + (columns == 2):
+            break
+        out += char
+    return out
+
+
+def widths():
+    """Whether panes of each width show what the rule says, up to the last look of a script that tells its rows."""
+    asked = []
+    for (first, last, told_rows, told_columns, rows), steps in scripts_of_widths():
+        end = max(at for at, step in enumerate(steps) if step.startswith("clipped "))
+        _, _, text = steps[end].split(" ", 2)
+        above = [row for step in steps if step.startswith("others ") for row in unescaped(step.removeprefix("others ")).decode().split("\r\n")[:-1]]
+        played = [step for step in steps[:end] if not LOOKS.match(step)]
+        head = f"told {told_rows} {told_columns} on {rows} {told_columns}"
+        asked.append((range(int(first), int(last) + 1), rows, above, unescaped(text).decode().split("\n"), "; ".join([head, *played])))
+    with tempfile.TemporaryDirectory() as folder:
+        with open(os.path.join(folder, "asked"), "w", encoding="utf-8") as file:
+            for *_, steps in asked:
+                file.write(steps + " -> ?\nwritten -> ?\n")
+        os.mkdir(os.path.join(folder, "front"))
+        os.rename(os.path.join(folder, "asked"), os.path.join(folder, "front", "asked"))
+        told = subprocess.run([built("rows"), "front/asked"], cwd=folder, capture_output=True, text=True).stdout
+        written = dict(re.findall(r"^\S*asked, line (\d+): written\n  wanted \?\n  got (.*)$", told, re.M))
+        tmux, differ, total = Tmux(folder), 0, 0
+        try:
+            for at, (columns, rows, above, live, steps) in enumerate(asked, 1):
+                for wide in columns:
+                    total += 1
+                    got = trimmed(tmux.shown_whole((rows, str(wide)), unescaped(written[str(2 * at)])))
+                    wanted = trimmed("\n".join(above + [clipped(row, wide - 1) for row in live]))
+                    if got != wanted:
+                        differ += 1
+                        print(f"{wide} columns: {steps}\n-- the rule\n{wanted}\n-- tmux\n{got}")
+        finally:
+            tmux.run("kill-server")
+    print(f"{total - differ} panes agree, {differ} differ")
+    return differ
+
+
 def main():
+    if sys.argv[1:2] == ["widths"]:
+        sys.exit(1 if widths() else 0)
     if sys.argv[1:2] == ["lists"]:
         sys.exit(1 if lists(*sys.argv[2:4]) else 0)
     if sys.argv[1:2] == ["model"]:

@@ -8,7 +8,7 @@ use crate::show::screen::{Screen, on_cells, on_terminal};
 use bars_run::fault::Fault;
 use indicatif::machine::StreamTerm;
 use indicatif::{
-    BarCommand, BarId, BarState, Board, Candidate, Moment, NoTracker, ProgressDrawTarget,
+    BarCommand, BarId, BarState, Board, Candidate, Clock, Moment, NoTracker, ProgressDrawTarget,
     ProgressFinish, ProgressStyle, Refusal,
 };
 use std::alloc::Global;
@@ -34,11 +34,12 @@ const BYTES: u64 = 23_123_123;
 /// What each worker copies, and in how many parts.
 const WORKERS: &[(&str, u64)] = &[("a.iso", 36), ("b.iso", 54), ("c.iso", 72)];
 
-/// A board, the frame that it is at, and whether it is seen.
+/// A board, the moment of its first frame, the frame that it is at, and whether it is seen.
 #[derive(Drop)]
 struct Show {
     rt: HostRuntime,
     board: Board<NoTracker, Shown>,
+    opened: Moment,
     frame: u64,
     is_live: bool,
 }
@@ -47,13 +48,14 @@ struct Show {
 pub fn play(rt: HostRuntime) -> Result<(), Fault> {
     let shown = on_terminal(&rt)?;
     let is_live = shown.is_some();
-    let target = match shown {
-        Some(target) => target,
-        None => ProgressDrawTarget::term_like(on_cells(rt.alloc())?),
+    let (target, opened) = match shown {
+        Some(mut setup) => (setup.target, setup.clock.now()),
+        None => (ProgressDrawTarget::term_like(on_cells(rt.alloc())?), 0),
     };
     let mut show = Show {
         rt,
         board: Board::new(rt.alloc(), target, 1),
+        opened,
         frame: 0,
         is_live,
     };
@@ -63,9 +65,9 @@ pub fn play(rt: HostRuntime) -> Result<(), Fault> {
 }
 
 impl Show {
-    /// The moment of the frame.
+    /// The moment of the frame. (On a terminal's target moments come from its clock: it holds back draws before the one at which it was made.)
     fn now(&self) -> Moment {
-        self.frame.saturating_mul(FRAME)
+        self.opened.saturating_add(self.frame.saturating_mul(FRAME))
     }
 
     /// A bar below all others.

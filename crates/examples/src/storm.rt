@@ -1,5 +1,6 @@
 //! A storm on standard error: 64 threads log above four bars, move them and pause them, all at once, while one more thread ticks a bar; three
-//! times, each time on a new target. How many lines each thread has written is printed. `tools/programs.py storms` looks whether all of them stand.
+//! times, each time on a new target, and once more while they run. How many lines each thread has written is printed.
+//! `tools/programs.py storms` looks whether all of them stand.
 use anyhow::Result;
 use indicatif::bridge::{StderrLogger, logger_above};
 use indicatif::machine::{Shares, StderrBar, StderrBoard, on_stderr};
@@ -68,9 +69,12 @@ fn move_bar<R: Shares>(storm: &Storm<'_, R>, way: u64) -> Result<Drawn, Refusal>
     }
 }
 
-/// A thread's steps on a target, a line after each move; how many lines it has written.
+/// A thread's steps on a target, a line after each move; how many lines it has written. One thread goes to another target meanwhile.
 fn run<R: Shares>(storm: &Storm<'_, R>, target: u64, thread: usize) -> Result<u64, Refusal> {
     for step in 0..STEPS {
+        if thread == 0 && step == STEPS / 2 {
+            storm.board.move_to(on_stderr(storm.host)?.target)?;
+        }
         let way = step.wrapping_mul(7).wrapping_add(thread as u64);
         move_bar(storm, way % 4)?;
         let text = format!(in storm.rt.alloc(); "line {target} {thread} {step}")?;
@@ -108,8 +112,7 @@ pub fn main<R: Shares + Print>(rt: R, host: &HostRuntime) -> Result<()> {
     };
     for target in 0..TARGETS {
         storm_on(&storm, target)?;
-        board.clear()?;
-        board.set_draw_target(on_stderr(host)?.target)?;
+        board.move_to(on_stderr(host)?.target)?;
     }
     println!(rt; "missed {}", log.sink().missed())?;
     Ok(())

@@ -40,6 +40,7 @@ untold_paints v v' w w' broke l l' a b c d none p = record {
   stays = λ t placed. p.stays t (rw (a, b) placed);
   places = λ t placed. rw (sym c, sym d) (p.places t (rw (a, b) placed));
   rests = λ fine opening t rest. rw (sym c, sym d) (p.rests fine opening t (rw (a, b) rest));
+  over = λ fine opening t rest. rw (sym c, sym d) (p.over fine opening t (rw (a, b) rest));
   added = p.added;
 }
 

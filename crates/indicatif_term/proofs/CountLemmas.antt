@@ -1,7 +1,8 @@
 -- The counts that an engine keeps go on as the lists do.
-use Rattle.std.proofs.Common.{◌≡◌, ℕ, zero, suc, ◌+◌, ◌-◌, ◌<◌, ◌≤◌, min, max, Bool, true, false, ◌&&◌, List, [], ◌∷◌, ◌++◌, length, map, take, drop, replicate, refl, sym, ◌∙◌, ap, arith, append_assoc, append-nil, length-append, length-take, length-drop, if◌then◌else◌}
+use Rattle.std.proofs.Common.{◌≡◌, ℕ, zero, suc, ◌+◌, ◌-◌, ◌<◌, ◌≤◌, min, max, Bool, true, false, ◌&&◌, List, [], ◌∷◌, ◌++◌, length, map, take, drop, replicate, refl, sym, ◌∙◌, ap, arith, append_assoc, append-nil, length-append, length-take, length-drop, ⊎_elim, if◌then◌else◌}
 use Rattle.std.specs.Prelude.{flat_map, sum_by, nat_lt, ◌==◌, ◌^◌}
 use Rattle.std.proofs.lemmas.Bool.Decides.{nat_tests}
+use Rattle.std.proofs.lemmas.Bool.{cases_lt, lt-ltb, le-ltb}
 use Rattle.std.proofs.lemmas.List.{length-replicate, take-append-drop, take-map}
 use Rattle.std.proofs.lemmas.List.Concat.{length-flat_map}
 use Rattle.std.proofs.lemmas.List.Sums.{sum_by-take-drop, sum_by-cons}
@@ -63,8 +64,14 @@ below_same : (live kept low above reach height : ℕ) → low + above ≡ reach 
     ((live == 0) && nat_lt kept low) ≡ ((live == 0) && nat_lt height reach)
 below_same live kept low above reach height e f = grind (arith, nat_tests)
 
+under_same : (h low reach above more height : ℕ) → low ≡ reach - above → height ≡ above + more → nat_lt (max low more) h ≡ nat_lt (max reach height) (above + h)
+under_same h low reach above more height e f = ⊎_elim
+    (λ less. lt-ltb (max low more) h less ∙ sym (lt-ltb (max reach height) (above + h) (omega arith)))
+    (λ most. le-ltb (max low more) h most ∙ sym (le-ltb (max reach height) (above + h) (omega arith)))
+    (cases_lt (max low more) h)
+
 -- the counts of lists after settling are those that the code settles
-pub settled_counts_of : (h low kept blanks live : ℕ) (segments : List RowCount) (l : Lists) (c : Counts) → SettledCounts low h kept blanks segments live c →
+pub settled_counts_of : (h low kept blanks live : ℕ) (segments : List RowCount) (l : Lists) (c : Counts) → SettledCounts low h kept blanks segments live l.under c →
     kept ≡ length l.kept → blanks ≡ l.live.blanks → segments ≡ map row_count l.live.segments → live ≡ live_height l.live → low ≡ l.reach - length l.above →
     CountsOf c (rested (settled h l))
 settled_counts_of h low kept blanks live segments l c s a b d e f =
@@ -76,17 +83,20 @@ settled_counts_of h low kept blanks live segments l c s a b d e f =
       segments_are = s.segments_are ∙ d;
       reached_is = m;
       below_is = s.below_is ∙ rw e (below_same (live_height l.live) c.kept c.reached (length (settled h l).above) (settled h l).reach (lists_height (settled h l)) m (rw k refl));
+      under_is = s.under_is ∙ ap (λ b. l.under && b) (rw (a, e) (under_same h low l.reach (length l.above) (length l.kept + live_height l.live) (lists_height l) f (omega arith)));
     }
 
 pub cleared_counts_of : (l : Lists) (c c' : Counts) → CountsOf c l → c'.kept ≡ 0 → c'.blanks ≡ 0 → drop c'.passed c'.segments.items ≡ [] → c'.reached ≡ c.reached → c'.below ≡ nat_lt 0 c.reached →
+    c'.under ≡ c.under →
     CountsOf c' (cleared l)
 unfolding cleared
-cleared_counts_of l c c' o a b d e f = record {
+cleared_counts_of l c c' o a b d e f u = record {
   kept_is = a;
   blanks_are = b;
   segments_are = d;
   reached_is = rw e o.reached_is;
   below_is = f ∙ below_clear c.reached (length l.above) l.reach o.reached_is;
+  under_is = u ∙ o.under_is;
 }
 
 pub segments_height-map : (segments : List BarRows) → sum_by (λ (s : RowCount). s.rows) (map row_count segments) ≡ segments_height segments
@@ -112,8 +122,8 @@ live_of c l o = c.live_is ∙ rw (o.blanks_are, o.segments_are) (ap (λ n. l.liv
 -- a draw's counts
 module _ (w h pass : ℕ) (bottom : Bool) (frame : List BarLines) (l : Lists) (c c' : Counts) (p : Plan) (o : CountsOf c l) (q : IsPlan w h pass frame p)
     (s1 : 0 < p.passing → let rows = sum_by (λ (s : RowCount). s.rows) (take p.passing p.segments.items) in
-    SettledCounts c.reached h (c.kept + (blanks_for bottom c.live 0 p.rows + rows)) 0 (drop p.passing p.segments.items) (p.rows - rows) c')
-    (s2 : p.passing ≡ 0 → SettledCounts c.reached h c.kept (blanks_for bottom c.live 0 p.rows) p.segments.items (blanks_for bottom c.live 0 p.rows + p.rows) c') where
+    SettledCounts c.reached h (c.kept + (blanks_for bottom c.live 0 p.rows + rows)) 0 (drop p.passing p.segments.items) (p.rows - rows) c.under c')
+    (s2 : p.passing ≡ 0 → SettledCounts c.reached h c.kept (blanks_for bottom c.live 0 p.rows) p.segments.items (blanks_for bottom c.live 0 p.rows + p.rows) c.under c') where
   abbrev next_live : Live
   next_live = live_of_frame w h bottom (live_height l.live) 0 frame
 
@@ -121,7 +131,8 @@ module _ (w h pass : ℕ) (bottom : Bool) (frame : List BarLines) (l : Lists) (c
   same_blanks = rw (live_of c l o, q.rows_are) refl
 
   go : (n : ℕ) → p.passing ≡ n → CountsOf c' (rested (settled h (passed w n (record l { live = next_live }))))
-  go zero e = settled_counts_of h c.reached c.kept (blanks_for bottom c.live 0 p.rows) (blanks_for bottom c.live 0 p.rows + p.rows) p.segments.items (record l { live = next_live }) c' (s2 e)
+  go zero e = settled_counts_of h c.reached c.kept (blanks_for bottom c.live 0 p.rows) (blanks_for bottom c.live 0 p.rows + p.rows) p.segments.items (record l { live = next_live }) c'
+      (rw o.under_is at (s2 e))
       o.kept_is same_blanks q.segments_are (rw (same_blanks, q.rows_are) refl) (let m : c.reached + length l.above ≡ l.reach = o.reached_is in omega arith)
   go (suc n) e =
       let first = take (suc n) next_live.segments in
@@ -131,7 +142,7 @@ module _ (w h pass : ℕ) (bottom : Bool) (frame : List BarLines) (l : Lists) (c
       let pr : passing_rows ≡ segments_height first = rw (e, q.segments_are) (ap (sum_by (λ (s : RowCount). s.rows)) (take-map row_count (suc n) next_live.segments) ∙ segments_height-map first) in
       let rs : p.rows ≡ segments_height next_live.segments = q.rows_are in
       settled_counts_of h c.reached (c.kept + (blanks_for bottom c.live 0 p.rows + passing_rows)) 0 (p.rows - passing_rows) (drop p.passing p.segments.items)
-      (passed w (suc n) (record l { live = next_live })) c' (s1 (omega arith))
+      (passed w (suc n) (record l { live = next_live })) c' (rw o.under_is at (s1 (omega arith)))
       (rw (o.kept_is, same_blanks, pr) (sym (length-append l.kept (live_rows w (record { blanks = next_live.blanks; segments = first }))
       ∙ ap (λ x. length l.kept + x) (length-live w (record { blanks = next_live.blanks; segments = first })))))
       refl
@@ -162,7 +173,7 @@ module _ (w h text : ℕ) (bottom : Bool) (lines : List (List ℕ)) (frame : Lis
 -- a log's counts
 module _ (w h text : ℕ) (bottom : Bool) (lines : List (List ℕ)) (frame : List BarLines) (l : Lists) (c c' : Counts) (p : Plan) (o : CountsOf c l) (q : IsPlan w h 0 frame p)
     (e : text ≡ min (text_height w lines) (2 ^ 64 - 1)) (fits : p.rows ≤ 65535)
-    (s : SettledCounts (c.reached - text) h 0 (blanks_for bottom (c.kept + c.live) text p.rows) p.segments.items (blanks_for bottom (c.kept + c.live) text p.rows + p.rows) c') where
+    (s : SettledCounts (c.reached - text) h 0 (blanks_for bottom (c.kept + c.live) text p.rows) p.segments.items (blanks_for bottom (c.kept + c.live) text p.rows + p.rows) c.under c') where
   pub logged_counts_of : CountsOf c' (logged w h bottom lines frame l)
   unfolding logged
   logged_counts_of =
@@ -170,7 +181,8 @@ module _ (w h text : ℕ) (bottom : Bool) (lines : List (List ℕ)) (frame : Lis
       (segments_height (shown_rows w h frame)) =
       same_blanks_log w h text bottom lines frame l c p o q e in
       settled_counts_of h (c.reached - text) 0 (blanks_for bottom (c.kept + c.live) text p.rows) (blanks_for bottom (c.kept + c.live) text p.rows + p.rows) p.segments.items
-      (record l { above = l.above ++ flat_map (rows_of w) lines; kept = []; live = live_of_frame w h bottom (length l.kept + live_height l.live) (length (flat_map (rows_of w) lines)) frame }) c' s
+      (record l { above = l.above ++ flat_map (rows_of w) lines; kept = []; live = live_of_frame w h bottom (length l.kept + live_height l.live) (length (flat_map (rows_of w) lines)) frame }) c'
+      (rw o.under_is at s)
       refl same q.segments_are (rw (same, q.rows_are) refl)
       (let m : c.reached + length l.above ≡ l.reach = o.reached_is in let k : c.reached ≤ 65535 = c.small in
       let r : length (flat_map (rows_of w) lines) ≡ text_height w lines = rows_written w h text bottom lines frame l c p o q e in simp length-append (rw r (omega arith)))

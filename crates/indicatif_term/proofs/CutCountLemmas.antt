@@ -119,7 +119,7 @@ module _ (w w' h : ℕ) (l : Lists) (c c' : Counts) (o : CountsOf c l) (some : 0
       omega (arith, rows, o.blanks_are)
 
   module _ (s : IsSettledWhole h (sum (take c.kept heights)) c.blanks (c.blanks + sum (drop (c.kept + c.blanks) heights))
-      (cut_counts (drop (c.kept + c.blanks) heights) (drop c.passed c.segments.items)) c.below c') where
+      (cut_counts (drop (c.kept + c.blanks) heights) (drop c.passed c.segments.items)) c.below c.under c') where
     abbrev now : Lists
     now = passing w' h l some
 
@@ -192,14 +192,15 @@ module _ (w w' h : ℕ) (l : Lists) (c c' : Counts) (o : CountsOf c l) (some : 0
               ∙ after_cut (((cut.reach - h) - (length cut.above + length cut.kept)) - l.live.blanks) cut.live.segments;
           reached_is = omega (arith, s.reached_is, k, kn, g, u, q, r, reach_now);
           below_is = s.below_is ∙ o.below_is;
+          under_is = s.under_is ∙ o.under_is;
         }
 
 -- the same counts by other names
-pub settled_same : (h kept kept' blanks live live' : ℕ) (segments segments' : List RowCount) (below : Bool) (c : Counts) → kept ≡ kept' → live ≡ live' → segments ≡ segments' →
-    IsSettledWhole h kept blanks live segments below c → IsSettledWhole h kept' blanks live' segments' below c
-settled_same h kept kept' blanks live live' segments segments' below c a b e s =
-    subst (λ n. IsSettledWhole h n blanks live' segments' below c) a
-    (subst (λ n. IsSettledWhole h kept blanks n segments' below c) b (subst (λ ss. IsSettledWhole h kept blanks live ss below c) e s))
+pub settled_same : (h kept kept' blanks live live' : ℕ) (segments segments' : List RowCount) (below under : Bool) (c : Counts) → kept ≡ kept' → live ≡ live' → segments ≡ segments' →
+    IsSettledWhole h kept blanks live segments below under c → IsSettledWhole h kept' blanks live' segments' below under c
+settled_same h kept kept' blanks live live' segments segments' below under c a b e s =
+    subst (λ n. IsSettledWhole h n blanks live' segments' below under c) a
+    (subst (λ n. IsSettledWhole h kept blanks n segments' below under c) b (subst (λ ss. IsSettledWhole h kept blanks live ss below under c) e s))
 
 pub end_at_most_one : (b : Bool) → end_row b ≤ 1
 end_at_most_one true = omega arith
@@ -232,8 +233,8 @@ none_counted n (s ∷ ss) =
 
 -- where no row stands, none stands then
 pub none_recut : (w w' h : ℕ) (l : Lists) (c c' : Counts) → CountsOf c l → 0 < h → c.kept + c.live ≡ 0 →
-    c'.kept ≡ 0 → c'.blanks ≡ 0 → c'.segments.items ≡ [] → c'.reached ≡ end_row c.below → c'.below ≡ c.below → CountsOf c' (settled_whole w' h (recut_lists w' l))
-none_recut w w' h l c c' o some none kept blanks segments reached below =
+    c'.kept ≡ 0 → c'.blanks ≡ 0 → c'.segments.items ≡ [] → c'.reached ≡ end_row c.below → c'.below ≡ c.below → c'.under ≡ c.under → CountsOf c' (settled_whole w' h (recut_lists w' l))
+none_recut w w' h l c c' o some none kept blanks segments reached below under =
     let low = l.kept ++ live_rows w l.live in
     let height : length low ≡ 0 = omega (arith, length-append l.kept (live_rows w l.live), length-live w l.live, o.kept_is, live_of c l o, none) in
     let no_blanks : c.blanks ≡ 0 = omega (arith, c.live_is, none) in
@@ -249,4 +250,5 @@ none_recut w w' h l c c' o some none kept blanks segments reached below =
       segments_are = drop_none c'.passed c'.segments.items segments ∙ sym (ap (λ hs. counts_after gone (cut_counts hs old)) bars ∙ none_counted gone old);
       reached_is = omega (arith, reached, no_blanks, no_kept, no_bars, end, some);
       below_is = below;
+      under_is = under;
     })

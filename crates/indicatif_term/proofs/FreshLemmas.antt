@@ -1,22 +1,24 @@
 -- A drawing that first empties the rows that it is the first to reach leads to the same.
-use Rattle.std.proofs.Common.{◌≡◌, ℕ, zero, suc, ◌+◌, ◌-◌, ◌<◌, ◌≤◌, max, Bool, true, false, List, [], ◌∷◌, ◌++◌, length, map, refl, sym, ◌∙◌, ap, subst, arith, append-nil, length-append, inl, inr, ⊎_elim, if◌then◌else◌}
+use Rattle.std.proofs.Common.{◌≡◌, ◌⊎◌, ℕ, zero, suc, ◌+◌, ◌-◌, ◌<◌, ◌≤◌, max, Bool, true, false, List, [], ◌∷◌, ◌++◌, length, map, refl, sym, ◌∙◌, ap, subst, arith, append-nil, length-append, inl, inr, ⊎_elim, if◌then◌else◌}
 use Rattle.std.specs.Prelude.{IsTrue, IsFalse}
 use Rattle.std.proofs.lemmas.Bool.{cases_Bool, cases_lt}
 use Rattle.std.proofs.lemmas.List.{length-map}
 use Rattle.indicatif_text.specs.Columns.{Cell}
 use Rattle.indicatif_term.specs.Screen.{Screen}
 use Rattle.indicatif_term.specs.Terminal.{Terminal, GREATEST, after}
-use Rattle.indicatif_term.specs.Shows.{Shows, look, looks_of, resting_row}
+use Rattle.indicatif_term.specs.Shows.{Shows, IsOpening, look, looks_of, resting_row}
 use Rattle.indicatif_term.specs.Lists.{Lists, lists_height, live_height, all_rows}
 use Rattle.indicatif_term.specs.Counts.{CountsOf}
 use Rattle.indicatif_term.specs.Inside.Bytes.{paint_bytes, reach_bytes}
-use Rattle.indicatif_term.specs.Inside.Reached.{IsFresh}
+use Rattle.indicatif_term.specs.Inside.Reached.{IsFresh, IsAtop}
 use Rattle.indicatif_term.specs.declared.counts.Counts.{Counts}
 use Rattle.indicatif_term.specs.declared.counts.Fresh.{Fresh}
 use Rattle.indicatif_term.proofs.FeedLemmas.{after-append}
 use Rattle.indicatif_term.proofs.CursorRowLemmas.{Stands}
 use Rattle.indicatif_term.proofs.RowsAboveLemmas.{Keeps, both_keep}
-use Rattle.indicatif_term.proofs.TerminalStepLemmas.{StandsAfter}
+use Rattle.indicatif_term.proofs.TerminalStepLemmas.{StandsAfter, total}
+use Rattle.indicatif_term.proofs.PlaceLemmas.{Alike, alike_after, same_reader}
+use Rattle.indicatif_term.proofs.LearnLemmas.{reach_learns, alike_fewer, alike_itself, same_terminal, learned_both}
 use Rattle.indicatif_term.proofs.ShownRowLemmas.{lines_rows}
 use Rattle.indicatif_term.proofs.PaintingLemmas.{AreDrawable, restand}
 use Rattle.indicatif_term.proofs.FillLemmas.{IsFull}
@@ -33,13 +35,13 @@ replaced_height w h l l' more gone lines g =
     ∙ ap length g.afterwards ∙ length-map (all_rows w l') (map look) ∙ all-height w l'
 
 -- the rows taken back are some of those that may change
-before_height : (w h : ℕ) (l l' : Lists) (more gone : List (List Cell)) (lines : List (List ℕ)) → Replaces w h l l' more gone lines →
+pub before_height : (w h : ℕ) (l l' : Lists) (more gone : List (List Cell)) (lines : List (List ℕ)) → Replaces w h l l' more gone lines →
     length l.above + length more + length gone ≡ lists_height l
 before_height w h l l' more gone lines g =
     ap (λ n. n + length gone) (sym (length-append l.above more)) ∙ sym (length-append (l.above ++ more) gone) ∙ ap length g.before ∙ all-height w l
 
 module _ (w h : ℕ) (l : Lists) (c : Counts) (end : ℕ) (f : Fresh) (o : CountsOf c l) (fresh : IsFresh c end h f) (opening : Screen) (t : Terminal) (x : Shows w h opening l t) where
-  shown_height : length x.shown ≡ lists_height l
+  pub shown_height : length x.shown ≡ lists_height l
   shown_height = sym (length-map x.shown (map look)) ∙ ap length x.looks ∙ length-map (all_rows w l) (map look) ∙ all-height w l
 
   height_is : lists_height l ≡ length l.above + (c.kept + c.live)
@@ -54,7 +56,7 @@ module _ (w h : ℕ) (l : Lists) (c : Counts) (end : ℕ) (f : Fresh) (o : Count
   at_row : l.below ≡ false → resting_row l ≡ lists_height l - 1
   at_row e = rw e refl
 
-  last_below : 0 < f.rows → resting_row l + f.down + 1 ≡ l.reach
+  pub last_below : 0 < f.rows → resting_row l + f.down + 1 ≡ l.reach
   last_below some = ⊎_elim
       (λ e. let d : f.down + (c.kept + c.live) + 1 ≡ c.reached = fresh.from_below some (o.below_is ∙ e) in omega (arith, at_below e, d, height_is, reach_is))
       (λ e. let d : f.down + (c.kept + c.live) ≡ c.reached = fresh.from_row some (o.below_is ∙ e) in let q : 0 < lists_height l = x.on_a_row e in omega (arith, at_row e, d, height_is, reach_is, q))
@@ -82,7 +84,7 @@ module _ (w h : ℕ) (l : Lists) (c : Counts) (end : ℕ) (f : Fresh) (o : Count
       (λ none. let a : l.reach ≤ length l.above + h = x.movable in omega (arith, none))
       (cases_lt 0 f.rows)
 
-  low_shown : length x.shown ≤ suc (resting_row l)
+  pub low_shown : length x.shown ≤ suc (resting_row l)
   low_shown = ⊎_elim
       (λ e. omega (arith, at_below e, shown_height))
       (λ e. omega (arith, at_row e, shown_height))
@@ -141,3 +143,57 @@ module _ (w h : ℕ) (l l' : Lists) (c : Counts) (more gone : List (List Cell)) 
       (omega (arith, shown_height w h l c end f o fresh opening t x)) (pre_leads w h l c end f o fresh opening t x).keeps)
       (onward_keeps w h opening l l' more gone lines t (after t pre) (l.reach + f.rows) x stood (omega arith) most (above_low w h l c end f o fresh opening t x)
       (λ e b. still_waits w h l c end f o fresh opening t x (bare e) b) g p d full few)
+
+  -- what stands in rows that weren't reached makes no difference to those that are then
+  module _ (under : IsTrue c.under) (lasts : (lists_height l' ≤ end + length l.above) ⊎ (65535 + 65535 < end)) (t' : Terminal) (r : t'.reader ≡ t.reader)
+      (a : Alike (opening.row + l.reach) t.screen t'.screen) where
+    learnt : Alike (opening.row + (l.reach + f.rows)) (after t pre).screen (after t' pre).screen
+    learnt =
+        let small : f.down + f.rows ≤ 65535 = f.small in
+        let m : lists_height l ≤ l.reach = x.reached in
+        reach_learns w h opening x.shown f.down f.rows (resting_row l) l.reach l.below t t' (low_shown w h l c end f o fresh opening t x)
+        (omega (arith, m, shown_height w h l c end f o fresh opening t x)) (last_below w h l c end f o fresh opening t x) (omega (arith, small))
+        (restand w h opening x.shown t _ _ _ _ _ _ _ _ (sym (append-nil x.shown)) refl refl refl (stands_from x)) r a
+
+    abbrev whole : Type 0
+    whole = Alike (opening.row + l'.reach) (after t (pre ++ rest)).screen (after t' (pre ++ rest)).screen
+
+    -- all rows of the lists were reached
+    with_lists : end ≤ c.reached + f.rows → whole
+    with_lists k =
+        let e : c.reached + length l.above ≡ l.reach = o.reached_is in
+        let n : l'.reach ≡ max l.reach (lists_height l') = g.reach_is in
+        let low : f.down + f.rows ≤ 65535 = f.small in
+        let small : c.reached ≤ 65535 = c.small in
+        let all : lists_height l' ≤ l.reach + f.rows = ⊎_elim (λ q. omega (arith, q, k, e)) (λ q. absurd (omega (arith, q, k, small, low))) lasts in
+        alike_fewer (opening.row + l'.reach) (opening.row + (l.reach + f.rows)) _ _ (omega (arith, all, n, most))
+        (learned_both t t' pre rest (opening.row + (l.reach + f.rows)) (alike_after (opening.row + (l.reach + f.rows)) (after t pre) (after t' pre) rest learnt (same_reader t t' pre r)))
+
+    -- or all of the window
+    with_window : h ≤ l.reach + f.rows → whole
+    with_window k =
+        let st = stood in
+        let op : IsOpening w h opening = st.opens in
+        let n : length (after t pre).screen.rows ≡ opening.row + length x.shown + st.below = ap (λ u. length u.screen.rows) st.is ∙ total w h opening x.shown st.below st.opens in
+        let all : length (after t pre).screen.rows ≤ opening.row + (l.reach + f.rows) = omega (arith, n, st.scrolled, k, op.in_window, op.height, op.in_rows) in
+        let same = same_terminal (opening.row + (l.reach + f.rows)) (after t pre) (after t' pre) learnt all (same_reader t t' pre r) in
+        let z = fresh_shows in
+        let zo : IsOpening w h opening = z.opens in
+        let count : length (after t (pre ++ rest)).screen.rows ≡ opening.row + length z.shown + z.blank = ap (λ u. length u.screen.rows) z.terminal_is ∙ total w h opening z.shown z.blank z.opens in
+        let within : opening.row + l'.reach ≤ length (after (after t pre) rest).screen.rows = omega (arith, count, z.scrolled, ap (λ u. length u.screen.rows) (after-append t pre rest)) in
+        learned_both t t' pre rest (opening.row + l'.reach)
+        (subst (λ u. Alike (opening.row + l'.reach) (after (after t pre) rest).screen (after u rest).screen) (sym same) (alike_itself (opening.row + l'.reach) (after
+        (after t pre) rest).screen within))
+
+    pub fresh_learns : whole
+    fresh_learns =
+        let e : c.reached + length l.above ≡ l.reach = o.reached_is in
+        let atop = λ (q : IsAtop c). let b : 0 < lists_height l = x.on_a_row (sym o.below_is
+        ∙ q.on_row) in let d = height_is w h l c end f o fresh opening t x in let p : 0 < length l.above = omega (arith, b, d, q.none) in p in
+        elim (fresh.all under) [
+          | inl k ↦ with_lists k
+          | inr other ↦ elim other [
+            | inl k ↦ with_window (omega (arith, e, k))
+            | inr k ↦ with_window (omega (arith, e, k.1, atop k.0))
+          ]
+        ]

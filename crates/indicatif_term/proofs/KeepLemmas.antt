@@ -78,9 +78,9 @@ module _ (bar : ℕ) (l : Lists) (c : Counts) (o : CountsOf c l) where
         ap (λ ss. segments_height (take 1 ss)) found.2 ∙ omega arith
 
     pub passed_counts : (w : ℕ) (c' : Counts) → x.bar ≡ bar → c'.kept ≡ c.kept + (c.blanks + x.rows) → c'.blanks ≡ 0 → c'.segments.items ≡ c.segments.items → c'.passed ≡ c.passed + 1 →
-        c'.reached ≡ c.reached → c'.below ≡ c.below → CountsOf c' (kept_of w bar l)
+        c'.reached ≡ c.reached → c'.below ≡ c.below → c'.under ≡ c.under → CountsOf c' (kept_of w bar l)
     unfolding kept_of
-    passed_counts w c' e k b s n r f = rw (first e) (record {
+    passed_counts w c' e k b s n r f u = rw (first e) (record {
       kept_is = k ∙ omega (
         arith,
         o.kept_is,
@@ -93,4 +93,5 @@ module _ (bar : ℕ) (l : Lists) (c : Counts) (o : CountsOf c l) where
       segments_are = cc (s, n) ∙ sym (drop-drop 1 c.passed c.segments.items) ∙ ap (drop 1) o.segments_are ∙ drop-held 1 l.live.segments;
       reached_is = rw r o.reached_is;
       below_is = f ∙ o.below_is;
+      under_is = u ∙ o.under_is;
     })

@@ -76,9 +76,11 @@ move_up n = move_bytes 0x41 (n - 1)
 by_lines : (w h : ℕ) (l l' : Lists) (gone : List (List Cell)) (lines plain : List (List ℕ)) → 0 < w → 0 < length lines → AreSolid w lines → AreWide w gone →
     length gone ≤ length (lines_rows w lines) → length gone ≤ GREATEST → looks_of (lines_rows w lines) ≡ looks_of (lines_rows w plain) →
     resting_row l ≡ length l.above + length l.kept + (length gone - 1) → l'.below ≡ false →
-    (lists_height l ≤ l.reach → l.reach ≤ length l.above + h → Replaces w h l l' l.kept gone plain) → Redraws w h l l' (move_up (length gone) ++ ((0x0D ∷ []) ++ joined_lines lines))
-by_lines w h l l' gone [] plain pos some solid wide few small same at on' goes = absurd (omega arith)
-by_lines w h l l' gone (line ∷ lines) plain pos some solid wide few small same at on' goes = over_redraws w h l l' l.kept gone line lines plain pos solid wide few small same at on' goes
+    (IsTrue l.under → length (lines_rows w plain) ≤ length gone) → (lists_height l ≤ l.reach → l.reach ≤ length l.above + h → Replaces w h l l' l.kept gone plain) → Redraws w h l l' (move_up
+    (length gone) ++ ((0x0D ∷ []) ++ joined_lines lines))
+by_lines w h l l' gone [] plain pos some solid wide few small same at on' no_more goes = absurd (omega arith)
+by_lines w h l l' gone (line ∷ lines) plain pos some solid wide few small same at on' no_more goes =
+    over_redraws w h l l' l.kept gone line lines plain pos solid wide few small same at on' no_more goes
 
 pub draw_moves : (w h : ℕ) (l : Lists) (c next : Counts) (pass blanks : ℕ) (bottom : Bool) (frame : List Segment) (plan : Plan) (ls : List StandingLine) →
     let l' = drawn w h bottom pass (map bar_lines frame) l in
@@ -86,8 +88,8 @@ pub draw_moves : (w h : ℕ) (l : Lists) (c next : Counts) (pass blanks : ℕ) (
     CountsOf c l → IsPlan w h pass (map bar_lines frame) plan → CountsOf next l' → blanks ≡ blanks_for bottom c.live 0 plan.rows →
     RestsThere c → next.below ≡ false → texts ls ≡ replicate blanks [] ++ take plan.lines (frame_lines frame) →
     AreLines w ls → AreEven w ls → c.live ≤ placed_height (placed ls) → 0 < length ls → AreWide w (live_rows w l.live) →
-    Redraws w h l l' (moved_bytes w c.live (placed ls))
-draw_moves w h l c next pass blanks bottom frame plan ls p1 p2 p3 o q o' b there on' t all even less some wide =
+    (IsTrue c.under → placed_height (placed ls) ≤ c.live) → Redraws w h l l' (moved_bytes w c.live (placed ls))
+draw_moves w h l c next pass blanks bottom frame plan ls p1 p2 p3 o q o' b there on' t all even less some wide no_more =
     let l' = drawn w h bottom pass (map bar_lines frame) l in
     let gone = live_rows w l.live in
     let lines = replicate blanks [] ++ take (length (fitting h (lines_of w (map bar_lines frame)))) (frame_lines frame) in
@@ -105,6 +107,7 @@ draw_moves w h l c next pass blanks bottom frame plan ls p1 p2 p3 o q o' b there
     (subst (λ x. Redraws w h l l' (move_up (length gone) ++ ((0x0D ∷ []) ++ x))) (all_bytes w ls all)
     (by_lines w h l l' gone (filled_all w ls) (texts ls) p1 (omega (arith, length-map ls (filled_one w))) (all_solid w ls p1 d all even) wide (omega (arith, count, height)) few looks
     (resting_there l c o there ∙ ap (λ n. length l.above + length l.kept + (n - 1)) (sym count)) (sym o'.below_is ∙ on')
+    (λ u. let m = no_more (o.under_is ∙ u) in omega (arith, m, count, lines_height w ls all))
     (λ x y. rw plain (drawn_goes w h pass bottom (map bar_lines frame) l lines x y rows))))
 
 -- rows of lines that are remembered have their cells

@@ -1,5 +1,5 @@
 -- Lines written over those that stand there lead a terminal that shows the lists to one that shows the next ones.
-use Rattle.std.proofs.Common.{◌≡◌, ℕ, zero, suc, ◌+◌, ◌-◌, ◌<◌, ◌≤◌, max, Bool, false, List, [], ◌∷◌, ◌++◌, length, take, drop, replicate, map, chars, refl, sym, ◌∙◌, ap, subst, arith, length-append, append_assoc, take-append-drop}
+use Rattle.std.proofs.Common.{IsTrue, ◌≡◌, ℕ, zero, suc, ◌+◌, ◌-◌, ◌<◌, ◌≤◌, max, Bool, false, List, [], ◌∷◌, ◌++◌, length, take, drop, replicate, map, chars, refl, sym, ◌∙◌, ap, subst, arith, length-append, append_assoc, take-append-drop}
 use Rattle.std.specs.Prelude.{flat_map}
 use Rattle.std.specs.List.{AllByRecursion}
 use Rattle.std.proofs.lemmas.Str.{encodes-chars}
@@ -21,7 +21,7 @@ use Rattle.indicatif_term.proofs.FilledLineLemmas.{looks-append}
 use Rattle.indicatif_term.proofs.TerminalStepLemmas.{StandsAfter, over, screen_of, over_length, leads_from, total, window, is_text, rows_some}
 use Rattle.indicatif_term.proofs.PaintingLemmas.{restand, leads_then, rises}
 use Rattle.indicatif_term.proofs.DrawingLemmas.{Replaces, all-height, keeps_fewer, looks_split, stands_from, shows_from, low_row}
-use Rattle.indicatif_term.proofs.EngineLemmas.{Redraws}
+use Rattle.indicatif_term.proofs.EngineLemmas.{Redraws, none_learns}
 use Rattle.indicatif_term.proofs.OverLemmas.{AreWide, Fills, texts_cells, texts_over, waiting}
 use Rattle.indicatif_term.proofs.OverLineLemmas.{IsSolid, wide_looks, wide_with}
 
@@ -242,8 +242,10 @@ module _ (w h : ℕ) (l l' : Lists) (kept gone : List (List Cell)) (line : List 
 pub over_redraws : (w h : ℕ) (l l' : Lists) (kept gone : List (List Cell)) (line : List ℕ) (lines plain : List (List ℕ)) → 0 < w → AreSolid w (line ∷ lines) → AreWide w gone →
     length gone ≤ length (lines_rows w (line ∷ lines)) → length gone ≤ GREATEST → looks_of (lines_rows w (line ∷ lines)) ≡ looks_of (lines_rows w plain) →
     resting_row l ≡ length l.above + length kept + (length gone - 1) → l'.below ≡ false →
-    (lists_height l ≤ l.reach → l.reach ≤ length l.above + h → Replaces w h l l' kept gone plain) → Redraws w h l l' (move_bytes 0x41 (length gone - 1) ++ ((0x0D ∷ []) ++ joined_lines (line ∷ lines)))
-over_redraws w h l l' kept gone line lines plain pos solid wide few small same at on' goes = record {
+    (IsTrue l.under → length (lines_rows w plain) ≤ length gone) → (lists_height l ≤ l.reach → l.reach ≤ length l.above + h → Replaces w h l l' kept gone plain) → Redraws w h l l' (move_bytes 0x41
+    (length gone - 1) ++ ((0x0D ∷ []) ++ joined_lines (line ∷ lines)))
+over_redraws w h l l' kept gone line lines plain pos solid wide few small same at on' no_more goes = record {
   shows = λ opening t s. over_shows w h l l' kept gone line lines plain pos solid wide few small same at on' opening t s (goes s.reached s.movable);
   keeps = λ opening t s. over_stays w h l l' kept gone line lines plain pos solid wide few small same at on' opening t s (goes s.reached s.movable);
+  learns = none_learns w h l l' kept gone plain _ no_more goes;
 }

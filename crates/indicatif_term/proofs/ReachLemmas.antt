@@ -15,7 +15,7 @@ use Rattle.indicatif_term.proofs.SkipStepLemmas.{falls}
 
 module _ (w h : ℕ) (opening : Screen) where
   -- rows that were reached, and are blank, are some of those that stand
-  appears : (rows : List (List Cell)) (t : Terminal) (k row reach : ℕ) (front : Bool) → length rows + k ≤ reach → Stands w h opening rows row reach front t →
+  pub appears : (rows : List (List Cell)) (t : Terminal) (k row reach : ℕ) (front : Bool) → length rows + k ≤ reach → Stands w h opening rows row reach front t →
       Stands w h opening (rows ++ replicate k (blank_row w)) row reach front t
   appears rows t k row reach front within s =
       let low : k ≤ s.below = omega (arith, s.scrolled, within) in
@@ -40,11 +40,13 @@ module _ (w h : ℕ) (opening : Screen) where
 
 module _ (w h : ℕ) (opening : Screen) (above : List (List Cell)) where
   -- the row below the last that was reached
-  one : (more : List (List Cell)) (row : ℕ) (front : Bool) (t : Terminal) → suc row ≡ length above + length more → Stands w h opening (above ++ more) row (suc row) front t →
+  pub one : (more : List (List Cell)) (row : ℕ) (front : Bool) (t : Terminal) → suc row ≡ length above + length more → Stands w h opening (above ++ more) row (suc row) front t →
       StandsAfter w h opening above t (next_row ++ clear_bytes) (above ++ (more ++ blank_row w ∷ [])) (suc row) (suc (suc row)) true
   one more row front t e s =
       let down = next_leads w h opening above t more row (suc row) front s e in
-      let here : Stands w h opening (above ++ more) (suc row) (suc (suc row)) true (after t next_row) = restand w h opening above (after t next_row) (above ++ more) (above ++ more) (suc row) (suc row) (max (suc row) (suc (suc row))) (suc (suc row)) true true refl refl (omega arith) refl down.stands in
+      let here : Stands w h opening (above ++ more) (suc row) (suc (suc row)) true (after t next_row) =
+      restand w h opening above (after t next_row) (above ++ more) (above ++ more) (suc row) (suc row) (max (suc row) (suc (suc row))) (suc (suc row)) true true
+      refl refl (omega arith) refl down.stands in
       let n = length-append above more in
       let there = appears w h opening (above ++ more) (after t next_row) 1 (suc row) (suc (suc row)) true (omega (arith, n, e)) here in
       let clear = clear_leads w h opening above (after t next_row) more (blank_row w) [] (suc (suc row)) true
@@ -53,7 +55,7 @@ module _ (w h : ℕ) (opening : Screen) (above : List (List Cell)) where
       (relead w h opening above t next_row (above ++ more) (above ++ more) (suc row) (suc row) (max (suc row) (suc (suc row))) (suc (suc row)) true true refl refl (omega arith) refl down)
       (relead w h opening above (after t next_row) clear_bytes _ _ (length above + length more) (suc row) (suc (suc row)) (suc (suc row)) true true refl (sym e) refl refl clear)
 
-  more_reached : (n : ℕ) (more : List (List Cell)) (row : ℕ) (t : Terminal) → suc row ≡ length above + length more → Stands w h opening (above ++ more) row (suc row) true t →
+  pub more_reached : (n : ℕ) (more : List (List Cell)) (row : ℕ) (t : Terminal) → suc row ≡ length above + length more → Stands w h opening (above ++ more) row (suc row) true t →
       StandsAfter w h opening above t (rows_down n) (above ++ (more ++ replicate n (blank_row w))) (row + n) (suc row + n) true
   more_reached zero more row t e s = relead w h opening above t [] _ _ _ _ _ _ true true (ap (λ x. above ++ x) (sym (append-nil more))) (omega arith) (omega arith) refl
       (nothing_leads w h opening above t _ row (suc row) true (omega arith) s)
@@ -62,17 +64,19 @@ module _ (w h : ℕ) (opening : Screen) (above : List (List Cell)) where
       let blanks = replicate n (blank_row w) in
       let rest = more_reached n (more ++ blank_row w ∷ []) (suc row) (after t (next_row ++ clear_bytes)) (omega (arith, e, length-append more (blank_row w ∷ []))) first.stands in
       leads_then w h opening above t (next_row ++ clear_bytes) (rows_down n) _ _ _ _ _ _ true true first
-      (relead w h opening above (after t (next_row ++ clear_bytes)) (rows_down n) _ _ _ _ _ _ true true (ap (λ x. above ++ x) (append_assoc more (blank_row w ∷ []) blanks)) (omega arith) (omega arith) refl rest)
+      (relead w h opening above (after t (next_row ++ clear_bytes)) (rows_down n) _ _ _ _ _ _ true true (ap (λ x. above ++ x) (append_assoc more (blank_row w ∷ []) blanks))
+      (omega arith) (omega arith) refl rest)
 
   -- from the last row that was reached on
-  rows_reached : (n : ℕ) (more : List (List Cell)) (row : ℕ) (front : Bool) (t : Terminal) → suc row ≡ length above + length more → Stands w h opening (above ++ more) row (suc row) front t →
+  pub rows_reached : (n : ℕ) (more : List (List Cell)) (row : ℕ) (front : Bool) (t : Terminal) → suc row ≡ length above + length more → Stands w h opening (above ++ more) row (suc row) front t →
       StandsAfter w h opening above t (rows_down (suc n)) (above ++ (more ++ replicate (suc n) (blank_row w))) (row + suc n) (suc row + suc n) true
   rows_reached n more row front t e s =
       let first = one more row front t e s in
       let blanks = replicate n (blank_row w) in
       let rest = more_reached n (more ++ blank_row w ∷ []) (suc row) (after t (next_row ++ clear_bytes)) (omega (arith, e, length-append more (blank_row w ∷ []))) first.stands in
       leads_then w h opening above t (next_row ++ clear_bytes) (rows_down n) _ _ _ _ _ _ true true first
-      (relead w h opening above (after t (next_row ++ clear_bytes)) (rows_down n) _ _ _ _ _ _ true true (ap (λ x. above ++ x) (append_assoc more (blank_row w ∷ []) blanks)) (omega arith) (omega arith) refl rest)
+      (relead w h opening above (after t (next_row ++ clear_bytes)) (rows_down n) _ _ _ _ _ _ true true (ap (λ x. above ++ x) (append_assoc more (blank_row w ∷ []) blanks))
+      (omega arith) (omega arith) refl rest)
 
   -- so many rows reached, from the row so far below the cursor's on, and up again: nothing else changes
   pub reach_leads : (down n row reach : ℕ) (front : Bool) (t : Terminal) → length above ≤ suc row → length above ≤ reach → (0 < n → row + down + 1 ≡ reach) → (0 < n → reach + n ≤ row + h) →
@@ -92,7 +96,8 @@ module _ (w h : ℕ) (opening : Screen) (above : List (List Cell)) where
       let moved = move_bytes 0x42 down in
       let size : length above + length more ≡ reach = omega (arith, length-replicate k (blank_row w)) in
       let fall = falls w h opening above more down row reach front t (omega arith) (omega (arith, size, at)) low known in
-      let rows = rows_reached n more here front (after t moved) (omega (arith, size, at)) (restand w h opening above (after t moved) _ _ _ _ _ _ front front refl refl (omega (arith, at)) refl fall.stands) in
+      let rows = rows_reached n more here front (after t moved) (omega (arith, size, at))
+      (restand w h opening above (after t moved) _ _ _ _ _ _ front front refl refl (omega (arith, at)) refl fall.stands) in
       let both = leads_then w h opening above t moved (rows_down (suc n)) _ _ _ _ _ _ front true fall rows in
       let last_ = after t (moved ++ rows_down (suc n)) in
       let up = rises w h opening above (more ++ new) (down + suc n) row (reach + suc n) true last_ few m low

@@ -2,7 +2,7 @@
 use Rattle.std.proofs.Common.{inl, inr, ◌≡◌, ◌≢◌, ◌⊎◌, ℕ, zero, suc, ◌+◌, ◌-◌, ◌<◌, ◌≤◌, ◌^◌, min, max, Bool, true, false, List, [], ◌∷◌, ◌++◌, length, take, drop, map, set, refl, sym, ◌∙◌, ap, subst, arith, append-nil, length-append, chars, get_or, Result, Ok, Err, is_ok, is_err}
 use Rattle.std.specs.Prelude.{IsTrue, IsFalse, string_bytes, nat_lt, ◌==◌, ◌&&◌, sum_by, slice_set}
 use Rattle.std.specs.List.{AllByRecursion}
-use Rattle.std.proofs.lemmas.Bool.{cond_both}
+use Rattle.std.proofs.lemmas.Bool.{cond_both, lt-ltb}
 use Rattle.std.proofs.lemmas.Bool.Decides.{nat_tests}
 use Rattle.std.proofs.lemmas.List.{take_at, drop_at, nil_from_length, take_more, take_all, take_more_set, length-map, length-set, get_or-set_other, get_or-map, set_comm, take-map, drop-map, length-drop}
 use Rattle.indicatif_text.specs.Columns.{Cell, rows_of, has_wide, last_columns}
@@ -311,21 +311,27 @@ none_gone n kept (inr zeros) = (ap (λ k. take k kept) zeros, ap (λ k. drop k k
 not_below : (live height reach : ℕ) → 0 < live → ((live == 0) && nat_lt height reach) ≡ false
 not_below live height reach p = grind (arith, nat_tests)
 
-same_lists : (l : Lists) (above kept : List (List Cell)) (reach : ℕ) (below failed : Bool) → above ≡ l.above → kept ≡ l.kept → reach ≡ l.reach → below ≡ l.below → failed ≡ l.failed →
-    let x : Lists = record { above = above; kept = kept; live = l.live; reach = reach; below = below; failed = failed } in x ≡ l
-same_lists l above kept reach below failed a k r b f =
-    let x : Lists = record { above = above; kept = kept; live = l.live; reach = reach; below = below; failed = failed } in
-    let y : Lists = record { above = l.above; kept = l.kept; live = l.live; reach = l.reach; below = l.below; failed = l.failed } in
-    let e : x ≡ y = cc (a, k, r, b, f) in e
+same_lists : (l : Lists) (above kept : List (List Cell)) (reach : ℕ) (below failed under : Bool) → above ≡ l.above → kept ≡ l.kept → reach ≡ l.reach → below ≡ l.below → failed ≡ l.failed →
+    under ≡ l.under →
+    let x : Lists = record { above = above; kept = kept; live = l.live; reach = reach; below = below; failed = failed; under = under } in x ≡ l
+same_lists l above kept reach below failed under a k r b f u =
+    let x : Lists = record { above = above; kept = kept; live = l.live; reach = reach; below = below; failed = failed; under = under } in
+    let y : Lists = record { above = l.above; kept = l.kept; live = l.live; reach = l.reach; below = l.below; failed = l.failed; under = l.under } in
+    let e : x ≡ y = cc (a, k, r, b, f, u) in e
+
+still_under : (under : Bool) (a b : ℕ) → (under ≡ true → a < b) → (under && nat_lt a b) ≡ under
+still_under true a b f = lt-ltb a b (f refl)
+still_under false a b f = refl
 
 rests_still : (h : ℕ) (l : Lists) → lists_height l ≤ l.reach → (l.kept ≡ []) ⊎ (l.reach ≤ length l.above + h) → 0 < live_height l.live → l.below ≡ false →
-    rested (settled h l) ≡ record l { failed = false }
-rests_still h l fits low some on =
+    (IsTrue l.under → l.reach < length l.above + h) → rested (settled h l) ≡ record l { failed = false }
+rests_still h l fits low some on under =
     let gone = (max l.reach (lists_height l) - h) - length l.above in
     let none = none_gone gone l.kept (elim low [ inl none ↦ inl none | inr here ↦ inr (omega arith) ]) in
     same_lists (record l { failed = false }) (l.above ++ take gone l.kept) (drop gone l.kept) (max l.reach (lists_height l))
-    ((live_height l.live == 0) && nat_lt (lists_height (settled h l)) (max l.reach (lists_height l))) false
+    ((live_height l.live == 0) && nat_lt (lists_height (settled h l)) (max l.reach (lists_height l))) false (l.under && nat_lt (max l.reach (lists_height l)) (length l.above + h))
     (ap (λ xs. l.above ++ xs) none.0 ∙ append-nil l.above) none.1 (omega arith) (not_below (live_height l.live) (lists_height (settled h l)) (max l.reach (lists_height l)) some ∙ sym on) refl
+    (still_under l.under (max l.reach (lists_height l)) (length l.above + h) (λ e. let u : l.reach < length l.above + h = under e in omega arith))
 
 no_room : (bottom : Bool) (taken bars : ℕ) → taken ≡ bars → blanks_for bottom taken 0 bars ≡ 0
 no_room bottom taken bars e = cond_both (bottom && nat_lt 0 bars) (taken - (0 + bars)) 0 (λ n. n ≡ 0) (λ _. omega arith) (λ _. refl)
@@ -400,13 +406,15 @@ module _ (w h : ℕ) (frame : List Segment) (c : Counts) (r : Remembered) (new :
       let none : v.blanks ≡ 0 = no_room bottom (live_height x.live) (segments_height shows) (sym live ∙ live_rows_of) in
       let height : live_height v ≡ c.live = omega (arith, none, live_rows_of) in
       let low : (y.kept ≡ []) ⊎ (y.reach ≤ length y.above + h) = elim q.settled.low [ inl e ↦ inl (nil_from_length x.kept (sym kept ∙ e)) | inr here ↦ inr (omega arith) ] in
-      let still : rested (settled h y) ≡ record y { failed = false } = rests_still h y (omega (arith, height)) low (omega (arith, height, q.settled.some)) (sym o.below_is ∙ q.settled.on_row) in
+      let still : rested (settled h y) ≡ record y { failed = false } = rests_still h y (omega (arith, height)) low (omega (arith, height, q.settled.some)) (sym o.below_is ∙ q.settled.on_row)
+      (λ u. let n : c.reached < h = q.settled.under_low (o.under_is ∙ u) in omega (arith, n, reach)) in
       let counted : CountsOf c (record y { failed = false }) = record {
         kept_is = o.kept_is;
         blanks_are = q.settled.no_blanks ∙ sym none;
         segments_are = ap (λ n. drop n c.segments.items) q.settled.none_passed ∙ segments_are;
         reached_is = o.reached_is;
         below_is = o.below_is;
+        under_is = o.under_is;
       } in
       subst (CountsOf c) (sym (drawn_by w h bottom (map bar_lines frame) x ∙ still)) counted
 
@@ -465,7 +473,7 @@ module _ (w h : ℕ) (frame : List Segment) (c : Counts) (r : Remembered) (new :
           rows_are = ap (λ ys. placed_height (placed ys) + 0) all ∙ omega (arith, height);
         } in
         draw_changes w h x c c 0 0 bottom frame q.plan ls room front last [] pos q.settled.narrow plain q.narrow ox q.plan_is (counts_stay bottom x ox) (no_blanks bottom)
-        q.settled.on_row q.settled.on_row all_shown s (sym count) sits within
+        q.settled.on_row q.settled.on_row all_shown s (sym count) sits within (place_right w r.lines.items ls place) (λ u. omega (arith, height))
 
   module _ (l : Lists) (r' : Remembered) (o : CountsOf c l) (known : AreRemembered r l) (n : Renews r new r') where
     above : StandAbove w r' l

@@ -14,7 +14,8 @@ use Rattle.indicatif_term.proofs.PaintingLemmas.{IsDrawable, AreDrawable, restan
 use Rattle.indicatif_term.proofs.SkipLemmas.{Changed, change_leads}
 use Rattle.indicatif_term.proofs.EditWalkLemmas.{sitting_parts, sitting_front, height-append}
 use Rattle.indicatif_term.proofs.DrawingLemmas.{Replaces, all-height, keeps_fewer, looks_split, stands_from, shows_from, end_column, low_row, below_pos}
-use Rattle.indicatif_term.proofs.EngineLemmas.{Redraws}
+use Rattle.indicatif_term.proofs.EngineLemmas.{Redraws, none_learns}
+use Rattle.std.specs.Prelude.{IsTrue}
 
 module _ (w h : ℕ) (l l' : Lists) (kept gone : List (List Cell)) (ps : List PlacedLine) (p : PlacedLine) (more : List PlacedLine) (taken : ℕ) (pos : 0 < w) (low : w ≤ GREATEST)
     (on : l.below ≡ false) (on' : l'.below ≡ false) (few : length gone ≤ GREATEST) (sit : AreSitting w (looks_of gone) (ps ++ p ∷ more)) (some : 0 < p.rows)
@@ -125,8 +126,10 @@ pub change_redraws : (w h : ℕ) (l l' : Lists) (kept gone : List (List Cell)) (
     l'.below ≡ false →
     length gone ≤ GREATEST → AreSitting w (looks_of gone) (ps ++ p ∷ more) → 0 < p.rows → AreDrawable w (placed_lines ps) → IsDrawable w p.line → AreDrawable w (placed_lines more) →
     placed_height ps + p.rows + taken ≡ length gone →
+    (IsTrue l.under → length (lines_rows w ((placed_lines ps ++ p.line ∷ []) ++ placed_lines more)) ≤ length gone) →
     (lists_height l ≤ l.reach → l.reach ≤ length l.above + h → Replaces w h l l' kept gone ((placed_lines ps ++ p.line ∷ []) ++ placed_lines more)) → Redraws w h l l' (change_bytes w taken ps p more)
-change_redraws w h l l' kept gone ps p more taken pos low on on' few sit some d dp dm size goes = record {
+change_redraws w h l l' kept gone ps p more taken pos low on on' few sit some d dp dm size no_more goes = record {
   shows = λ opening t s. change_shows w h l l' kept gone ps p more taken pos low on on' few sit some d dp dm size opening t s (goes s.reached s.movable);
   keeps = λ opening t s. change_keeps w h l l' kept gone ps p more taken pos low on on' few sit some d dp dm size opening t s (goes s.reached s.movable);
+  learns = none_learns w h l l' kept gone ((placed_lines ps ++ p.line ∷ []) ++ placed_lines more) (change_bytes w taken ps p more) no_more goes;
 }

@@ -169,9 +169,9 @@ pub draw_changes : (w h : ℕ) (l : Lists) (c next : Counts) (pass blanks : ℕ)
     0 < w → w ≤ GREATEST → IsTrue (are_plain (all_lines (map bar_lines frame))) → IsFalse (some_wide w (all_lines (map bar_lines frame))) →
     CountsOf c l → IsPlan w h pass (map bar_lines frame) plan → CountsOf next l' → blanks ≡ blanks_for bottom c.live 0 plan.rows →
     c.below ≡ false → next.below ≡ false → texts ls ≡ replicate blanks [] ++ take plan.lines (frame_lines frame) → placed ls ≡ front ++ last ∷ more → length front + 1 ≡ room.lines →
-    AreSitting w (looks_of (live_rows w l.live)) (placed ls) → IsWithin ls c.live room →
+    AreSitting w (looks_of (live_rows w l.live)) (placed ls) → IsWithin ls c.live room → AreLines w ls → (IsTrue c.under → placed_height (placed ls) ≤ c.live) →
     Redraws w h l l' (change_bytes w room.free front last more)
-draw_changes w h l c next pass blanks bottom frame plan ls room front last more p1 low p2 p3 o q o' b on on' t s k sits within =
+draw_changes w h l c next pass blanks bottom frame plan ls room front last more p1 low p2 p3 o q o' b on on' t s k sits within all no_more =
     let l' = drawn w h bottom pass (map bar_lines frame) l in
     let lines = replicate blanks [] ++ take (length (fitting h (lines_of w (map bar_lines frame)))) (frame_lines frame) in
     let gone = live_rows w l.live in
@@ -190,6 +190,8 @@ draw_changes w h l c next pass blanks bottom frame plan ls room front last more 
     omega (arith, x.0.rows_are) in
     change_redraws w h l l' l.kept gone front last more room.free p1 low (sym o.below_is ∙ on) (sym o'.below_is ∙ on') few sits' some d.0 d.1 d.2
     (omega (arith, within.rows_are, height_around ls room.lines front last more s k, count))
+    (λ u. let m = no_more (o.under_is ∙ u) in let n : length (lines_rows w ((placed_lines front ++ last.line ∷ []) ++ placed_lines more)) ≡ placed_height (placed ls) =
+    ap (λ xs. length (lines_rows w xs)) (split' ∙ sym (t ∙ ap (λ n. replicate blanks [] ++ take n (frame_lines frame)) q.lines_are)) ∙ sym (lines_height w ls all) in omega (arith, m, n, count))
     (λ a b. subst (Replaces w h l l' l.kept gone) (sym split') (drawn_goes w h pass bottom (map bar_lines frame) l lines a b rows))
 
 on_same : (r : Remembered) (v : ℕ) → r.width ≡ v → (if r.width == v then r.lines.items else []) ≡ r.lines.items

@@ -15,3 +15,4 @@ pub record CountsOf (c : Counts) (l : Lists) : Type 0 where
   pub segments_are : drop c.passed c.segments.items ≡ map row_count l.live.segments
   pub reached_is : c.reached + length l.above ≡ l.reach
   pub below_is : c.below ≡ l.below
+  pub under_is : c.under ≡ l.under

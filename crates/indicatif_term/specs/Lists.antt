@@ -27,6 +27,8 @@ pub record Lists : Type 0 where
   pub below : Bool
   -- whether the terminal has failed since the last drawing that was made
   pub failed : Bool
+  -- whether anything may stand in the rows that weren't reached, since it has failed and not all of its window was reached then
+  pub under : Bool
 
 -- no live row
 abbrev pub no_live : Live
@@ -34,11 +36,11 @@ no_live = record { blanks = 0; segments = [] }
 
 -- nothing drawn: the cursor is at the front of the first row
 abbrev pub opening_lists : Lists
-opening_lists = record { above = []; kept = []; live = no_live; reach = 1; below = true; failed = false }
+opening_lists = record { above = []; kept = []; live = no_live; reach = 1; below = true; failed = false; under = false }
 
--- the same after a failure of the terminal: the rows are forgotten
+-- the same after a failure of the terminal: the rows are forgotten, and anything may stand below
 abbrev pub forgotten_lists : Lists
-forgotten_lists = record opening_lists { failed = true }
+forgotten_lists = record opening_lists { failed = true; under = true }
 
 -- how many rows segments have
 abbrev pub segments_height : List BarRows → ℕ
@@ -60,12 +62,20 @@ live_rows w live = replicate live.blanks (blank_row w) ++ flat_map (λ s. s.rows
 abbrev pub all_rows : ℕ → Lists → List (List Cell)
 all_rows w l = l.above ++ l.kept ++ live_rows w l.live
 
--- kept rows that have scrolled away on a terminal of h rows join those above
+-- kept rows that have scrolled away on a terminal of h rows join those above; all below is known once h rows were reached
 abbrev pub settled : ℕ → Lists → Lists
 settled h l =
     let reach = max l.reach (lists_height l) in
     let gone = (reach - h) - length l.above in
-    record { above = l.above ++ take gone l.kept; kept = drop gone l.kept; live = l.live; reach = reach; below = l.below; failed = l.failed }
+    record {
+      above = l.above ++ take gone l.kept;
+      kept = drop gone l.kept;
+      live = l.live;
+      reach = reach;
+      below = l.below;
+      failed = l.failed;
+      under = l.under && nat_lt reach (length l.above + h);
+    }
 
 -- at the end of a draw, a log or a clear the cursor rests below the lists where nothing is live and that row was reached
 abbrev pub rested : Lists → Lists

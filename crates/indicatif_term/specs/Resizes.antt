@@ -104,9 +104,9 @@ rows_passed w n l = record l {
   live = record { blanks = l.live.blanks - n; segments = segments_after (n - l.live.blanks) l.live.segments };
 }
 
--- kept and live rows that have scrolled away on a terminal of w columns and h rows join those above
+-- kept and live rows that have scrolled away on a terminal of w columns and h rows join those above; what is below is known no better
 abbrev pub settled_whole : ℕ → ℕ → Lists → Lists
-settled_whole w h l = settled h (rows_passed w ((l.reach - h) - (length l.above + length l.kept)) l)
+settled_whole w h l = record (settled h (rows_passed w ((l.reach - h) - (length l.above + length l.kept)) l)) { under = l.under }
 
 -- the lists of a terminal of w columns and h rows that gets w' columns and h' rows
 unfoldable pub resized_lists : ℕ → ℕ → ℕ → ℕ → Lists → Lists

@@ -64,7 +64,7 @@ pub struct Counts {
 }
 
 impl Counts {
-    ghost use Rattle.indicatif_term.specs.Lists.{Lists, BarLines, opening_lists, drawn, logged, cleared, blanks_for, kept_of, fate};
+    ghost use Rattle.indicatif_term.specs.Lists.{Lists, BarLines, opening_lists, forgotten_lists, drawn, logged, cleared, blanks_for, kept_of, fate};
     ghost use Rattle.indicatif_term.specs.Counts.{CountsOf};
     ghost use Rattle.indicatif_term.specs.Inside.Plans.{IsPlan, IsSummed, text_height};
     ghost use Rattle.indicatif_term.specs.Inside.Fills.{fill_columns};
@@ -88,7 +88,7 @@ impl Counts {
 
     /// The same where the terminal has failed: anything may stand below.
     pub fn forgotten(alloc: Global) -> Counts
-        ensures { CountsOf result opening_lists }
+        ensures { CountsOf result forgotten_lists }
     {
         Counts {
             kept: 0,
@@ -320,7 +320,7 @@ impl NextRows {
         requires height_small { height ≤ 65535 }
         requires live_small { self.live ≤ 65535 }
         requires kept_small { self.kept ≤ reached + 65535 }
-        ensures { SettledCounts reached height self.kept self.blanks (drop self.passed self.segments.items) self.live result }
+        ensures { SettledCounts reached height self.kept self.blanks (drop self.passed self.segments.items) self.live self.under result }
     {
         let reached = reached.max(self.kept + self.live);
         let gone = reached.saturating_sub(height).min(self.kept);

@@ -6,8 +6,8 @@
 //! only the cells that differ, and leaves those that stay; each hundredth change of a line writes it whole. Else, as for a log,
 //! it goes up to the first of the kept and live rows, empties them from there down, goes up again, and writes the new ones in
 //! their place. The rows above stand at every moment.
-ghost use Rattle.std.specs.Prelude.{if◌then◌else◌, ◌≡◌, ◌∷◌, List, true, false, ◌≢◌, map, length, replicate, ◌+◌, ◌<◌, ◌≤◌, IfErr, IfSome, option_map, IsTrue, IsFalse, ◌++◌, [], ℕ, Err, false, ◌⊎◌, ◌↔◌, ◌==◌, ◌&&◌, IfOk};
-ghost use Rattle.indicatif_term.specs.Lists.{Lists, opening_lists};
+ghost use Rattle.std.specs.Prelude.{if◌then◌else◌, min, ◌-◌, ◌^◌, ◌≡◌, ◌∷◌, List, true, false, ◌≢◌, map, length, replicate, ◌+◌, ◌<◌, ◌≤◌, IfErr, IfSome, option_map, IsTrue, IsFalse, ◌++◌, [], ℕ, Err, false, ◌⊎◌, ◌↔◌, ◌==◌, ◌&&◌, IfOk};
+ghost use Rattle.indicatif_term.specs.Lists.{Lists, opening_lists, forgotten_lists};
 ghost use Rattle.indicatif_term.specs.Counts.{CountsOf};
 ghost use Rattle.indicatif_term.specs.Remembered.{Suits};
 ghost use Rattle.indicatif_term.specs.Standing.{texts};
@@ -420,7 +420,9 @@ impl<T: TermLike + Drop> Engine<T> {
     }
 
     /// Whether the lines take more than so many rows where anything may stand below.
-    fn goes_further(&self, taken: usize, shown: &Remembered) -> bool {
+    fn goes_further(&self, taken: usize, shown: &Remembered) -> bool
+        ensures { IsFalse result → IsTrue self.now.counts.under → min (placed_height (placed shown.now.lines.items)) (2 ^ 64 - 1) ≤ taken }
+    {
         self.counts.under && height_of(&shown.lines) > taken
     }
 
@@ -599,7 +601,7 @@ impl<T: TermLike + Drop> Engine<T> {
     fn forget(&mut self)
         ensures terminal { engine_term self.new ≡ engine_term self.old }
         ensures moves { engine_moves self.new ≡ engine_moves self.old }
-        ensures forgotten { CountsOf self.new.counts opening_lists × (self.new.failed ≡ true) × (self.new.shown.width ≡ 0) }
+        ensures forgotten { CountsOf self.new.counts forgotten_lists × (self.new.failed ≡ true) × (self.new.shown.width ≡ 0) }
     {
         self.counts = Counts::forgotten(self.alloc);
         self.shown = Remembered::nothing(self.alloc);

@@ -76,7 +76,7 @@ impl CutRows {
         requires small { height ≤ 65535 }
         requires kept_small { self.kept ≤ 0xFFFF_FFFF }
         requires live_small { self.live ≤ 0xFFFF_FFFF + 65535 }
-        ensures { IsSettledWhole height self.kept self.blanks self.live self.segments.items self.below result }
+        ensures { IsSettledWhole height self.kept self.blanks self.live self.segments.items self.below self.under result }
     {
         let end = rows_below(self.below);
         let gone = (self.live + end).saturating_sub(height);

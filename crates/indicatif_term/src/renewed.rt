@@ -73,7 +73,7 @@ pub fn new_lines<T: TermLike>(
 }
 
 /// Whether rows stand below no blank ones, with the cursor on the last of them, on a terminal of as many columns as then, and no kept
-/// row has scrolled away.
+/// row has scrolled away; where anything may stand below, on one of more rows than were reached.
 fn is_settled(last: Last<'_>, window: Window) -> bool
     ensures { IsTrue result → IsSettled window.columns window.rows last.entry.counts.now last.entry.shown.now }
 {
@@ -82,6 +82,9 @@ fn is_settled(last: Last<'_>, window: Window) -> bool
         return false;
     }
     if counts.below || counts.live == 0 || counts.blanks > 0 || counts.passed > 0 {
+        return false;
+    }
+    if counts.under && counts.reached >= window.rows {
         return false;
     }
     counts.kept == 0 || counts.reached <= window.rows

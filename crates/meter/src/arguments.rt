@@ -403,14 +403,27 @@ fn found<'a>(alloc: Global, words: &'a [String]) -> Result<ArgMatches<'a>, Error
         "Copies files or standard input to standard output, and shows the progress on standard error",
     );
     for choice in CHOICES {
-        let known = argument(alloc, choice.name, choice.given);
-        command = command.arg(known.help(choice.help))?;
+        let known = argument(alloc, choice.name, choice.given).help(choice.help);
+        let known = match pv_name(choice.name) {
+            Some(name) => known.alias(name)?,
+            None => known,
+        };
+        command = command.arg(known)?;
     }
     for absent in ABSENT {
         let unknown = argument(alloc, absent.name, absent.given);
         command = command.arg(unknown.hide(true))?;
     }
     command.version(VERSION).try_get_matches_from(words)
+}
+
+/// What `pv` calls a choice that has another name here; that name is taken too.
+fn pv_name(name: &str) -> Option<&'static str> {
+    match name {
+        "lines" => Some("line-mode"),
+        "columns" => Some("width"),
+        _ => None,
+    }
 }
 
 /// An argument of this name that is given so.

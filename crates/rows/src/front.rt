@@ -9,6 +9,7 @@
 //!   these where they are wrapped. `polls`: those that are polled.
 //! - `lists`: lists that are wrapped. `loops`: loops with a bar of their own. `places`: the place that moves and seeks show.
 //! - `environment`: what an environment says of a terminal. `on_pane`: a board on a terminal of another size than it was told.
+//!   `on_panes`: boards on terminals of many sizes.
 //!   `pane`: that terminal. `plain`: a hidden bar as plain lines.
 mod bars;
 mod beside;
@@ -22,6 +23,7 @@ mod history;
 mod lists;
 mod loops;
 mod on_pane;
+mod on_panes;
 mod pane;
 mod places;
 mod plain;

@@ -1,6 +1,6 @@
 //! The terminal's own file, or cells in its place.
-use indicatif::machine::{StreamTerm, UntilGone, on_stream};
-use indicatif::{Cells, OwnRows, ProgressDrawTarget, Refusal, Term};
+use indicatif::machine::{StreamSetup, StreamTerm, UntilGone, on_stream};
+use indicatif::{Cells, OwnRows, Refusal, Term};
 use std::alloc::Global;
 use std::fs::{self, File, OpenOptions};
 use std::io::{self, BufWriter, ErrorKind, IsTerminal, Write};
@@ -55,10 +55,8 @@ impl Write for Screen {
     }
 }
 
-/// A target on the terminal, if there is one that bars can be drawn on.
-pub fn on_terminal(
-    rt: &HostRuntime,
-) -> Result<Option<ProgressDrawTarget<StreamTerm<Screen>>>, Refusal> {
+/// A target on the terminal with its clock, if there is one that bars can be drawn on.
+pub fn on_terminal(rt: &HostRuntime) -> Result<Option<StreamSetup<Screen, HostRuntime>>, Refusal> {
     let Some(file) = terminal(rt) else {
         return Ok(None);
     };
@@ -66,7 +64,7 @@ pub fn on_terminal(
     if setup.target.is_hidden() {
         return Ok(None);
     }
-    Ok(Some(setup.target))
+    Ok(Some(setup))
 }
 
 /// A terminal of cells.

@@ -120,9 +120,10 @@ counts_after n [] = []
 counts_after n (s ∷ ss) = if nat_le s.rows n then counts_after (n - s.rows) ss else record s { rows = s.rows - n } ∷ ss
 
 -- the counts of rows that were cut, where kept and live ones that have scrolled away on a terminal of h rows join those above
-pub record IsSettledWhole (h kept blanks live : ℕ) (segments : List RowCount) (below : Bool) (c : Counts) : Type 0 where
+pub record IsSettledWhole (h kept blanks live : ℕ) (segments : List RowCount) (below under : Bool) (c : Counts) : Type 0 where
   pub kept_is : c.kept ≡ (kept + ((live + end_row below) - h)) - min ((kept + live + end_row below) - h) (kept + ((live + end_row below) - h))
   pub blanks_are : c.blanks ≡ blanks - ((live + end_row below) - h)
   pub segments_are : drop c.passed c.segments.items ≡ counts_after (((live + end_row below) - h) - blanks) segments
   pub reached_is : c.reached ≡ (kept + live + end_row below) - min ((kept + live + end_row below) - h) (kept + ((live + end_row below) - h))
   pub below_is : c.below ≡ below
+  pub under_is : c.under ≡ under

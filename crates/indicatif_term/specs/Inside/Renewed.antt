@@ -101,6 +101,7 @@ pub record IsSettled (w h : ℕ) (c : Counts) (r : Remembered) : Type 0 where
   pub on_row : c.below ≡ false
   pub some : 0 < c.live
   pub low : (c.kept ≡ 0) ⊎ (c.reached ≤ h)
+  pub under_low : IsTrue c.under → c.reached < h
 
 -- a frame is as narrow as the terminal, has the rows that stand, of the same bars, and the lines that stand, with new ones in their places
 pub record IsRenewed (w h : ℕ) (frame : List Segment) (c : Counts) (r : Remembered) (new : List NewLine) : Type 0 where

@@ -6,7 +6,9 @@
 //! - `size ROWS COLS`: the board is told another size. `pane ROWS COLS`: the pane gets another one. `target ROWS COLS`: the board goes on
 //!   there on a target of this size, whose rows are left to the terminal.
 //! - `others TEXT`: what another program writes. `fails N`: the write of this number fails, counted from now on.
-//! - `rows`: what stands there, up to the last row that isn't empty. `wraps`: whether the wrap is on.
+//! - `rows`: what stands there, up to the last row that isn't empty. `above N`: its first rows, so many. `wraps`: whether the wrap is on.
+//! - `clipped N TEXT`: whether behind the first N rows these rows stand, each without what has no room before the pane's last column.
+//! - `written`: all bytes that came there.
 //! - Any other step is a call of the board or of a bar.
 use crate::front::pane::{Pane, Wire};
 use indicatif::{Answer, Board, NoTracker, OwnRows, ProgressDrawTarget, Term, TermLike};
@@ -77,6 +79,11 @@ fn answers<T: TermLike + Drop>(
 }
 
 impl OnPane {
+    /// The pane takes so many bytes from now on, and then refuses one write.
+    pub fn breaks_behind(&self, bytes: usize) {
+        self.pane.breaks.set(Some(bytes));
+    }
+
     /// Makes a step, or reads something.
     pub fn step(&mut self, step: &str, got: &mut Got) {
         let at = self.at;

@@ -9,7 +9,7 @@ use scripts::row::{Words, headed};
 use scripts::screen::{Screen, push_filled};
 use scripts::spelling::{number, unescaped};
 use std::alloc::Global;
-use std::cell::Cell;
+use std::cell::{Cell, RefCell};
 use std::io::{self, Error, ErrorKind, Write};
 use std::rc::Rc;
 use std::str;
@@ -22,6 +22,10 @@ pub struct Pane {
     pub wraps: Cell<bool>,
     /// How many writes from now on the one is that fails; none where it is 0.
     pub fails: Cell<u64>,
+    /// How many bytes are taken before one write fails.
+    pub breaks: Cell<Option<usize>>,
+    /// All that was shown.
+    written: RefCell<Vec<u8>>,
 }
 
 impl Pane {
@@ -32,6 +36,8 @@ impl Pane {
             columns: Cell::new(columns),
             wraps: Cell::new(true),
             fails: Cell::new(0),
+            breaks: Cell::new(None),
+            written: RefCell::new(Vec::new(alloc)),
         };
         Ok(Rc::new(alloc, pane)?)
     }
@@ -48,7 +54,8 @@ impl Pane {
         Ok((pane, term))
     }
 
-    /// Makes a step of the pane, or reads something of it: `others TEXT`, `fails N`, `wraps`, `rows`. Whether the step is one.
+    /// Makes a step of the pane, or reads something of it: `others TEXT`, `fails N`, `wraps`, `rows`, `above N`, `clipped N TEXT`,
+    /// `written`. Whether the step is one.
     pub fn step(&self, alloc: Global, step: &str, got: &mut Got) -> bool {
         match headed(step) {
             ("others", text) => match unescaped(alloc, text) {
@@ -65,9 +72,48 @@ impl Pane {
             },
             ("wraps", "") => got.flag(self.wraps.get()),
             ("rows", "") => push_filled(self.screen.picture(), got),
+            ("above", count) => self.push_above(count, got),
+            ("written", "") => self.push_written(got),
+            ("clipped", words) => match self.is_clipped(alloc, words) {
+                Ok(is_so) => got.flag(is_so),
+                Err(bad) => got.bad(bad),
+            },
             _ => return false,
         }
         true
+    }
+
+    /// All bytes that were shown.
+    fn push_written(&self, got: &mut Got) {
+        if let Ok(written) = self.written.try_borrow() {
+            got.bytes(&written);
+        }
+    }
+
+    /// The first rows that stand, so many.
+    fn push_above(&self, count: &str, got: &mut Got) {
+        match (number::<usize>(count), self.screen.picture()) {
+            (Ok(count), Ok(rows)) => got.rows(rows.get(..count).unwrap_or(&rows)),
+            (Err(bad), _) => got.bad(bad),
+            (_, Err(refusal)) => got.bad(refusal.into()),
+        }
+    }
+
+    /// Whether what stands behind the first rows, so many, are these rows, each without what has no room before the last column.
+    fn is_clipped(&self, alloc: Global, words: &str) -> Result<bool, Bad> {
+        let mut words = Words::of(words);
+        let above: usize = words.number();
+        let text = words.text(alloc)?;
+        let rows = self.screen.picture()?;
+        let room = usize::from(self.columns.get().saturating_sub(1));
+        let mut wanted = text.as_str();
+        let mut are_so = true;
+        for row in rows.get(above..).unwrap_or(&[]) {
+            let (line, behind) = wanted.split_once('\n').unwrap_or((wanted, ""));
+            are_so &= row.as_str() == clipped(line, room);
+            wanted = behind;
+        }
+        Ok(are_so && wanted.is_empty())
     }
 
     /// Gets another size.
@@ -77,8 +123,17 @@ impl Pane {
         Ok(())
     }
 
+    /// Keeps bytes that are shown.
+    fn keep(&self, bytes: &[u8]) -> io::Result<()> {
+        match self.written.try_borrow_mut() {
+            Ok(mut written) => Ok(written.extend_from_slice(bytes)?),
+            Err(_) => Err(Error::from(ErrorKind::OutOfMemory)),
+        }
+    }
+
     /// Shows a text.
     pub fn show(&self, text: &str) -> io::Result<()> {
+        self.keep(text.as_bytes())?;
         let mut rest = text;
         for _ in 0..text.len() {
             rest = match self.switched(rest) {
@@ -178,6 +233,20 @@ impl Pane {
     }
 }
 
+/// The longest front of a row that has room in so many columns, without blanks at its end.
+fn clipped(row: &str, room: usize) -> &str {
+    let mut wide = 0_usize;
+    let mut end = 0_usize;
+    for c in row.chars() {
+        wide = wide.saturating_add(width(c));
+        if wide > room {
+            break;
+        }
+        end = end.saturating_add(c.len_utf8());
+    }
+    row.get(..end).unwrap_or(row).trim_end_matches(' ')
+}
+
 /// What stands behind the sequence with which a synchronized update begins or ends, where the text begins with that: a pane shows all as it
 /// comes.
 fn behind_update(text: &str) -> Option<&str> {
@@ -185,12 +254,32 @@ fn behind_update(text: &str) -> Option<&str> {
     begun.or(text.strip_prefix("\u{1b}[?2026l"))
 }
 
-/// The writer that leads to a pane. It takes texts whole.
+/// The writer that leads to a pane. It takes texts whole, but where it breaks off.
 #[derive(Drop)]
 pub struct Wire(pub Rc<Pane>);
 
+impl Wire {
+    /// How many of so many bytes are taken; none where the write fails.
+    fn takes(&mut self, count: usize) -> Option<usize> {
+        let Some(left) = self.0.breaks.get() else {
+            return Some(count);
+        };
+        if left == 0 {
+            self.0.breaks.set(None);
+            return None;
+        }
+        let taken = left.min(count);
+        self.0.breaks.set(Some(left.saturating_sub(taken)));
+        Some(taken)
+    }
+}
+
 impl Write for Wire {
     fn write(&mut self, buf: &[u8]) -> io::Result<usize> {
+        let Some(taken) = self.takes(buf.len()) else {
+            return Err(Error::from(ErrorKind::BrokenPipe));
+        };
+        let buf = buf.get(..taken).unwrap_or(buf);
         let left = self.0.fails.get();
         self.0.fails.set(left.saturating_sub(1));
         let shown = match str::from_utf8(buf) {

@@ -6,9 +6,10 @@ use crate::front::fronts::World;
 use crate::front::lists::{self, List};
 use crate::front::loops::Looped;
 use crate::front::on_pane::OnPane;
+use crate::front::on_panes::OnPanes;
 use crate::front::places::Places;
 use crate::front::plain::Plain;
-use crate::front::{beside, environment, fronts, loops, on_pane, places, plain};
+use crate::front::{beside, environment, fronts, loops, on_pane, on_panes, places, plain};
 use scripts::got::{Bad, Got};
 use scripts::row::headed;
 use std::alloc::Global;
@@ -28,6 +29,7 @@ pub enum On<R: Wait + Copy + Clone + Drop> {
     Loop(Box<Looped>),
     Places(Box<Places>),
     Pane(Box<OnPane>),
+    Panes(Box<OnPanes>),
     Plain(Box<Plain>),
 }
 
@@ -51,6 +53,7 @@ impl<R: AllocGlobal + RandomSource + Wait + Copy + Clone + Drop> Stage<R> {
             "places" => on!(Places, places::begin(self.alloc, rest)),
             "plain" => on!(Plain, plain::begin(self.alloc, rest)),
             "told" | "trusted" | "row" => on!(Pane, on_pane::begin(self.alloc, name, rest)),
+            "widths" | "broken" => on!(Panes, on_panes::begin(self.alloc, name, rest)),
             _ => return None,
         })
     }
@@ -70,6 +73,7 @@ impl<
             On::Loop(world) => world.step(step, got),
             On::Places(world) => world.step(step, got),
             On::Pane(world) => world.step(step, got),
+            On::Panes(world) => world.step(step, got),
             On::Plain(world) => world.step(step, got),
         }
     }

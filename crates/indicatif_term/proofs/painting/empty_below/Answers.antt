@@ -1,5 +1,4 @@
 use Rattle.std.proofs.Common.{arith, ◌≡◌, []}
-use Rattle.indicatif_term.specs.Inside.Bytes.{rows_down}
 use Rattle.indicatif_term.proofs.CallTurnLemmas.{reaches_none, down_reaches, down_fails}
 use Rattle.indicatif_term.proofs.painting.empty_below.Goals as goal
 

@@ -1,7 +1,5 @@
-use Rattle.std.proofs.Common.{arith, ◌+◌}
-use Rattle.indicatif_term.specs.Calls.{move_bytes}
-use Rattle.indicatif_term.specs.Inside.Bytes.{rows_down}
-use Rattle.indicatif_term.proofs.CallTurnLemmas.{reaches_none, writes_then, writes_fail, breaks_then, reach_some}
+use Rattle.std.proofs.Common.{arith}
+use Rattle.indicatif_term.proofs.CallTurnLemmas.{reaches_none, writes_then, writes_fail, reach_some}
 use Rattle.indicatif_term.proofs.painting.reach.Goals as goal
 
 pub returns-then-fresh-eq0 : goal.returns-then-fresh-eq0

@@ -14,7 +14,8 @@ pub returns-in_err-write_line-2 : goal.returns-in_err-write_line-2
 returns-in_err-write_line-2 g c =
     let view = g.T.TermLike.view in
     let line = line_bytes c.args.text.now in
-    breaks view (c.what_own_rows_draw.ensures.broken view) (line ∷ line ∷ []) ([] ∷ []) c.args.own.now c.write_line-2.new.self _ c.from_residual-in_err-write_line-2.result c.from_residual-in_err-write_line-2.ensures.1
+    breaks view (c.what_own_rows_draw.ensures.broken view) (line ∷ line ∷ []) ([] ∷ []) c.args.own.now c.write_line-2.new.self _
+    c.from_residual-in_err-write_line-2.result c.from_residual-in_err-write_line-2.ensures.1
     (c.what_own_rows_draw.ensures.next view (line ∷ []) (line ∷ []) c.args.own.now c.write_line.new.self c.write_line-2.new.self _
     (c.in_ok-write_line.ensures.draws c.requires) (c.in_err-write_line-2.ensures.draws c.requires))
 

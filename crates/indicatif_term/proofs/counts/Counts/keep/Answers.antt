@@ -29,4 +29,4 @@ pub returns-clause-fate : goal.returns-clause-fate
 returns-clause-fate c = λ l o. passes c.args.bar l c.args.self o c.index-first.result.now (omega arith) c.index-first.ensures c.if-first-bar.false
 
 pub returns-clause-counts : goal.returns-clause-counts
-returns-clause-counts c = λ w l o. passed_counts c.args.bar l c.args.self o c.index-first.result.now (omega arith) c.index-first.ensures w _ c.if-first-bar.false refl refl refl refl refl refl
+returns-clause-counts c = λ w l o. passed_counts c.args.bar l c.args.self o c.index-first.result.now (omega arith) c.index-first.ensures w _ c.if-first-bar.false refl refl refl refl refl refl refl

@@ -33,5 +33,6 @@ returns-clause-counts c = λ w w' l o e.
     ∙ ap (drop counts.passed) c.deref.ensures.value in
     recut_counts_of w w' c.args.height l counts c.settled.result o c.requires.some hs e
     (settled_same c.args.height c.in_ok-kept.kept (sum (take counts.kept hs)) counts.blanks (counts.blanks + c.in_ok-rows.rows) (counts.blanks + sum (drop a hs)) c.in_ok-segments.segments.items
-    (cut_counts (drop a hs) (drop counts.passed counts.segments.items)) counts.below c.settled.result c.in_ok-kept.ensures.rows (ap (λ k. counts.blanks + k) (c.in_ok-rows.ensures.rows ∙ ap sum same))
+    (cut_counts (drop a hs) (drop counts.passed counts.segments.items)) counts.below counts.under c.settled.result c.in_ok-kept.ensures.rows (ap (λ k. counts.blanks + k)
+    (c.in_ok-rows.ensures.rows ∙ ap sum same))
     (c.in_ok-segments.ensures.cut ∙ ap (λ xs. cut_counts xs own) same ∙ ap (cut_counts (drop a hs)) segments) c.settled.ensures)

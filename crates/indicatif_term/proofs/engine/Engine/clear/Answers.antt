@@ -5,7 +5,7 @@ use Rattle.indicatif_term.specs.Frames.{is_fault}
 use Rattle.indicatif_term.specs.Lists.{cleared}
 use Rattle.indicatif_term.specs.Engines.{engine_term}
 use Rattle.indicatif_term.proofs.RememberedLemmas.{nothing_shown}
-use Rattle.indicatif_term.proofs.DrawingLemmas.{cleared-adds, cleared-sound}
+use Rattle.indicatif_term.proofs.DrawingLemmas.{cleared-adds, cleared-known, cleared-sound}
 use Rattle.indicatif_term.proofs.EngineLemmas.{paints_refused, paints_by, fits_counts, fits_failed, fits_forgets, fits_by, suits_made, clear_paints}
 use Rattle.indicatif_term.proofs.engine.Engine.clear.Goals as goal
 
@@ -35,4 +35,4 @@ returns-clause-paints g c = λ l fits.
     (paint_bytes false old.below (old.kept + old.live) [] c.cleared-next.result.below) c.repaint.ensures.remembers (fits_failed c.args.self.now l fits)
     (rw (c.none.ensures, append-nil) at c.repaint.ensures.writes)
     (λ x is. clear_paints s.columns s.rows x old c.cleared-next.result (rw c.in_ok-of.ensures.0 at c.in_ok-of.field-0.some) is.counts (c.cleared-next.ensures x is.counts)) o
-    (fits_forgets c.args.self.now l fits) (cleared-sound l) (cleared-adds l)
+    (fits_forgets c.args.self.now l fits) (cleared-sound l) (cleared-adds l) (cleared-known s.rows l)

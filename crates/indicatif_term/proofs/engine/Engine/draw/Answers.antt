@@ -10,7 +10,7 @@ use Rattle.indicatif_term.specs.Remembered.{AreRemembered}
 use Rattle.indicatif_term.specs.Frames.{bar_lines, all_lines}
 use Rattle.indicatif_term.specs.Engines.{engine_term, Fits}
 use Rattle.indicatif_term.specs.DrawTargets.{is_bottom}
-use Rattle.indicatif_term.proofs.DrawingLemmas.{drawn-adds, drawn-sound}
+use Rattle.indicatif_term.proofs.DrawingLemmas.{drawn-adds, drawn-known, drawn-sound}
 use Rattle.indicatif_term.proofs.EngineLemmas.{paints_by, led, fits_counts, fits_failed, fits_forgets, fits_by, fits_shown, answer_made, Redraws}
 use Rattle.indicatif_term.proofs.SkippingLemmas.{counted_by}
 use Rattle.indicatif_term.proofs.RenewedLemmas.{fit_there, some_width, some_stand, low_height, new_suits, counts_stay, shown_next, redraws_new, split_last, stands_again}
@@ -105,6 +105,7 @@ returns-in-Some-clause-paints g c = λ l fits plain.
     (λ x is. subst (λ n. Redraws s.columns s.rows x (drawn s.columns s.rows bottom n (map bar_lines frame) x) bytes) (sym may.1)
     (redraws_new s.columns s.rows frame counts shown new some q done.1 (done.6 ∙ done.2.texts_are) done.4 bottom l x parts.0 parts.1 done.5 o known plain is.counts is.live parts.2)) o
     (fits_forgets c.args.self.now l fits) (drawn-sound s.columns s.rows bottom c.args.pass (map bar_lines frame) l) (drawn-adds s.columns s.rows bottom c.args.pass (map bar_lines frame) l)
+    (drawn-known s.columns s.rows bottom c.args.pass (map bar_lines frame) l)
 
 pub returns-in-None-clause-lists : goal.returns-in-None-clause-lists
 unfolding Fits

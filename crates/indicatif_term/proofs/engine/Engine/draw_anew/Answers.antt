@@ -17,9 +17,9 @@ use Rattle.indicatif_term.specs.declared.remembered.Remembered.{Remembered}
 use Rattle.indicatif_term.specs.Frames.{bar_lines, is_fault}
 use Rattle.indicatif_term.specs.Engines.{engine_term}
 use Rattle.indicatif_term.specs.DrawTargets.{is_bottom}
-use Rattle.indicatif_term.proofs.DrawingLemmas.{drawn-adds, drawn-sound}
+use Rattle.indicatif_term.proofs.DrawingLemmas.{drawn-adds, drawn-known, drawn-sound}
 use Rattle.indicatif_term.proofs.LineEndLemmas.{draw_fill}
-use Rattle.indicatif_term.proofs.EngineLemmas.{paints_refused, paints_by, led, fits_counts, fits_failed, fits_forgets, fits_by, fits_shown, draw_paints}
+use Rattle.indicatif_term.proofs.EngineLemmas.{within_rows, paints_refused, paints_by, led, fits_counts, fits_failed, fits_forgets, fits_by, fits_shown, draw_paints}
 use Rattle.indicatif_term.proofs.SkippingLemmas.{drawn_shown, drawn_suits, sits_live, draw_changes, split_at, counted_by, some_lines}
 use Rattle.indicatif_term.proofs.OverLemmas.{AreWide}
 use Rattle.indicatif_term.proofs.MovingLemmas.{live_wide, draw_moves}
@@ -133,8 +133,9 @@ returns-then-can_move-clause-paints g c = λ l fits plain.
     (subst (λ f. Draws (led f bytes) s v' c.overwrite.result) (sym can.sound) writes)
     (λ x is. draw_moves s.columns s.rows x old c.drawn-next.result c.args.pass c.blanks_of-blanks.result bottom c.args.frame.now plan items
     (rw p.columns_are at win.some) plain p.narrow_frame is.counts p.plan_is (next x is.counts) blanks (can.from_below, can.from_last) can.stays_on_row t lines even can.enough can.some
-    (subst (λ live. AreWide s.columns (live_rows s.columns live)) (sym is.live) wide)) o
+    (subst (λ live. AreWide s.columns (live_rows s.columns live)) (sym is.live) wide) (λ u. within_rows old (placed items) (can.no_more u))) o
     (fits_forgets c.args.self.now l fits) (drawn-sound s.columns s.rows bottom c.args.pass frame l) (drawn-adds s.columns s.rows bottom c.args.pass frame l)
+    (drawn-known s.columns s.rows bottom c.args.pass frame l)
 
 pub returns-in-Some-clause-counted : goal.returns-in-Some-clause-counted
 returns-in-Some-clause-counted g c =
@@ -188,6 +189,7 @@ returns-in-Some-clause-paints g c = λ l fits plain.
     let blanks = rw c.is_bottom.ensures at (c.blanks_of-blanks.ensures.blanks old.live 0 (omega arith)) in
     let t = c.in_ok-lines.ensures.lines ∙ ap (λ xs. replicate c.blanks_of-blanks.result [] ++ xs) c.in_ok-planned.ensures.lines.texts_are in
     let next = λ (x : Lists) (is : CountsOf old x). rw p.rows_are at (c.drawn-next.ensures s.columns c.args.pass bottom frame x is (rw (← p.rows_are) at p.plan_is) blanks) in
+    let lines = subst (λ n. AreLines n items) p.columns_are (c.in_ok-lines.ensures.right win.columns c.in_ok-planned.ensures.lines.measured) in
     let sits = sits_live win.columns s.columns shown c.on.result.now l old (placed items) p.columns_are win.some room.same_width c.on.ensures.lines
     (fits_shown c.args.self.now l fits) o room.known room.few
     (c.in_ok-lines.ensures.sits win.columns (c.on.ensures.right win.some) c.in_ok-planned.ensures.lines.measured
@@ -200,8 +202,9 @@ returns-in-Some-clause-paints g c = λ l fits plain.
     (subst (λ f. Draws (led f bytes) s v' c.rewrite.result) (sym room.sound) writes)
     (λ x is. draw_changes s.columns s.rows x old c.drawn-next.result c.args.pass c.blanks_of-blanks.result bottom c.args.frame.now plan items c.in-Some.room parts.0 parts.1 parts.2
     (rw p.columns_are at win.some) (rw p.columns_are at room.narrow) plain p.narrow_frame is.counts p.plan_is (next x is.counts) blanks room.on_row room.stays_on_row t parts.3 parts.4
-    (subst (λ live. AreSitting s.columns (looks_of (live_rows s.columns live)) (placed items)) (sym is.live) sits) within) o
+    (subst (λ live. AreSitting s.columns (looks_of (live_rows s.columns live)) (placed items)) (sym is.live) sits) within lines (λ u. within_rows old (placed items) (room.no_more u))) o
     (fits_forgets c.args.self.now l fits) (drawn-sound s.columns s.rows bottom c.args.pass frame l) (drawn-adds s.columns s.rows bottom c.args.pass frame l)
+    (drawn-known s.columns s.rows bottom c.args.pass frame l)
 
 pub rewrite-requires-clause-suits : goal.rewrite-requires-clause-suits
 rewrite-requires-clause-suits g c =
@@ -287,11 +290,13 @@ returns-clause-paints g c = λ l fits plain.
     c.drawn-next.result.below c.fill-fill.result (rw p.columns_are at c.fill-fill.ensures) in
     paints_by s (g.T.TermLike.view (engine_term c.repaint.new.self)) old c.drawn-next.result _ c.repaint.result c.repaint.new.self c.args.self.now.failed l
     (drawn s.columns s.rows bottom c.args.pass frame)
-    (reach_bytes f.down f.rows ++ (paint_bytes false old.below old.live lines c.drawn-next.result.below ++ fill_bytes c.drawn-next.result.below s.columns lines)) c.repaint.ensures.remembers (fits_failed c.args.self.now l fits)
+    (reach_bytes f.down f.rows ++ (paint_bytes false old.below old.live lines c.drawn-next.result.below ++ fill_bytes c.drawn-next.result.below s.columns lines)) c.repaint.ensures.remembers
+    (fits_failed c.args.self.now l fits)
     (rw fill at c.repaint.ensures.writes)
     (λ x is. draw_paints s.columns s.rows x old c.drawn-next.result c.args.pass c.blanks_of-blanks.result bottom c.args.frame.now plan f
     (rw p.columns_are at c.in_ok-planned.planned.window.some) plain p.narrow_frame is.counts p.plan_is (next x is.counts) blanks (rw p.rows_are at c.fresh-fresh.ensures)) o
     (fits_forgets c.args.self.now l fits) (drawn-sound s.columns s.rows bottom c.args.pass frame l) (drawn-adds s.columns s.rows bottom c.args.pass frame l)
+    (drawn-known s.columns s.rows bottom c.args.pass frame l)
 
 pub invariant_of-shown : goal.invariant_of-shown
 invariant_of-shown g c = record { right = ∣ (λ p. (c.in_ok-kept.ensures.right, c.in_ok-lines.ensures.right c.in_ok-planned.planned.window.columns c.in_ok-planned.ensures.lines.measured)) ∣₁ }

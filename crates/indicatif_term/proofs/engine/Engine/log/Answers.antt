@@ -10,9 +10,9 @@ use Rattle.indicatif_term.specs.declared.remembered.Remembered.{Remembered}
 use Rattle.indicatif_term.specs.Engines.{engine_term}
 use Rattle.indicatif_term.specs.DrawTargets.{is_bottom}
 use Rattle.indicatif_term.proofs.SkippingLemmas.{logged_shown, some_lines}
-use Rattle.indicatif_term.proofs.DrawingLemmas.{logged-adds, logged-sound}
+use Rattle.indicatif_term.proofs.DrawingLemmas.{logged-adds, logged-known, logged-sound}
 use Rattle.indicatif_term.proofs.LineEndLemmas.{log_fill}
-use Rattle.indicatif_term.proofs.EngineLemmas.{paints_refused, paints_by, fits_counts, fits_failed, fits_forgets, fits_by, suits_made, log_paints, narrow_both, answer_made}
+use Rattle.indicatif_term.proofs.EngineLemmas.{all_or_many, paints_refused, paints_by, fits_counts, fits_failed, fits_forgets, fits_by, suits_made, log_paints, narrow_both, answer_made}
 use Rattle.indicatif_term.proofs.LoggedLineLemmas.{logged_length, logged_utf8}
 use Rattle.indicatif_term.proofs.ShownRowLemmas.{frame_lines_le}
 use Rattle.indicatif_term.proofs.CarriedLemmas.{no_lines_right}
@@ -116,6 +116,7 @@ returns-clause-paints g c = λ l fits plain.
     let f = c.fresh-fresh.result in
     let end = c.saturating_add-end.result in
     let ends : end ≤ text_height s.columns (text_lines text) + (c.blanks_of-blanks.result + plan.rows) = omega (arith, c.saturating_add-end.ensures, p.height_is) in
+    let lasts = all_or_many (text_height s.columns (text_lines text)) (c.blanks_of-blanks.result + plan.rows) rows end p.height_is c.saturating_add-end.ensures in
     let blanks = rw c.is_bottom.ensures at (c.blanks_of-blanks.ensures.blanks (old.kept + old.live) rows c.saturating_sub-free.ensures) in
     let next = λ (x : Lists) (is : CountsOf old x). rw p.rows_are at (c.logged-next.ensures s.columns bottom (text_lines text) frame x is (rw (← p.rows_are) at p.plan_is) p.height_is blanks) in
     let lines = text ++ replicate c.blanks_of-blanks.result [] ++ take plan.lines (frame_lines c.args.frame.now) in
@@ -124,12 +125,15 @@ returns-clause-paints g c = λ l fits plain.
     (rw p.columns_are at c.fill-fill.ensures) in
     paints_by s (g.T.TermLike.view (engine_term c.repaint.new.self)) old c.logged-next.result _ c.repaint.result c.repaint.new.self c.args.self.now.failed l
     (logged s.columns s.rows bottom (text_lines text) frame)
-    (reach_bytes f.down f.rows ++ (paint_bytes false old.below (old.kept + old.live) lines c.logged-next.result.below ++ fill_bytes c.logged-next.result.below s.columns lines)) c.repaint.ensures.remembers
+    (reach_bytes f.down f.rows ++ (paint_bytes false old.below (old.kept + old.live) lines c.logged-next.result.below ++ fill_bytes c.logged-next.result.below s.columns lines))
+    c.repaint.ensures.remembers
     (fits_failed c.args.self.now l fits)
     (rw fill at c.repaint.ensures.writes)
     (λ x is. log_paints s.columns s.rows x old c.logged-next.result rows c.blanks_of-blanks.result bottom text c.args.frame.now plan end f
-    (rw p.columns_are at c.in_ok-planned.planned.window.some) (logged_utf8 c.args.text.now c.utf8.text) plain p.narrow_text p.narrow_frame is.counts p.plan_is (next x is.counts) p.height_is blanks (rw p.rows_are at c.fresh-fresh.ensures) ends) o
+    (rw p.columns_are at c.in_ok-planned.planned.window.some) (logged_utf8 c.args.text.now c.utf8.text) plain p.narrow_text p.narrow_frame is.counts p.plan_is (next x is.counts) p.height_is blanks
+    (rw p.rows_are at c.fresh-fresh.ensures) ends lasts) o
     (fits_forgets c.args.self.now l fits) (logged-sound s.columns s.rows bottom (text_lines text) frame l) (logged-adds s.columns s.rows bottom (text_lines text) frame l)
+    (logged-known s.columns s.rows bottom (text_lines text) frame l)
 
 pub invariant_of-shown : goal.invariant_of-shown
 invariant_of-shown g c = record {

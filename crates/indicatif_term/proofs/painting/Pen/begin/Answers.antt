@@ -4,7 +4,8 @@ use Rattle.indicatif_term.proofs.PenLemmas.{pens_done, pens_refused}
 use Rattle.indicatif_term.proofs.painting.Pen.begin.Goals as goal
 
 pub returns-in_err-begin_anew : goal.returns-in_err-begin_anew
-returns-in_err-begin_anew g c = pens_refused g.T.TermLike.view (reach_bytes c.args.fresh.down c.args.fresh.rows) _ c.args.self.now c.begin_anew.new.self _ c.from_residual.result c.begin_anew.ensures.same
+returns-in_err-begin_anew g c = pens_refused g.T.TermLike.view (reach_bytes c.args.fresh.down c.args.fresh.rows) _ c.args.self.now c.begin_anew.new.self _ c.from_residual.result
+    c.begin_anew.ensures.same
     c.from_residual.ensures.1 c.in_err-begin_anew.ensures.writes
 
 pub returns : goal.returns

@@ -1,0 +1,93 @@
+//! Boards that are told one size, each on a pane of its own.
+//!
+//! `widths FIRST LAST ROWS COLS on ROWS` begins with a board for each number of columns of a pane, from the first to the last. `broken FIRST LAST ROWS
+//! COLS on ROWS COLS` begins with one for each number of bytes that a pane takes. Then
+//!
+//! - `breaks`: each of these panes takes so many bytes from now on, and then refuses one write.
+//! - `any STEP`: the step is made of each, whatever it gives.
+//! - Any other step is made of each (`on_pane`), and gives what all of them give. What one gives that differs from the first stands behind its
+//!   number.
+use crate::front::on_pane::{self, OnPane};
+use scripts::got::{Bad, Got};
+use scripts::row::{At, Words, headed};
+use std::alloc::Global;
+
+/// A board on a pane, and its number.
+#[derive(Drop)]
+struct Numbered {
+    number: u16,
+    board: Box<OnPane>,
+}
+
+/// All of them.
+#[derive(Drop)]
+pub struct OnPanes {
+    alloc: Global,
+    boards: Vec<Numbered>,
+}
+
+/// Boards without bars.
+pub fn begin(alloc: Global, name: &str, rest: &str) -> Result<Box<OnPanes>, Bad> {
+    let mut words = Words::of(rest);
+    let bounds: (u16, u16) = (words.number(), words.number());
+    let sizes = words.rest();
+    let (first, last) = words.done(bounds)?;
+    let mut boards = Vec::new(alloc);
+    for number in first..=last {
+        let board = begin_one(alloc, name, sizes, number)?;
+        boards.push(Numbered { number, board })?;
+    }
+    At { alloc, now: 0 }.boxed(OnPanes { alloc, boards })
+}
+
+/// The one of this number.
+fn begin_one(alloc: Global, name: &str, sizes: &str, number: u16) -> Result<Box<OnPane>, Bad> {
+    if name == "broken" {
+        return on_pane::begin(alloc, "told", sizes);
+    }
+    let sizes = format!(in alloc; "{sizes} {number}")?;
+    on_pane::begin(alloc, "told", sizes.as_str())
+}
+
+impl OnPanes {
+    /// Makes a step of each.
+    pub fn step(&mut self, step: &str, got: &mut Got) {
+        match headed(step) {
+            ("breaks", "") => self.break_all(),
+            ("any", step) => self.make(step),
+            _ => self.agree(step, got),
+        }
+    }
+
+    fn break_all(&mut self) {
+        for one in &mut self.boards {
+            one.board.breaks_behind(usize::from(one.number));
+        }
+    }
+
+    fn make(&mut self, step: &str) {
+        let mut given = Got::new(self.alloc);
+        for one in &mut self.boards {
+            given.clear();
+            one.board.step(step, &mut given);
+        }
+    }
+
+    /// What all give, and behind its number what one gives that differs from the first.
+    fn agree(&mut self, step: &str, got: &mut Got) {
+        let mut wanted = Got::new(self.alloc);
+        let mut given = Got::new(self.alloc);
+        let mut is_first = true;
+        for one in &mut self.boards {
+            given.clear();
+            one.board.step(step, &mut given);
+            if is_first {
+                wanted.text(given.as_str());
+            } else if given.as_str() != wanted.as_str() {
+                got.number(format_args!("{}: {}\n", one.number, given.as_str()));
+            }
+            is_first = false;
+        }
+        got.text(wanted.as_str());
+    }
+}
