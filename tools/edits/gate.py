@@ -73,8 +73,10 @@ def function_of(before):
     head = re.sub(r"->", "", block[0]) if block else ""
     while re.search(r"<[^<>]*>", head):
         head = re.sub(r"<[^<>]*>", "", head)
-    owner = re.match(r"(?:impl(?:.* for)?|(?:pub )?trait)\s+(?:\w+::)*(\w+)", " ".join(head.split()))
-    return ([f"{owner[1]}::{name[0]}"] if name and owner else []) + name
+    found = re.match(r"(?:impl(?:\W+((?:\w+::)*\w+) for)?|(?:pub )?trait)\W+(?:\w+::)*(\w+)", " ".join(head.split()))
+    # (a trait's call of a type stands under both names: `TermTermLike::flush`)
+    owner = found and found[2] + (found[1] or "").rpartition("::")[2]
+    return ([f"{owner}::{name[0]}"] if name and owner else []) + name
 
 
 def ran(words, folder, seconds):
