@@ -12,7 +12,7 @@ use std::alloc::Global;
 /// ```
 pub trait Text: Drop {
     /// Its bytes, in UTF-8.
-    ghost bytes : { Self → List ℕ };
+    ghost bytes: { Self → List ℕ };
 
     /// The text.
     fn as_text(&self) -> &str

@@ -582,11 +582,7 @@ impl<K: Tracks> BarState<K> {
     ///
     /// Refused: `ElapsedBeyondClock`, exactly where an elapsed time is more than the moment; `Memory`, where the command takes
     /// some. Nothing has changed then.
-    pub fn tell<S: Text>(
-        &mut self,
-        command: BarCommand<K, S>,
-        now: Moment,
-    ) -> Result<Ask, Refusal>
+    pub fn tell<S: Text>(&mut self, command: BarCommand<K, S>, now: Moment) -> Result<Ask, Refusal>
         ensures done { IfOk result (λ ask. (self.new, ask) ≡ obeyed K.means (command_as S.bytes command) self.old now) }
         ensures unchanged { OnErr result (self.new ≡ self.old) }
         ensures beyond { (result ≡ Err Refusal.ElapsedBeyondClock) ↔ IsTrue (is_beyond_clock (command_as S.bytes command) now) }
