@@ -1,6 +1,6 @@
 //! Several bars on one target, which threads share.
-ghost use Rattle.std.specs.Prelude.{◌≡◌, ◌⊎◌, Err, IfErr, IfSome};
-ghost use Rattle.indicatif_board.specs.Recorded.{IsOneRun};
+ghost use Rattle.std.specs.Prelude.{◌≡◌, ◌⊎◌, Err, IfErr, IfSome, Option, option_map};
+ghost use Rattle.indicatif_board.specs.Recorded.{IsOneRun, Record};
 ghost use Rattle.indicatif.specs.Fronts.{CanClear, CanDraw, IsMissing, MemoryOrForeign};
 
 use crate::progress_bar::ProgressBar;
@@ -364,9 +364,11 @@ impl<T: TermLike + Drop, C: Clock + Drop, R: Wait + Clone + Drop, K: Tracks> Mul
         f(shown)
     }
 
-    /// Lends the board with its history to the reader under the lock; `None` where it keeps none. What the reader is lent is one run: it
-    /// may ask for that (`RecordReader`). A call of this board in the reader, or of any bar of it, waits for ever.
-    pub fn with_record<F: RecordReader<T, K>>(&self, reader: F) -> F::Found {
+    /// Lends the board with its history to the reader under the lock; `None` where it keeps none. What the reader is lent is one run, and
+    /// what it finds of that is what it says (`RecordReader`). A call of this board in the reader, or of any bar of it, waits for ever.
+    pub fn with_record<F: RecordReader<T, K>>(&self, reader: F) -> F::Found
+        ensures { (history : Option (Record K T)) × IfSome history (λ r. IsOneRun K.means r) × F.finds reader history result }
+    {
         let locked = self.board.lock(&self.rt);
         reader.read(locked.board.as_recorded())
     }
@@ -452,12 +454,19 @@ impl<T: TermLike + Drop, C: Clock + Clone + Drop, R: Wait + Clone + Drop, K: Tra
 /// }
 /// ```
 pub trait RecordReader<T: Drop, K: Tracks> {
+    ghost use Rattle.std.specs.Prelude.{Option};
+    ghost use Rattle.indicatif_board.specs.Recorded.{Record};
+
     /// What it finds.
     type Found;
 
+    /// What it says of what it finds in a history, if there is one; nothing, if it doesn't state this.
+    ghost finds: { Self → Option (Record K T) → Self.Found → Type 0 } = { λ _ _ _. Unit {0} };
+
     /// What it finds of a history, if there is one.
     fn read(self, history: Option<&Recorded<K, T>>) -> Self::Found
-        requires { IfSome history (λ r. IsOneRun K.means r.now) };
+        requires { IfSome history (λ r. IsOneRun K.means r.now) }
+        ensures { finds self (option_map (λ r. r.now) history.entry) result };
 }
 
 /// The same board. Refused: want of memory.
