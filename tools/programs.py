@@ -185,7 +185,7 @@ def wrongly_coloured(picture, folder):
 
 
 def gate():
-    """The pictures that are the same in each run, the colours, and the lost terminal."""
+    """The pictures that are the same in each run, the colours, a program that is drawn live, and the lost terminal."""
     try:
         for end in os.openpty():
             os.close(end)
@@ -196,9 +196,9 @@ def gate():
     pictures = [it for it in found if it.is_exact and it.moments == ["end"] and it.command != "readme"]
     with room("bars", "examples", "meter") as folder, concurrent.futures.ThreadPoolExecutor(4) as pool:
         coloured = next(it for it in found if it.command == COLOURED)
-        colours = pool.submit(lambda: list(wrongly_coloured(coloured, folder)))
+        colours, live = pool.submit(lambda: list(wrongly_coloured(coloured, folder))), pool.submit(lively)
         runs = list(pool.map(lambda it: Run(it, folder), pictures))
-        faults = colours.result()
+        faults = colours.result() + live.result()
     for picture, run, rows in zip(pictures, runs, cells_of(pictures, runs), strict=True):
         if run.fault or rows != picture.shown:
             faults.append(f"{picture.place}: {picture.command}\n-- the page\n{picture.shown}\n-- the program ({run.fault or 'ended'})\n{rows}")
@@ -207,6 +207,26 @@ def gate():
     faults += [f"lost terminal, {under}: {fault}" for under, fault in lost_terminals() if fault]
     print(f"{len(pictures)} pictures, {len(ASKED)} environments, {len(CLOSED) + 1} lost terminals: {len(faults)} are otherwise")
     return faults
+
+
+# how often `bars show` has to draw at least: it has 200 frames, of which each has a moment of its own
+FRAMES = 150
+
+
+def lively():
+    """How often `bars show` draws on a terminal of its own, where that is too rarely or it ends otherwise than it should."""
+    ours, theirs = os.openpty()
+    fcntl.ioctl(theirs, termios.TIOCSWINSZ, struct.pack("HHHH", 24, 80, 0, 0))
+    others = {name: value for name, value in os.environ.items() if name not in TOLD_NAMES}
+    ends = {"stdin": theirs, "stdout": theirs, "stderr": theirs, "start_new_session": True, "preexec_fn": lambda: fcntl.ioctl(0, termios.TIOCSCTTY, 0)}
+    child = subprocess.Popen([built("bars"), "show"], env={**others, "TERM": "xterm"}, **ends)
+    os.close(theirs)
+    parts, is_ended = read_to_end(ours)
+    os.close(ours)
+    if not is_ended:
+        os.killpg(child.pid, signal.SIGKILL)
+    status, drawn = child.wait(PATIENCE), b"".join(parts).count(b"\x1b[?2026h")
+    return [] if status == 0 and drawn >= FRAMES else [f"bars show: {drawn} drawings, status {status}"]
 
 
 # A terminal that goes away: after these bytes, or without taking any

@@ -5,7 +5,7 @@
 //!
 //! - `values`: what bars return, what comes by default, and closures that bars take.
 //! - `writers`: boxed terminals, and buffers. `lone_shown`: a bar on a terminal.
-//! - `histories`: boards that keep their history. `sums`: workers that add to one sum.
+//! - `histories`: boards that keep their history. `many`: a board of many bars. `sums`: workers that add to one sum.
 //! - `played`: which lines of a file are rows, and which of them agree.
 //! - `rates`: keys of the last seconds. `styles`, `term`, `text`: keys of a template, what targets hand out, numbers and formatters. `words`: those of a command line.
 //! - `documented`: the examples of these libraries' documentation that say what comes.
@@ -91,6 +91,8 @@ mod lone_shown;
 mod machines;
 #[cfg(test)]
 mod made;
+#[cfg(test)]
+mod many;
 #[cfg(test)]
 mod odd_keys;
 #[cfg(test)]
