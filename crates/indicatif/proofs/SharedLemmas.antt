@@ -1,7 +1,8 @@
 -- What is said of a board under a lock: a call leads from some state to some state, and its answer is one that a board can give.
-use Rattle.std.proofs.Common.{◌≡◌, ℕ, ◌⊎◌, inl, inr, refl, sym, subst, ap, Option, Some, None, Result, Ok, Err, IfErr, MatchResult}
+use Rattle.std.proofs.Common.{◌≡◌, ℕ, ◌⊎◌, inl, inr, refl, sym, subst, ap, Option, Some, None, Result, Ok, Err, IfOk, IfErr, MatchResult}
 use Rattle.indicatif_text.specs.declared.refusal.Refusal.{Refusal}
 use Rattle.indicatif_text.specs.declared.refusal.Refusal.TheVariants.{Memory}
+use Rattle.indicatif_text.specs.declared.refusal.Drawn.{Drawn}
 use Rattle.indicatif_term.specs.Calls.{TermView}
 use Rattle.indicatif_bar.specs.Trackers.{Tracking}
 use Rattle.indicatif_bar.specs.Commands.{BarRecord}
@@ -12,10 +13,10 @@ use Rattle.indicatif_board.specs.declared.calls.Answer.TheVariants as answer
 use Rattle.indicatif_board.specs.Multi.{IsIn, LeadsBy, known}
 use Rattle.indicatif_board.specs.Recorded.{Record, IsOneRun, AddsCall}
 use Rattle.indicatif_board.specs.declared.multi.Board.{Board}
-use Rattle.indicatif.specs.Inside.AnyBoard.{BoardRemoves, refused_with}
+use Rattle.indicatif.specs.Inside.AnyBoard.{BoardDraws, BoardRemoves, refused_with}
 use Rattle.indicatif.specs.declared.progress_bar.any_board.AnyBoard.{AnyBoard}
 use Rattle.indicatif.specs.declared.progress_bar.any_board.AnyBoard.TheVariants as kind
-use Rattle.indicatif.specs.Inside.SharedBoards.{SharedCall, SharedState, SharedAnswers}
+use Rattle.indicatif.specs.Inside.SharedBoards.{SharedCall, SharedState, SharedAnswers, SharedDraws}
 use Rattle.indicatif.proofs.AnswerLemmas.{made_on_board, no_memory}
 
 module _ {K T : Type 0} (m : Tracking K) (view : T → TermView) where
@@ -62,3 +63,16 @@ module _ {K T : Type 0} (m : Tracking K) (view : T → TermView) where
       MatchResult r (λ bar. BoardRemoves m view (kind.Recorded old) id now None (kind.Recorded new)) (λ e. BoardRemoves m view (kind.Recorded old) id now (Some e) (kind.Recorded new))
   removed_recorded old new id now (Ok bar) told is grows = (answer_of told, sym is, (new, refl, grows))
   removed_recorded old new id now (Err e) told is grows = (answer_of told, sym (ap (λ t. refused_with (answer_of t)) is), (new, refl, grows))
+
+module _ {K T X : Type 0} (m : Tracking K) (view : T → TermView) (call_of : X → SharedCall K) (call : SharedCall K) (now : ℕ) where
+  -- what a board with its history made of a call for which there was memory, or none
+  pub kept_makes : (old : AnyBoard K T) (r : Record K T) (new : AnyBoard K T) (drawn : Result Drawn Refusal) (kept : Result X Refusal) → old ≡ kind.Recorded r →
+      IfOk kept (λ x. call_of x ≡ call) → IfOk kept (λ x. BoardDraws m view old (call_of x) now drawn new) → IfErr kept (λ e. (drawn ≡ Err Memory) × (new ≡ old)) →
+      BoardDraws m view old call now drawn new
+  kept_makes old r new drawn (Ok x) is same made short = subst (λ c. BoardDraws m view old c now drawn new) same made
+  kept_makes old r new drawn (Err e) is same made short = rw (short.0, short.1, is) (Refused Memory, refl, (r, refl, inr (refl, refl)))
+
+  pub kept_answers : (drawn : Result Drawn Refusal) (kept : Result X Refusal) → IfOk kept (λ x. call_of x ≡ call) → IfOk kept (λ x. SharedDraws K (call_of x) drawn) →
+      IfErr kept (λ e. drawn ≡ Err Memory) → SharedDraws K call drawn
+  kept_answers drawn (Ok x) same can short = subst (λ c. SharedDraws K c drawn) same can
+  kept_answers drawn (Err e) same can short = subst (SharedDraws K call) (sym short) (no_memory call)

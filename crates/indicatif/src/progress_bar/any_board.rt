@@ -71,10 +71,11 @@ impl<K: Tracks, T: TermLike + Drop> AnyBoard<K, T> {
                 board.order();
                 tell_board(board, id, call, now)
             }
-            AnyBoard::Recorded(_) => match call_of_bar(id, &call, alloc) {
-                Ok(kept) => self.draw(kept, now),
-                Err(_) => Err(Refusal::Memory),
-            },
+            AnyBoard::Recorded(_) => {
+                let kept = call_of_bar(id, &call, alloc);
+                drop(call);
+                self.draw_kept(kept, now)
+            }
         }
     }
 
@@ -88,10 +89,23 @@ impl<K: Tracks, T: TermLike + Drop> AnyBoard<K, T> {
                 board.order();
                 board.println(text, now)
             }
-            AnyBoard::Recorded(_) => match String::from_str(alloc, text) {
-                Ok(kept) => self.draw(Call::Log(kept), now),
-                Err(_) => Err(Refusal::Memory),
-            },
+            AnyBoard::Recorded(_) => self.draw_kept(log_of(text, alloc), now),
+        }
+    }
+
+    /// A call that a history keeps, if there was memory for it: else nothing is done.
+    fn draw_kept(
+        &mut self,
+        kept: Result<Call<K>, Refusal>,
+        now: Moment,
+    ) -> Result<Drawn, Refusal>
+        ensures made { IfOk kept (λ call. BoardDraws K.means T.view self.old (call_of call) now result self.new) }
+        ensures can { IfOk kept (λ call. SharedDraws K (call_of call) result) }
+        ensures refused { IfErr kept (λ e. (result ≡ Err Refusal.Memory) × (self.new ≡ self.old)) }
+    {
+        match kept {
+            Ok(call) => self.draw(call, now),
+            Err(_) => Err(Refusal::Memory),
         }
     }
 
@@ -191,6 +205,13 @@ fn tell_board<K: Tracks, T: TermLike + Drop, S: Text>(
         LoneCall::Log(text) => board.bar_println(id, text.as_text(), now),
         LoneCall::Clear => board.clear(now),
     }
+}
+
+/// Lines above the bars, as a value that a history keeps.
+fn log_of<K: Tracks>(text: &str, alloc: Global) -> Result<Call<K>, Refusal>
+    ensures { IfOk result (λ kept. call_of kept ≡ Log text.now) }
+{
+    Ok(Call::Log(String::from_str(alloc, text)?))
 }
 
 /// The same as a value that a history keeps, with a text of its own.

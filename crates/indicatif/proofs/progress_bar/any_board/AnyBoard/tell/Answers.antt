@@ -1,12 +1,9 @@
-use Rattle.std.proofs.Common.{refl, sym, subst, inr}
-use Rattle.indicatif_text.specs.declared.refusal.Refusal.TheVariants.{Memory}
+use Rattle.std.proofs.Common.{refl, sym, subst}
 use Rattle.indicatif_bar.specs.LoneBars.{lone_call_as}
-use Rattle.indicatif_board.specs.Boards.{Refused, says, drawn_of_said}
+use Rattle.indicatif_board.specs.Boards.{says, drawn_of_said}
 use Rattle.indicatif_board.specs.BoardValues.{id_of}
 use Rattle.indicatif_board.specs.Multi.{board_id_of}
-use Rattle.indicatif.specs.Inside.AnyBoard.{BoardDraws}
 use Rattle.indicatif.specs.Inside.SharedBoards.{SharedDraws, on_board}
-use Rattle.indicatif.proofs.AnswerLemmas.{no_memory}
 use Rattle.indicatif.proofs.SharedLemmas.{can_answer}
 use Rattle.indicatif.proofs.progress_bar.any_board.AnyBoard.tell.Goals as goal
 
