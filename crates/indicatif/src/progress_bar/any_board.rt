@@ -94,11 +94,7 @@ impl<K: Tracks, T: TermLike + Drop> AnyBoard<K, T> {
     }
 
     /// A call that a history keeps, if there was memory for it: else nothing is done.
-    fn draw_kept(
-        &mut self,
-        kept: Result<Call<K>, Refusal>,
-        now: Moment,
-    ) -> Result<Drawn, Refusal>
+    fn draw_kept(&mut self, kept: Result<Call<K>, Refusal>, now: Moment) -> Result<Drawn, Refusal>
         ensures made { IfOk kept (λ call. BoardDraws K.means T.view self.old (call_of call) now result self.new) }
         ensures can { IfOk kept (λ call. SharedDraws K (call_of call) result) }
         ensures refused { IfErr kept (λ e. (result ≡ Err Refusal.Memory) × (self.new ≡ self.old)) }
