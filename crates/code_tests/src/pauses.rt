@@ -205,9 +205,9 @@ const HOUR: u64 = 3_600_000_000_000;
 
 /// While a closure runs: a bar goes, and another comes, whose ticker is told on and off. Nothing is drawn. That bar.
 fn takes_turns<R: Wait + Threads + Clock + Copy + Clone + Drop + Abort + Send + 'static>(
-    rt: &R,
     scene: &Scene<R>,
 ) -> Bar<R> {
+    let rt = &scene.rt;
     same!(rt; scene.board.remove(&scene.other), Ok(()));
     let third = bar_of(&scene.board, *rt, scene.alloc, "c");
     same!(rt; third.enable_steady_tick(HOUR), Ok(()));
@@ -216,23 +216,16 @@ fn takes_turns<R: Wait + Threads + Clock + Copy + Clone + Drop + Abort + Send + 
     third
 }
 
-/// A pause of the scene's board, in which bars come and go.
-fn turns_in_pause<R: Wait + Threads + Clock + Copy + Clone + Drop + Abort + Send + 'static>(
-    scene: &Scene<R>,
-) {
-    let rt = &scene.rt;
-    let (third, drawn) = scene.board.suspend(move || takes_turns(&scene.rt, scene));
-    same!(rt; drawn, Ok(Drawn::Yes));
-    is_seen(rt, scene.alloc, &scene.bytes, "0/10");
-    same!(rt; third.tick(), Ok(Drawn::Yes));
-    is_seen(rt, scene.alloc, &scene.bytes, "0/10\nc");
-}
-
 /// What draws nothing waits for nothing, also in the closure itself.
 #[test]
 fn what_draws_nothing_waits_for_nothing(rt: HostRuntime) {
     let rt = &rt;
-    turns_in_pause(&make_scene(*rt, rt.alloc(), (Pauses::OfBoard, Call::Inc)));
+    let scene = &make_scene(*rt, rt.alloc(), (Pauses::OfBoard, Call::Inc));
+    let (third, drawn) = scene.board.suspend(move || takes_turns(scene));
+    same!(rt; drawn, Ok(Drawn::Yes));
+    is_seen(rt, scene.alloc, &scene.bytes, "0/10");
+    same!(rt; third.tick(), Ok(Drawn::Yes));
+    is_seen(rt, scene.alloc, &scene.bytes, "0/10\nc");
 }
 
 // ---- tickers

@@ -24,20 +24,17 @@ const TICK: u64 = 2_000_000;
 
 /// What all threads share: a board with four bars.
 #[derive(Drop)]
-struct Storm<R: Shares> {
-    rt: R,
-    board: StderrBoard<R>,
+struct Storm<'a, R: Shares> {
+    rt: &'a R,
+    host: &'a HostRuntime,
+    board: &'a StderrBoard<R>,
     bars: [StderrBar<R>; 4],
-    log: StderrLogger<R>,
+    log: &'a StderrLogger<R>,
 }
 
 /// Writes a line while the bars are away, as another program does.
-fn write_in_pause<R: Shares>(
-    storm: &Storm<R>,
-    host: &HostRuntime,
-    text: &str,
-) -> Result<(), Refusal> {
-    let ended = format!(in storm.rt.alloc(); "{text}\n")?;
+fn write_in_pause<R: Shares>(storm: &Storm<'_, R>, text: &str) -> Result<(), Refusal> {
+    let (host, ended) = (storm.host, format!(in storm.rt.alloc(); "{text}\n")?);
     let write = move || host.stderr().write_all(ended.as_bytes());
     let (written, drawn) = storm.board.suspend(write);
     drawn?;
@@ -48,12 +45,7 @@ fn write_in_pause<R: Shares>(
 }
 
 /// Writes a line, in one of four ways.
-fn write_line<R: Shares>(
-    storm: &Storm<R>,
-    host: &HostRuntime,
-    way: u64,
-    text: &str,
-) -> Result<(), Refusal> {
+fn write_line<R: Shares>(storm: &Storm<'_, R>, way: u64, text: &str) -> Result<(), Refusal> {
     match way {
         0 => {
             storm.board.println(text)?;
@@ -61,14 +53,14 @@ fn write_line<R: Shares>(
         1 => {
             storm.bars[1].println(text)?;
         }
-        2 => write_in_pause(storm, host, text)?,
+        2 => write_in_pause(storm, text)?,
         _ => info!(storm.log; "{text}"),
     }
     Ok(())
 }
 
 /// Moves a bar.
-fn move_bar<R: Shares>(storm: &Storm<R>, way: u64) -> Result<Drawn, Refusal> {
+fn move_bar<R: Shares>(storm: &Storm<'_, R>, way: u64) -> Result<Drawn, Refusal> {
     match way {
         0 => storm.bars[0].inc(1),
         1 => storm.bars[1].set_message("a message"),
@@ -78,55 +70,50 @@ fn move_bar<R: Shares>(storm: &Storm<R>, way: u64) -> Result<Drawn, Refusal> {
 }
 
 /// A thread's steps on a target, a line after each move; how many lines it has written. One thread goes to another target meanwhile.
-fn run<R: Shares>(
-    storm: &Storm<R>,
-    host: &HostRuntime,
-    target: u64,
-    thread: usize,
-) -> Result<u64, Refusal> {
+fn run<R: Shares>(storm: &Storm<'_, R>, target: u64, thread: usize) -> Result<u64, Refusal> {
     for step in 0..STEPS {
         if thread == 0 && step == STEPS / 2 {
-            storm.board.move_to(on_stderr(host)?.target)?;
+            storm.board.move_to(on_stderr(storm.host)?.target)?;
         }
         let way = step.wrapping_mul(7).wrapping_add(thread as u64);
         move_bar(storm, way % 4)?;
         let text = format!(in storm.rt.alloc(); "line {target} {thread} {step}")?;
-        write_line(storm, host, way / 4 % 4, text.as_str())?;
-        sleep(&storm.rt, Duration::from_millis(1));
+        write_line(storm, way / 4 % 4, text.as_str())?;
+        sleep(storm.rt, Duration::from_millis(1));
     }
     Ok(STEPS)
 }
 
-/// All threads' steps on a target, with a ticker.
-fn storm_on<R: Shares + Print>(storm: &Storm<R>, host: &HostRuntime, target: u64) -> Result<()> {
+/// All threads' steps on a target, with a ticker: how many lines each has written.
+fn storm_on<R: Shares>(storm: &Storm<'_, R>, target: u64) -> Result<Vec<Result<u64, Refusal>>> {
     storm.bars[0].enable_steady_tick(TICK)?;
-    let one = |thread: usize| run(storm, host, target, thread);
-    for lines in map_indices(&storm.rt, storm.rt.alloc(), THREADS, &one)? {
-        println!(storm.rt; "{target} {}", lines?)?;
-    }
+    let one = |thread: usize| run(storm, target, thread);
+    let lines = map_indices(storm.rt, storm.rt.alloc(), THREADS, &one)?;
     storm.bars[0].disable_steady_tick()?;
-    Ok(())
+    Ok(lines)
 }
 
 pub fn main<R: Shares + Print>(rt: R, host: &HostRuntime) -> Result<()> {
     let board = MultiProgress::new(rt, rt.alloc(), on_stderr(host)?, 1)?;
     let log = logger_above(rt, host, &board, Level::Info)?;
-    let bars = [
-        board.new_bar(10)?,
-        board.new_bar(10)?,
-        board.new_bar(10)?,
-        board.new_bar(10)?,
-    ];
     let storm = Storm {
-        rt,
-        board,
-        bars,
-        log,
+        rt: &rt,
+        host,
+        board: &board,
+        bars: [
+            board.new_bar(10)?,
+            board.new_bar(10)?,
+            board.new_bar(10)?,
+            board.new_bar(10)?,
+        ],
+        log: &log,
     };
     for target in 0..TARGETS {
-        storm_on(&storm, host, target)?;
-        storm.board.move_to(on_stderr(host)?.target)?;
+        for lines in storm_on(&storm, target)? {
+            println!(rt; "{target} {}", lines?)?;
+        }
+        board.move_to(on_stderr(host)?.target)?;
     }
-    println!(rt; "missed {}", storm.log.sink().missed())?;
+    println!(rt; "missed {}", log.sink().missed())?;
     Ok(())
 }
