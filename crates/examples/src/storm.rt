@@ -7,8 +7,9 @@ use indicatif::machine::{Shares, StderrBar, StderrBoard, on_stderr};
 use indicatif::{Drawn, MultiProgress, Refusal};
 use log::{Level, info};
 use std::io::Write;
+use std::sync::Wait;
 use std::thread::{map_indices, sleep};
-use std::time::Duration;
+use std::time::{Clock, Duration};
 
 /// The threads.
 const THREADS: usize = 64;
@@ -16,15 +17,12 @@ const THREADS: usize = 64;
 /// The steps of each on a target.
 const STEPS: u64 = 20;
 
-/// The targets, one after another.
-const TARGETS: u64 = 3;
-
 /// The nanoseconds between two ticks.
 const TICK: u64 = 2_000_000;
 
 /// What all threads share: a board with four bars.
 #[derive(Drop)]
-struct Storm<'a, R: Shares> {
+struct Storm<'a, R: Wait + Clone + Drop> {
     rt: &'a R,
     host: &'a HostRuntime,
     board: &'a StderrBoard<R>,
@@ -33,7 +31,10 @@ struct Storm<'a, R: Shares> {
 }
 
 /// Writes a line while the bars are away, as another program does.
-fn write_in_pause<R: Shares>(storm: &Storm<'_, R>, text: &str) -> Result<(), Refusal> {
+fn write_in_pause<R: AllocGlobal + Wait + Clock + Copy + Clone + Drop>(
+    storm: &Storm<'_, R>,
+    text: &str,
+) -> Result<(), Refusal> {
     let (host, ended) = (storm.host, format!(in storm.rt.alloc(); "{text}\n")?);
     let write = move || host.stderr().write_all(ended.as_bytes());
     let (written, drawn) = storm.board.suspend(write);
@@ -45,7 +46,11 @@ fn write_in_pause<R: Shares>(storm: &Storm<'_, R>, text: &str) -> Result<(), Ref
 }
 
 /// Writes a line, in one of four ways.
-fn write_line<R: Shares>(storm: &Storm<'_, R>, way: u64, text: &str) -> Result<(), Refusal> {
+fn write_line<R: AllocGlobal + Wait + Clock + Copy + Clone + Drop>(
+    storm: &Storm<'_, R>,
+    way: u64,
+    text: &str,
+) -> Result<(), Refusal> {
     match way {
         0 => {
             storm.board.println(text)?;
@@ -60,7 +65,10 @@ fn write_line<R: Shares>(storm: &Storm<'_, R>, way: u64, text: &str) -> Result<(
 }
 
 /// Moves a bar.
-fn move_bar<R: Shares>(storm: &Storm<'_, R>, way: u64) -> Result<Drawn, Refusal> {
+fn move_bar<R: AllocGlobal + Wait + Clock + Copy + Clone + Drop>(
+    storm: &Storm<'_, R>,
+    way: u64,
+) -> Result<Drawn, Refusal> {
     match way {
         0 => storm.bars[0].inc(1),
         1 => storm.bars[1].set_message("a message"),
@@ -70,7 +78,11 @@ fn move_bar<R: Shares>(storm: &Storm<'_, R>, way: u64) -> Result<Drawn, Refusal>
 }
 
 /// A thread's steps on a target, a line after each move; how many lines it has written. One thread goes to another target meanwhile.
-fn run<R: Shares>(storm: &Storm<'_, R>, target: u64, thread: usize) -> Result<u64, Refusal> {
+fn run<R: AllocGlobal + Wait + Clock + Copy + Clone + Drop>(
+    storm: &Storm<'_, R>,
+    target: u64,
+    thread: usize,
+) -> Result<u64, Refusal> {
     for step in 0..STEPS {
         if thread == 0 && step == STEPS / 2 {
             storm.board.move_to(on_stderr(storm.host)?.target)?;
@@ -93,6 +105,15 @@ fn storm_on<R: Shares>(storm: &Storm<'_, R>, target: u64) -> Result<Vec<Result<u
     Ok(lines)
 }
 
+/// A storm on a target, and then another target.
+fn round<R: Shares + Print>(storm: &Storm<'_, R>, target: u64) -> Result<()> {
+    for lines in storm_on(storm, target)? {
+        println!(storm.rt; "{target} {}", lines?)?;
+    }
+    storm.board.move_to(on_stderr(storm.host)?.target)?;
+    Ok(())
+}
+
 pub fn main<R: Shares + Print>(rt: R, host: &HostRuntime) -> Result<()> {
     let board = MultiProgress::new(rt, rt.alloc(), on_stderr(host)?, 1)?;
     let log = logger_above(rt, host, &board, Level::Info)?;
@@ -108,12 +129,9 @@ pub fn main<R: Shares + Print>(rt: R, host: &HostRuntime) -> Result<()> {
         ],
         log: &log,
     };
-    for target in 0..TARGETS {
-        for lines in storm_on(&storm, target)? {
-            println!(rt; "{target} {}", lines?)?;
-        }
-        board.move_to(on_stderr(host)?.target)?;
-    }
+    round(&storm, 0)?;
+    round(&storm, 1)?;
+    round(&storm, 2)?;
     println!(rt; "missed {}", log.sink().missed())?;
     Ok(())
 }

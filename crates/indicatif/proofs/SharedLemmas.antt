@@ -72,7 +72,8 @@ module _ {K T X : Type 0} (m : Tracking K) (view : T → TermView) (call_of : X 
   kept_makes old r new drawn (Ok x) is same made short = subst (λ c. BoardDraws m view old c now drawn new) same made
   kept_makes old r new drawn (Err e) is same made short = rw (short.0, short.1, is) (Refused Memory, refl, (r, refl, inr (refl, refl)))
 
-  pub kept_answers : (drawn : Result Drawn Refusal) (kept : Result X Refusal) → IfOk kept (λ x. call_of x ≡ call) → IfOk kept (λ x. SharedDraws K (call_of x) drawn) →
-      IfErr kept (λ e. drawn ≡ Err Memory) → SharedDraws K call drawn
-  kept_answers drawn (Ok x) same can short = subst (λ c. SharedDraws K c drawn) same can
-  kept_answers drawn (Err e) same can short = subst (SharedDraws K call) (sym short) (no_memory call)
+  -- and what it answered
+  pub kept_answers : (old new : AnyBoard K T) (drawn : Result Drawn Refusal) (kept : Result X Refusal) → IfOk kept (λ x. call_of x ≡ call) → IfOk kept (λ x. SharedDraws K (call_of x) drawn) →
+      IfErr kept (λ e. (drawn ≡ Err Memory) × (new ≡ old)) → SharedDraws K call drawn
+  kept_answers old new drawn (Ok x) same can short = subst (λ c. SharedDraws K c drawn) same can
+  kept_answers old new drawn (Err e) same can short = subst (SharedDraws K call) (sym short.0) (no_memory call)
