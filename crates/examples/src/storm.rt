@@ -26,7 +26,10 @@ struct Storm<'a, R: Wait + Clone + Drop> {
     rt: &'a R,
     host: &'a HostRuntime,
     board: &'a StderrBoard<R>,
-    bars: [StderrBar<R>; 4],
+    one: &'a StderrBar<R>,
+    two: &'a StderrBar<R>,
+    three: &'a StderrBar<R>,
+    four: &'a StderrBar<R>,
     log: &'a StderrLogger<R>,
 }
 
@@ -56,7 +59,7 @@ fn write_line<R: AllocGlobal + Wait + Clock + Copy + Clone + Drop>(
             storm.board.println(text)?;
         }
         1 => {
-            storm.bars[1].println(text)?;
+            storm.two.println(text)?;
         }
         2 => write_in_pause(storm, text)?,
         _ => info!(storm.log; "{text}"),
@@ -70,10 +73,10 @@ fn move_bar<R: AllocGlobal + Wait + Clock + Copy + Clone + Drop>(
     way: u64,
 ) -> Result<Drawn, Refusal> {
     match way {
-        0 => storm.bars[0].inc(1),
-        1 => storm.bars[1].set_message("a message"),
-        2 => storm.bars[2].tick(),
-        _ => storm.bars[3].force_draw(),
+        0 => storm.one.inc(1),
+        1 => storm.two.set_message("a message"),
+        2 => storm.three.tick(),
+        _ => storm.four.force_draw(),
     }
 }
 
@@ -98,10 +101,10 @@ fn run<R: AllocGlobal + Wait + Clock + Copy + Clone + Drop>(
 
 /// All threads' steps on a target, with a ticker: how many lines each has written.
 fn storm_on<R: Shares>(storm: &Storm<'_, R>, target: u64) -> Result<Vec<Result<u64, Refusal>>> {
-    storm.bars[0].enable_steady_tick(TICK)?;
+    storm.one.enable_steady_tick(TICK)?;
     let one = |thread: usize| run(storm, target, thread);
     let lines = map_indices(storm.rt, storm.rt.alloc(), THREADS, &one)?;
-    storm.bars[0].disable_steady_tick()?;
+    storm.one.disable_steady_tick()?;
     Ok(lines)
 }
 
@@ -117,16 +120,16 @@ fn round<R: Shares + Print>(storm: &Storm<'_, R>, target: u64) -> Result<()> {
 pub fn main<R: Shares + Print>(rt: R, host: &HostRuntime) -> Result<()> {
     let board = MultiProgress::new(rt, rt.alloc(), on_stderr(host)?, 1)?;
     let log = logger_above(rt, host, &board, Level::Info)?;
+    let (one, two) = (board.new_bar(10)?, board.new_bar(10)?);
+    let (three, four) = (board.new_bar(10)?, board.new_bar(10)?);
     let storm = Storm {
         rt: &rt,
         host,
         board: &board,
-        bars: [
-            board.new_bar(10)?,
-            board.new_bar(10)?,
-            board.new_bar(10)?,
-            board.new_bar(10)?,
-        ],
+        one: &one,
+        two: &two,
+        three: &three,
+        four: &four,
         log: &log,
     };
     round(&storm, 0)?;
