@@ -9,10 +9,10 @@ use std::alloc::Global;
 use std::process::Abort;
 use std::sync::atomic::{AtomicU64, Ordering};
 use std::sync::{Arc, Wait};
-use std::thread::{Threads, join, sleep};
+use std::thread::{Threads, sleep, spawn};
 use std::time::{Clock, Duration};
 
-/// A board with two bars on a terminal that others see; what pauses them, and what is called meanwhile.
+/// A board with two bars on a terminal that others see; and what is called while a closure runs.
 #[derive(Drop)]
 struct Scene<R: Wait + Clone + Drop> {
     rt: R,
@@ -21,18 +21,12 @@ struct Scene<R: Wait + Clone + Drop> {
     board: Board<R>,
     one: Bar<R>,
     other: Bar<R>,
-    pauses: Pauses,
     call: Call,
     stage: AtomicU64,
 }
 
-/// Which pause it is.
-#[derive(Clone, Copy, Drop)]
-enum Pauses {
-    OfBoard,
-    OfBar,
-    OfOtherBar,
-}
+/// A scene that threads and closures own. (A closure of `suspend` owns what it reads.)
+type Shared<R> = Arc<Scene<R>, Global>;
 
 /// What is called while a closure runs.
 #[derive(Clone, Copy, Drop)]
@@ -40,8 +34,6 @@ enum Call {
     Inc,
     Message,
     Above,
-    AboveBoard,
-    Clear,
 }
 
 /// Stages: the closure runs.
@@ -57,8 +49,8 @@ const ANSWERED: u64 = 3;
 fn make_scene<R: Wait + Copy + Clone + Drop + Abort>(
     rt: R,
     alloc: Global,
-    (pauses, call): (Pauses, Call),
-) -> Scene<R> {
+    call: Call,
+) -> Shared<R> {
     let rt = &rt;
     let bytes = no_bytes(rt, alloc);
     let board = board_on(*rt, alloc, &bytes, 10);
@@ -68,21 +60,25 @@ fn make_scene<R: Wait + Copy + Clone + Drop + Abort>(
     same!(rt; other.tick(), Ok(Drawn::Yes));
     is_seen(rt, alloc, &bytes, "0/10\nb");
     let stage = AtomicU64::new(0);
-    Scene {
+    let scene = Scene {
         rt: *rt,
         alloc,
         bytes,
         board,
         one,
         other,
-        pauses,
         call,
         stage,
-    }
+    };
+    Arc::new(alloc, scene).expect(rt, "granted")
 }
 
 /// A bar that stands alone, `0/10`, and another owner of it; its board has no bars.
-fn lone_scene<R: Wait + Copy + Clone + Drop + Abort>(rt: R, alloc: Global, call: Call) -> Scene<R> {
+fn lone_scene<R: Wait + Copy + Clone + Drop + Abort>(
+    rt: R,
+    alloc: Global,
+    call: Call,
+) -> Shared<R> {
     let rt = &rt;
     let bytes = no_bytes(rt, alloc);
     let board = board_on(*rt, alloc, &bytes, 10);
@@ -91,17 +87,17 @@ fn lone_scene<R: Wait + Copy + Clone + Drop + Abort>(rt: R, alloc: Global, call:
     same!(rt; one.tick(), Ok(Drawn::Yes));
     is_seen(rt, alloc, &bytes, "0/10");
     let stage = AtomicU64::new(0);
-    Scene {
+    let scene = Scene {
         rt: *rt,
         alloc,
         bytes,
         board,
         one,
         other,
-        pauses: Pauses::OfBar,
         call,
         stage,
-    }
+    };
+    Arc::new(alloc, scene).expect(rt, "granted")
 }
 
 /// Whether this stage comes, by the last of 10,000 looks a millisecond apart.
@@ -127,25 +123,12 @@ fn looks<R: Wait + Clock + Clone + Drop + Abort>(scene: &Scene<R>) -> (u64, Opti
     (scene.one.position(), length, scene.other.is_finished())
 }
 
-/// The scene's pause: what was read in it, and what the draw behind it answered.
-fn paused<R: Wait + Clock + Clone + Drop + Abort>(
-    scene: &Scene<R>,
-) -> ((u64, Option<u64>, bool), Result<Drawn, Refusal>) {
-    match scene.pauses {
-        Pauses::OfBoard => scene.board.suspend(move || looks(scene)),
-        Pauses::OfBar => scene.one.suspend(move || looks(scene)),
-        Pauses::OfOtherBar => scene.other.suspend(move || looks(scene)),
-    }
-}
-
 /// The scene's call.
 fn made_call<R: Wait + Clone + Drop>(scene: &Scene<R>) -> Result<Drawn, Refusal> {
     match scene.call {
         Call::Inc => scene.one.inc(1),
         Call::Message => scene.one.set_message("!"),
         Call::Above => scene.one.println("x"),
-        Call::AboveBoard => scene.board.println("x"),
-        Call::Clear => scene.board.clear(),
     }
 }
 
@@ -159,43 +142,46 @@ fn calls<R: Wait + Clock + Clone + Drop + Abort>(scene: &Scene<R>) -> Result<Dra
     answer
 }
 
-/// A thread pauses the scene while another makes its call: this stands there at the end.
-fn waits_for_pause<R: Wait + Threads + Clock + Clone + Drop + Abort + Send + Sync>(
-    rt: &R,
-    scene: &Scene<R>,
-    wanted: &str,
-) {
-    let (paused, answer) = join(rt, || paused(scene), || calls(scene));
-    same!(rt; paused, ((0, Some(10), false), Ok(Drawn::Yes)));
-    same!(rt; answer, Ok(Drawn::Yes));
-    is_seen(rt, scene.alloc, &scene.bytes, wanted);
-}
-
-/// What draws waits for the end of a board's pause, also of one that a bar of it began.
+/// What draws waits for the end of a board's pause.
 #[test]
 fn what_draws_waits_for_a_board(rt: HostRuntime) {
     let rt = &rt;
-    let alloc = rt.alloc();
-    let moved = make_scene(*rt, alloc, (Pauses::OfBoard, Call::Inc));
-    waits_for_pause(rt, &moved, "1/10\nb");
-    let told = make_scene(*rt, alloc, (Pauses::OfOtherBar, Call::Message));
-    waits_for_pause(rt, &told, "0/10!\nb");
-    let above = make_scene(*rt, alloc, (Pauses::OfBar, Call::Above));
-    waits_for_pause(rt, &above, "x\n0/10\nb");
-    let above = make_scene(*rt, alloc, (Pauses::OfOtherBar, Call::AboveBoard));
-    waits_for_pause(rt, &above, "x\n0/10\nb");
-    let cleared = make_scene(*rt, alloc, (Pauses::OfBoard, Call::Clear));
-    waits_for_pause(rt, &cleared, "");
+    let scene = make_scene(*rt, rt.alloc(), Call::Inc);
+    let others = Arc::try_clone(&scene).expect(rt, "granted");
+    let child = spawn(rt, move || calls(&others)).granted(rt);
+    let own = Arc::try_clone(&scene).expect(rt, "granted");
+    let (read, drawn) = scene.board.suspend(move || looks(&own));
+    same!(rt; (read, drawn), ((0, Some(10), false), Ok(Drawn::Yes)));
+    same!(rt; child.join(rt), Ok(Drawn::Yes));
+    is_seen(rt, scene.alloc, &scene.bytes, "1/10\nb");
+}
+
+/// So it does for one that a bar of the board began: a line above another bar.
+#[test]
+fn what_draws_waits_for_another_bar(rt: HostRuntime) {
+    let rt = &rt;
+    let scene = make_scene(*rt, rt.alloc(), Call::Above);
+    let others = Arc::try_clone(&scene).expect(rt, "granted");
+    let child = spawn(rt, move || calls(&others)).granted(rt);
+    let own = Arc::try_clone(&scene).expect(rt, "granted");
+    let (read, drawn) = scene.other.suspend(move || looks(&own));
+    same!(rt; (read, drawn), ((0, Some(10), false), Ok(Drawn::Yes)));
+    same!(rt; child.join(rt), Ok(Drawn::Yes));
+    is_seen(rt, scene.alloc, &scene.bytes, "x\n0/10\nb");
 }
 
 /// So it does for that of a bar that stands alone.
 #[test]
 fn what_draws_waits_for_a_bar(rt: HostRuntime) {
     let rt = &rt;
-    let alloc = rt.alloc();
-    waits_for_pause(rt, &lone_scene(*rt, alloc, Call::Inc), "1/10");
-    waits_for_pause(rt, &lone_scene(*rt, alloc, Call::Message), "0/10!");
-    waits_for_pause(rt, &lone_scene(*rt, alloc, Call::Above), "x\n0/10");
+    let scene = lone_scene(*rt, rt.alloc(), Call::Message);
+    let others = Arc::try_clone(&scene).expect(rt, "granted");
+    let child = spawn(rt, move || calls(&others)).granted(rt);
+    let own = Arc::try_clone(&scene).expect(rt, "granted");
+    let (read, drawn) = scene.one.suspend(move || looks(&own));
+    same!(rt; (read, drawn), ((0, Some(10), false), Ok(Drawn::Yes)));
+    same!(rt; child.join(rt), Ok(Drawn::Yes));
+    is_seen(rt, scene.alloc, &scene.bytes, "0/10!");
 }
 
 // ---- what waits for nothing
@@ -220,8 +206,9 @@ fn takes_turns<R: Wait + Threads + Clock + Copy + Clone + Drop + Abort + Send + 
 #[test]
 fn what_draws_nothing_waits_for_nothing(rt: HostRuntime) {
     let rt = &rt;
-    let scene = &make_scene(*rt, rt.alloc(), (Pauses::OfBoard, Call::Inc));
-    let (third, drawn) = scene.board.suspend(move || takes_turns(scene));
+    let scene = make_scene(*rt, rt.alloc(), Call::Inc);
+    let own = Arc::try_clone(&scene).expect(rt, "granted");
+    let (third, drawn) = scene.board.suspend(move || takes_turns(&own));
     same!(rt; drawn, Ok(Drawn::Yes));
     is_seen(rt, scene.alloc, &scene.bytes, "0/10");
     same!(rt; third.tick(), Ok(Drawn::Yes));
@@ -242,28 +229,19 @@ fn is_still<R: Wait + Clock + Clone + Drop + Abort>(scene: &Scene<R>) -> bool {
     scene.one.ticks() == before
 }
 
-/// Ticks before and behind a pause of the board, and of its other bar; none comes in them.
-fn ticks_around<R: Wait + Threads + Clock + Copy + Clone + Drop + Abort + Send + 'static>(
-    scene: &Scene<R>,
-) {
-    let rt = &scene.rt;
+/// A ticker doesn't tick while a closure runs, and goes on behind it.
+#[test]
+fn a_ticker_waits(rt: HostRuntime) {
+    let rt = &rt;
+    let scene = make_scene(*rt, rt.alloc(), Call::Inc);
     same!(rt; scene.one.enable_steady_tick(OFTEN), Ok(()));
     holds!(rt; ticks_on(rt, &scene.one, scene.one.ticks()));
-    let paused = scene.board.suspend(move || is_still(scene));
-    same!(rt; paused, (true, Ok(Drawn::Yes)));
-    holds!(rt; ticks_on(rt, &scene.one, scene.one.ticks()));
-    let paused = scene.other.suspend(move || is_still(scene));
+    let own = Arc::try_clone(&scene).expect(rt, "granted");
+    let paused = scene.other.suspend(move || is_still(&own));
     same!(rt; paused, (true, Ok(Drawn::Yes)));
     holds!(rt; ticks_on(rt, &scene.one, scene.one.ticks()));
     same!(rt; tick_off(&scene.one), Ok(()));
     is_seen(rt, scene.alloc, &scene.bytes, "0/10\nb");
-}
-
-/// A ticker doesn't tick while a closure runs, of its board or of its bar, and goes on behind it.
-#[test]
-fn a_ticker_waits(rt: HostRuntime) {
-    let rt = &rt;
-    ticks_around(&make_scene(*rt, rt.alloc(), (Pauses::OfBoard, Call::Inc)));
 }
 
 // ---- another target
@@ -289,5 +267,5 @@ fn moves_away<R: Wait + Threads + Clock + Copy + Clone + Drop + Abort + Send + '
 #[test]
 fn another_target_at_once(rt: HostRuntime) {
     let rt = &rt;
-    moves_away(&make_scene(*rt, rt.alloc(), (Pauses::OfBoard, Call::Inc)));
+    moves_away(&make_scene(*rt, rt.alloc(), Call::Inc));
 }

@@ -44,8 +44,10 @@ fn reading_in_a_pause(rt: HostRuntime) {
     let bar = board
         .add(ProgressBar::hidden(*rt, alloc, clock).expect(rt, "granted"))
         .expect(rt, "granted");
-    let (position, drawn) = board.suspend(|| bar.position());
+    let other = bar.clone().expect(rt, "granted");
+    let (position, drawn) = board.suspend(move || other.position());
     same!(rt; (position, drawn), (0, Ok(Drawn::Yes)));
-    let (position, drawn) = bar.suspend(|| bar.position());
+    let other = bar.clone().expect(rt, "granted");
+    let (position, drawn) = bar.suspend(move || other.position());
     same!(rt; (position, drawn), (0, Ok(Drawn::Yes)));
 }
