@@ -326,7 +326,7 @@ impl<T: TermLike + Drop, C: Clock + Drop, R: Wait + Clone + Drop, K: Tracks> Pro
     /// of any bar of its board, waits for ever.
     ///
     /// ```
-    /// let (position, drawn) = bar.suspend(|| bar.position());
+    /// let (position, drawn) = bar.suspend(move || other.position()); // another owner of the bar
     /// ```
     pub fn suspend<F: FnOnce() -> A, A>(&self, f: F) -> (A, Result<Drawn, Refusal>)
         requires { F.pre f }

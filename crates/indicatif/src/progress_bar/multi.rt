@@ -286,7 +286,7 @@ impl<T: TermLike + Drop, C: Clock + Drop, R: Wait + Clone + Drop, K: Tracks> Mul
     /// owner. To take bars in or out, or to set a steady ticker, waits for nothing, and draws nothing before the pause ends.
     ///
     /// ```
-    /// let (position, drawn) = board.suspend(|| bar.position());
+    /// let (position, drawn) = board.suspend(move || other.position()); // another owner of the bar
     /// ```
     pub fn suspend<F: FnOnce() -> A, A>(&self, f: F) -> (A, Result<Drawn, Refusal>)
         requires { F.pre f }
