@@ -219,7 +219,11 @@ def lively():
     fcntl.ioctl(theirs, termios.TIOCSWINSZ, struct.pack("HHHH", 24, 80, 0, 0))
     others = {name: value for name, value in os.environ.items() if name not in TOLD_NAMES}
     ends = {"stdin": theirs, "stdout": theirs, "stderr": theirs, "start_new_session": True, "preexec_fn": lambda: fcntl.ioctl(0, termios.TIOCSCTTY, 0)}
-    child = subprocess.Popen([built("bars"), "show"], env={**others, "TERM": "xterm"}, **ends)
+    try:
+        child = subprocess.Popen([built("bars"), "show"], env={**others, "TERM": "xterm"}, **ends)
+    except subprocess.SubprocessError:
+        print("no terminal of its own for a program on this machine: bars show wasn't looked at")
+        return []
     os.close(theirs)
     parts, is_ended = read_to_end(ours)
     os.close(ours)
