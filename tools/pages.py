@@ -7,7 +7,7 @@ usage: tools/pages.py [--write]   (at the root of the repository)
   word. Files of rows: all are played. README.md: its program is a test, and it has at most 90 lines.
 - "Each call" in the libraries' READMEs, and the programs of docs/PROVED.md: calls, clauses, laws and files are there. Each public call has a row (of
   a trait's calls those that answer a Result or an Option), but for plain commands of a bar, and each public name stands in the README, laws and
-  worked cases aside. The table of wrong bodies names edits and callers.
+  worked cases aside. The table of wrong bodies names edits and callers. Commands: the same sentence at each type.
 - docs/USING.md has all refusals; others that give one its number give the right one. Values of docs/DIFFERENCES.md are rows of data, tests of the
   Rust crate stand where docs/TESTING.md says, options and statuses of crates/meter/README.md and calls and lengths of docs/PORTING.md are those of
   programs.
@@ -187,6 +187,19 @@ def plain_commands():
             if plain:
                 found.add((crate, ("BarState", "LoneBar", "ProgressBar")[plain.lastindex - 1], it.name))
     return {call for call in found if any(other[1:] == ("BarState", call[2]) for other in found)}
+
+
+def faults_of_commands():
+    """Each command of a bar is said in one sentence, the first of its comment, at each type that has it."""
+    said = collections.defaultdict(dict)
+    for crate, owner, wanted in (("indicatif_bar", "BarState", "now: Moment"), ("indicatif_bar", "LoneBar", "now: Moment"), ("indicatif", "ProgressBar", "CanAnswer")):
+        for it in calls(crate):
+            if it.owner == owner and it.is_marked and wanted in it.head:
+                comment = re.search(rf"((?:^    ///.*\n)+)(?:^    #.*\n)*^    pub fn {it.name}\b", modules(crate)[it.module], re.M)[1]
+                said[it.name][owner] = re.match(r"(.*?\.)( |$)", " ".join(re.findall(r"/// ?(.*)", comment)))[1]
+    for name, sentences in sorted(said.items()):
+        if "BarState" in sentences and len(set(sentences.values())) > 1:
+            yield f"{name}: other sentences at {', '.join(sentences)}"
 
 
 def named_calls(cell):

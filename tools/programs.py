@@ -17,7 +17,8 @@ and the lengths of bars aren't compared. The shell exports COLUMNS and LINES, un
 
 The gate runs the commands of those pictures of docs/TEMPLATES.md that are the same in each run, behind a pseudo terminal. The program `rows`
 tells what cells show of the bytes; what a program writes before it sleeps has to come before what it writes behind that. A program with coloured
-bars is run in four environments. And `examples lost_terminal` runs as under `nohup`: its terminal is closed under a board with a ticker and a
+bars is run in four environments. `bars show` has to draw at least 150 times, and each line that the threads of `examples storm` write has to come
+once. And `examples lost_terminal` runs as under `nohup`: its terminal is closed under a board with a ticker and a
 log, or under a bar, or takes no more bytes. Each time it has to do all its steps. A machine without pseudo terminals says so, and nothing is compared.
 
 The programs are those of the folder $PROGRAMS, or those that `rt ci` has built; by hand one that isn't there is built by `rt run`. By hand it
@@ -142,10 +143,10 @@ class Run:
             self.fault = "all came at once"
 
 
-def read_to_end(terminal):
+def read_to_end(terminal, most=MOST):
     """The bytes that come until nobody can write any more, as they come; and whether that was in time."""
     parts, end = [], time.monotonic() + PATIENCE
-    while sum(map(len, parts)) < MOST and select.select([terminal], [], [], max(0, end - time.monotonic()))[0]:
+    while sum(map(len, parts)) < most and select.select([terminal], [], [], max(0, end - time.monotonic()))[0]:
         try:
             part = os.read(terminal, 65536)
         except OSError:
@@ -198,7 +199,7 @@ def gate():
         coloured = next(it for it in found if it.command == COLOURED)
         colours, live = pool.submit(lambda: list(wrongly_coloured(coloured, folder))), pool.submit(lively)
         runs = list(pool.map(lambda it: Run(it, folder), pictures))
-        faults = colours.result() + live.result()
+        faults = colours.result() + live.result() + stormy()
     for picture, run, rows in zip(pictures, runs, cells_of(pictures, runs), strict=True):
         if run.fault or rows != picture.shown:
             faults.append(f"{picture.place}: {picture.command}\n-- the page\n{picture.shown}\n-- the program ({run.fault or 'ended'})\n{rows}")
@@ -231,6 +232,36 @@ def lively():
         os.killpg(child.pid, signal.SIGKILL)
     status, drawn = child.wait(PATIENCE), b"".join(parts).count(b"\x1b[?2026h")
     return [] if status == 0 and drawn >= FRAMES else [f"bars show: {drawn} drawings, status {status}"]
+
+
+def written_in(said):
+    """The lines that `examples storm` says that its threads have written."""
+    rounds = collections.defaultdict(list)
+    for row in said:
+        if re.match(r"^\d+ \d+$", row):
+            rounds[row.split()[0]].append(int(row.split()[1]))
+    return {f"line {target} {thread} {step}" for target, counts in rounds.items() for thread, most in enumerate(counts) for step in range(most)}
+
+
+def stormy():
+    """What `examples storm` does otherwise than it should: each line of its threads comes once, and none is missed."""
+    ours, theirs = os.openpty()
+    fcntl.ioctl(theirs, termios.TIOCSWINSZ, struct.pack("HHHH", 24, 80, 0, 0))
+    with tempfile.TemporaryFile() as file:
+        told = {**os.environ, "TERM": "xterm", "COLUMNS": "80", "LINES": "24"}
+        child = subprocess.Popen([built("examples"), "storm"], stdin=subprocess.DEVNULL, stdout=file, stderr=theirs, env=told)
+        os.close(theirs)
+        parts, is_ended = read_to_end(ours, 64 * MOST)
+        os.close(ours)
+        if not is_ended:
+            child.kill()
+        status = child.wait(PATIENCE)
+        file.seek(0)
+        said = file.read().decode().splitlines()
+    written, found = written_in(said), collections.Counter(it.decode() for it in re.findall(rb"line \d+ \d+ \d+", b"".join(parts)))
+    bad = sorted(it for it in written | set(found) if found[it] != (it in written))
+    ended = said[-1:] == ["missed 0"] and status == 0
+    return [] if written and ended and not bad else [f"examples storm: {len(written)} lines, {bad[:5]}, {said[-1:]}, status {status}"]
 
 
 # A terminal that goes away: after these bytes, or without taking any
@@ -339,7 +370,6 @@ def alike(text):
 def gallery(*words):
     faults = []
     with room("bars", "examples", "meter") as folder, tmux_server() as tmux:
-        (folder / "readme").write_text("#!/bin/sh\nexec examples readme\n")
         for page in [pathlib.Path(word) for word in words if word != "--write"] or PAGES:
             text = page.read_text(encoding="utf-8")
             for picture, block in zip(pictures_of(page), BLOCK.finditer(text)):
@@ -532,11 +562,7 @@ def storms(count="2"):
             tmux.run("new-session", "-d", "-s", "kept", "sleep 1000")
             shown = in_pane(tmux, columns, rows, f"COLUMNS={columns} LINES={rows} {path} storm > {tmux.folder}/said; echo status $? >> {tmux.folder}/said")
             said = pathlib.Path(tmux.folder, "said").read_text(encoding="utf-8").splitlines()
-        rounds = collections.defaultdict(list)
-        for row in said:
-            if re.match(r"^\d+ \d+$", row):
-                rounds[row.split()[0]].append(int(row.split()[1]))
-        written = {f"line {target} {thread} {step}" for target, counts in rounds.items() for thread, most in enumerate(counts) for step in range(most)}
+        written = written_in(said)
         found = collections.Counter(match[1] for match in map(LINE.match, shown) if match)
         bad = {"lost": written - set(found), "overwritten": {row for row in shown if "line " in row and not LINE.match(row)},
                "twice": {line for line, times in found.items() if times > 1 or line not in written}}

@@ -220,17 +220,30 @@ class Tmux:
         return [coloured(rows) + at for rows, at in re.findall(r"(.*?)^(cursor at [^\n]*)\n", self.run(*words).stdout, re.M | re.S)]
 
 
+def after(colours, numbers):
+    """The colours behind a sequence of these numbers: whether letters are bold, and the colour's number."""
+    is_bold, colour = colours
+    for number in numbers.split(";"):
+        if number in ("", "0"):
+            is_bold, colour = False, ""
+        elif number == "1":
+            is_bold = True
+        elif re.fullmatch("3[0-79]", number):
+            colour = number.replace("39", "")
+    return is_bold, colour
+
+
 def coloured(text):
-    """Rows with the colour of each character between braces, where it isn't that of the one before. A blank has none."""
-    out, now, said = "", "", ""
-    for colour, char in re.findall(r"\x1b\[([\d;]*)m|(.)", text, re.S):
+    """Rows with the colours of each character between braces, where they aren't those of the one before. A blank has none."""
+    out, now, said = "", (False, ""), (False, "")
+    for numbers, char in re.findall(r"\x1b\[([\d;]*)m|(.)", text, re.S):
         if not char:
-            now = "" if colour in ("", "0", "39") else colour
+            now = after(now, numbers)
         elif char in " \n" or now == said:
             out += char
         else:
             said = now
-            out += "{" + now + "}" + char
+            out += "{" + "bold " * now[0] + now[1] + "}" + char
     return "\n".join(row.rstrip(" ") for row in out.split("\n"))
 
 

@@ -93,6 +93,8 @@ def play(page, by_hand):
         run = subprocess.run(
             ["bash", "-c", "\n".join(script)], cwd=where, env={**os.environ, "HOME": name},
             stdin=subprocess.DEVNULL, stdout=subprocess.PIPE, stderr=subprocess.STDOUT, text=True,
+            # (with no terminal of its own: `bars show` would draw on that)
+            start_new_session=True,
         )
         last = "\n".join(run.stdout.splitlines()[-LAST:])
         fault = f"status {run.returncode}:\n{last}" if run.returncode else ""

@@ -54,6 +54,8 @@ message_draw_10 1000
 log_draw 4000
 board_frame 2000
 tick_draw 2000
+spin_draw 2000
+download_draw 2000
 board_draw 2000
 board_step 1000
 insert_10 1000

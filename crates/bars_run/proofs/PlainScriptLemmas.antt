@@ -13,7 +13,7 @@ use Rattle.indicatif_board.specs.Multi.{board_sizing}
 use Rattle.indicatif_board.specs.PlainBoardLaws.{IsPlainCall, IsPlainBoard}
 use Rattle.indicatif_board.proofs.PlainBoardLemmas.{board_runs_are_plain}
 
-module _ {K : Type 0} (m : Tracking K) (board_id : ℕ) where
+module _ {K : Type 0} (m : Tracking K) (mark : ℕ) where
   abbrev Bar : Type 0
   Bar = BarRecord K
 
@@ -21,10 +21,10 @@ module _ {K : Type 0} (m : Tracking K) (board_id : ℕ) where
   BarCall = Call Bar (Command K)
 
   abbrev machine : Machine (BoardState Bar) BarCall Answer
-  machine = board (board_bars m) board_id
+  machine = board (board_bars m) mark
 
   abbrev sizing : Sizing machine
-  sizing = board_sizing m board_id
+  sizing = board_sizing m mark
 
   -- the texts of a script's calls
   abbrev pub ArePlainParts : List (Part BarCall Answer) → Type 0
@@ -36,6 +36,6 @@ module _ {K : Type 0} (m : Tracking K) (board_id : ℕ) where
       (plays : Plays machine sizing parts old s new next) → IsPlainBoard m s → ArePlainParts parts → AllRunsPlain machine sizing parts old s new next plays
   scripts_plain [] old s new next plays is all = tt
   scripts_plain (Called calls answers ∷ parts) old s new next plays is all =
-      let run = board_runs_are_plain m board_id calls answers old s plays.0 plays.1 plays.2 is (All-from_recursion (λ call. IsPlainCall m call.0) calls all.0) in
+      let run = board_runs_are_plain m mark calls answers old s plays.0 plays.1 plays.2 is (All-from_recursion (λ call. IsPlainCall m call.0) calls all.0) in
       (run.0, scripts_plain parts plays.0 plays.1 new next plays.3 run.1 all.1)
   scripts_plain (Size w h ∷ parts) old s new next plays is all = scripts_plain parts plays.0 (sized machine sizing w h (target_of old) s) new next plays.4 is all

@@ -47,8 +47,7 @@ called call answer old new fine leads s is =
 pub align_taken : (bottom : Bool) (e : Refusal) (old new : Played) → IsIn 0 old (opening_board None) → LeadsBy writes_nothing view_of old new (Align bottom) 0 (Refused e) → ⊥
 align_taken bottom e old new is leads = elim (leads 0 (opening_board None) is).2.leads [
   | inl made ↦ absurd (let q : Refused e ≡ Done = ap (λ o. o.0) made in cc)
-  | inr (inl short) ↦ absurd (let q : false ≡ true = short.1.0 in cc)
-  | inr (inr broken) ↦ absurd broken.2
+  | inr short ↦ absurd (let q : false ≡ true = short.1 in cc)
 ]
 
 -- a terminal that would have no cells, or memory was refused for it

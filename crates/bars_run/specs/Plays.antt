@@ -51,7 +51,7 @@ bar_saying text =
 
 -- the board's bar of a number, counted from 0
 abbrev pub bar_at : ℕ → Id
-bar_at number = record { board = 0; number = number }
+bar_at number = record { mark = 0; number = number }
 
 -- an action on a bar, as a call
 abbrev pub call_on : Id → Action → BarCall

@@ -35,8 +35,8 @@ pub struct Player {
     given: u64,
 }
 
-/// The board's id; there is no other board.
-const BOARD_ID: u64 = 0;
+/// The board's mark; there is no other board.
+const MARK: u64 = 0;
 
 /// When all happens.
 const NOW: Moment = 0;
@@ -50,7 +50,7 @@ impl Player {
         ensures refused { IfErr result (λ e. (e ≡ Refusal.Memory) ⊎ ((e ≡ Refusal.ZeroSize) × (HasCells asked.size → ⊥))) }
     {
         let term = InMemoryTerm::new(alloc, asked.size.rows, asked.size.columns)?;
-        let board = Board::new(alloc, ProgressDrawTarget::term_like(term), BOARD_ID);
+        let board = Board::new(alloc, ProgressDrawTarget::term_like(term), MARK);
         let mut player = Player {
             alloc,
             board,
@@ -151,7 +151,7 @@ impl Player {
     {
         match number {
             Some(number) if 0 < number && number <= self.given => Ok(BarId {
-                board: BOARD_ID,
+                mark: MARK,
                 number: number - 1,
             }),
             _ => Err(Refusal::NotMember),

@@ -281,7 +281,7 @@ fn showing_x<R: Abort>(rt: &R, alloc: Global) -> Box<Own> {
 /// A tick of its bar.
 fn tick(board: &mut Own) -> Result<Drawn, Refusal> {
     let number = 0;
-    board.command(BarId { board: 1, number }, BarCommand::Tick, 0)
+    board.command(BarId { mark: 1, number }, BarCommand::Tick, 0)
 }
 
 /// Ends the test where something else stands on the board's terminal.

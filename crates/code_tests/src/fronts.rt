@@ -3,8 +3,8 @@
 use crate::checks::Granted;
 use indicatif::style::Tracks;
 use indicatif::{
-    Clock, Drawn, InMemoryTerm, Move, Moves, MultiProgress, ProgressBar, ProgressDrawTarget,
-    ProgressStyle, Reading, Refusal, Setup, StepClock,
+    Clock, Drawn, InMemoryTerm, Moves, MultiProgress, ProgressBar, ProgressDrawTarget,
+    ProgressStyle, Refusal, Setup, StepClock,
 };
 use std::alloc::Global;
 use std::process::Abort;
@@ -22,16 +22,28 @@ pub struct Led<R: Wait + Clone + Drop> {
 }
 
 impl<R: Wait + Clone + Drop> Moves for Led<R> {
-    fn make_move(&mut self, step: Move) -> Result<Drawn, Refusal> {
-        self.bar.make_move(step)
+    fn advance(&mut self, n: u64) -> Result<Drawn, Refusal> {
+        self.bar.advance(n)
+    }
+
+    fn place(&mut self, place: u64) -> Result<Drawn, Refusal> {
+        self.bar.place(place)
+    }
+
+    fn finish(&mut self) -> Result<Drawn, Refusal> {
+        self.bar.finish_using_style()
     }
 
     fn stops_within_blocks(&self) -> bool {
         self.bar.stops_within_blocks()
     }
 
-    fn reading(&self) -> Reading {
-        self.bar.reading()
+    fn position(&self) -> u64 {
+        self.bar.position()
+    }
+
+    fn finished(&self) -> bool {
+        self.bar.finished()
     }
 }
 
@@ -59,7 +71,7 @@ pub fn setup<R: Abort>(rt: &R, alloc: Global, cols: u16) -> Setup<InMemoryTerm, 
     setup
 }
 
-/// A board of the id 1 that keeps its history.
+/// A board of the mark 1 that keeps its history.
 pub fn recorded<R: Wait + Copy + Clone + Drop + Abort>(rt: R, alloc: Global) -> Shared<R> {
     let rt = &rt;
     let Setup { target, clock } = setup(rt, alloc, 10);

@@ -61,11 +61,8 @@ fn entry_where_nothing_is_shown(rt: HostRuntime) {
 
 // ---- openings
 
-/// The bar that the board of the id 7 takes in first.
-const FIRST: BarId = BarId {
-    board: 7,
-    number: 0,
-};
+/// The bar that the board of the mark 7 takes in first.
+const FIRST: BarId = BarId { mark: 7, number: 0 };
 
 /// A bar that shows this, to be taken in.
 fn bar_saying(rt: &impl Abort, alloc: Global, text: &str) -> Candidate<NoTracker> {
@@ -110,5 +107,5 @@ fn beginning_of_a_history(rt: HostRuntime) {
     let mut record = Box::new(alloc, record).granted(rt);
     takes_in_and_draws(rt, alloc, &mut record);
     let opening = record.opening();
-    same!(rt; (opening.board_id, allowed(rt, opening)), (7, 20));
+    same!(rt; (opening.mark, allowed(rt, opening)), (7, 20));
 }

@@ -4,8 +4,8 @@ use crate::fronts::{Bar, another_of};
 use crate::gates::counts;
 use crate::stepped::{Stepped, bar_at};
 use indicatif::{
-    Drawn, Move, Moves, ParallelProgressIterator, ProgressBar, ProgressDrawTarget, Reading,
-    Refusal, Setup, StepClock,
+    Drawn, Moves, ParallelProgressIterator, ProgressBar, ProgressDrawTarget, Refusal, Setup,
+    StepClock,
 };
 use std::alloc::Global;
 use std::process::Abort;
@@ -175,15 +175,18 @@ struct Telling<'a> {
 }
 
 impl Moves for Telling<'_> {
-    fn make_move(&mut self, step: Move) -> Result<Drawn, Refusal> {
-        match step {
-            Move::Advance(n) => {
-                self.steps.push(n)?;
-                self.place.fetch_add(n, Ordering::SeqCst);
-            }
-            Move::PlaceAt(place) => self.place.store(place, Ordering::SeqCst),
-            Move::FinishAsStored => {}
-        }
+    fn advance(&mut self, n: u64) -> Result<Drawn, Refusal> {
+        self.steps.push(n)?;
+        self.place.fetch_add(n, Ordering::SeqCst);
+        Ok(Drawn::Limited)
+    }
+
+    fn place(&mut self, place: u64) -> Result<Drawn, Refusal> {
+        self.place.store(place, Ordering::SeqCst);
+        Ok(Drawn::Limited)
+    }
+
+    fn finish(&mut self) -> Result<Drawn, Refusal> {
         Ok(Drawn::Limited)
     }
 
@@ -191,11 +194,12 @@ impl Moves for Telling<'_> {
         true
     }
 
-    fn reading(&self) -> Reading {
-        Reading {
-            position: self.place.load(Ordering::SeqCst),
-            finished: false,
-        }
+    fn position(&self) -> u64 {
+        self.place.load(Ordering::SeqCst)
+    }
+
+    fn finished(&self) -> bool {
+        false
     }
 }
 

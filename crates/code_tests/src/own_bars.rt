@@ -19,7 +19,7 @@ fn doubles<R: Threads + Sync + Abort, P: Moves + Drop>(
 ) {
     let (made, bar) = list.map_collect(rt, alloc, twice);
     same!(rt; made.granted(rt).as_slice(), [2, 4, 6].as_slice());
-    same!(rt; bar.reading().position, 3);
+    same!(rt; bar.position(), 3);
 }
 
 /// A bar of this length for generic code to move.

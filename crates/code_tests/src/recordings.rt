@@ -113,7 +113,7 @@ impl<R: Abort + Drop, K: Tracks> RecordReader<InMemoryTerm, K> for RunsAgain<R> 
 /// The same of this history.
 fn runs_again<R: Abort, K: Tracks>(rt: &R, alloc: Global, recorded: &Recorded<K, InMemoryTerm>) {
     let target = target(alloc).granted(rt);
-    let board = Board::new(alloc, target, recorded.opening().board_id);
+    let board = Board::new(alloc, target, recorded.opening().mark);
     let mut fresh = Box::new(alloc, board).expect(rt, "granted");
     answers_so(rt, &mut fresh, alloc, recorded.entries());
     same!(rt; rows_of(rt, fresh.term()), rows_of(rt, recorded.board().term()));

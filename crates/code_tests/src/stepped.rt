@@ -1,5 +1,5 @@
 //! A bar of the tests', which tells where it stands and keeps what it is advanced by; and what threads do with an item.
-use indicatif::{Drawn, Move, Moves, Reading, Refusal};
+use indicatif::{Drawn, Moves, Refusal};
 use std::alloc::Global;
 
 /// A bar without a length, so that finishing leaves its position.
@@ -15,26 +15,28 @@ impl Moves for Stepped {
 
     ghost stands = { λ bar. Some (record { position = bar.position; finished = bar.finished; ends_at = None }) };
 
-    fn make_move(&mut self, step: Move) -> Result<Drawn, Refusal> {
-        match step {
-            Move::Advance(n) => {
-                self.position = self.position.wrapping_add(n);
-                self.steps.push(n)?;
-            }
-            Move::PlaceAt(place) => self.position = place,
-            Move::FinishAsStored => {
-                self.finished = true;
-                return Ok(Drawn::Yes);
-            }
-        }
+    fn advance(&mut self, n: u64) -> Result<Drawn, Refusal> {
+        self.position = self.position.wrapping_add(n);
+        self.steps.push(n)?;
         Ok(Drawn::Limited)
     }
 
-    fn reading(&self) -> Reading {
-        Reading {
-            position: self.position,
-            finished: self.finished,
-        }
+    fn place(&mut self, place: u64) -> Result<Drawn, Refusal> {
+        self.position = place;
+        Ok(Drawn::Limited)
+    }
+
+    fn finish(&mut self) -> Result<Drawn, Refusal> {
+        self.finished = true;
+        Ok(Drawn::Yes)
+    }
+
+    fn position(&self) -> u64 {
+        self.position
+    }
+
+    fn finished(&self) -> bool {
+        self.finished
     }
 }
 

@@ -1,5 +1,5 @@
 //! Random lists of calls of a board.
-use crate::calls::{BOARD_ID, board_call};
+use crate::calls::{MARK, board_call};
 use crate::law::{Held, Law};
 use crate::numbers::Numbers;
 use crate::setting::{Setting, Watch, Wrote};
@@ -16,7 +16,7 @@ type Calls = Vec<(Call<NoTracker>, Moment)>;
 type OnWire = Box<Board<NoTracker, Behind>>;
 
 fn board_on(alloc: Global, record: &Rc<Record>, setting: Setting) -> Result<OnWire, Law> {
-    let board = Board::new(alloc, setting.target(record)?, BOARD_ID);
+    let board = Board::new(alloc, setting.target(record)?, MARK);
     let mut board = Box::new(alloc, board)?;
     board.set_move_cursor(setting.moves_cursor);
     Ok(board)
@@ -85,7 +85,7 @@ impl Stage {
 
     /// What refuses a call of this bar.
     fn lacks(&self, id: BarId) -> Option<Refusal> {
-        if id.board != BOARD_ID {
+        if id.mark != MARK {
             return Some(Refusal::ForeignBar);
         }
         let is_there = self.board.order().contains(&id.number);
@@ -108,7 +108,7 @@ impl Stage {
             (Some(refusal), _, _) | (None, Some(refusal), _) => Wanted::Refused(refusal),
             (None, None, Candidate::Member(id)) => Wanted::Id(*id),
             (None, None, Candidate::New(_)) => Wanted::Id(BarId {
-                board: BOARD_ID,
+                mark: MARK,
                 number: self.came,
             }),
         }
@@ -118,7 +118,7 @@ impl Stage {
     fn wanted(&self, call: &Call<NoTracker>, now: Moment) -> Wanted {
         match call {
             Call::Insert { at, candidate } => self.of_insertion(*at, candidate),
-            Call::Remove(id) if id.board != BOARD_ID => Wanted::Refused(Refusal::ForeignBar),
+            Call::Remove(id) if id.mark != MARK => Wanted::Refused(Refusal::ForeignBar),
             Call::Remove(_) | Call::Align(_) => Wanted::Done,
             Call::Log(_) | Call::Clear | Call::Redraw => Wanted::Draw,
             Call::Drop(id) | Call::BarLog(id, _) | Call::Bar(id, _) => match self.lacks(*id) {

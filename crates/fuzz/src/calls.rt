@@ -10,8 +10,8 @@ use indicatif_term::draw_target::MultiProgressAlignment;
 use scripts::commands::{COUNTING, bare, by_number};
 use std::alloc::Global;
 
-/// The board's id.
-pub const BOARD_ID: u64 = 1;
+/// The board's mark.
+pub const MARK: u64 = 1;
 
 /// A small number, or once in eight times the greatest.
 fn number(numbers: &mut Numbers) -> u64 {
@@ -105,7 +105,7 @@ pub fn lone_call(alloc: Global, numbers: &mut Numbers) -> Result<LoneCall<NoTrac
 /// A bar that may be on the board; once in twelve times one of another board.
 fn id(numbers: &mut Numbers) -> BarId {
     BarId {
-        board: if numbers.one_in(12) { 2 } else { BOARD_ID },
+        mark: if numbers.one_in(12) { 2 } else { MARK },
         number: numbers.below(6) as u64,
     }
 }

@@ -17,7 +17,7 @@ pub fn joined(
     Ok(text)
 }
 
-/// What bars say: small letters, wide characters, marks behind a letter, colours, tabs and newlines.
+/// What bars say: small letters, wide characters, zero-width characters behind a letter, colours, tabs and newlines.
 const SAID: &[&str] = &[
     "a",
     "b",

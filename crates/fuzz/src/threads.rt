@@ -15,8 +15,8 @@ const BARS: u32 = 4;
 /// Their length.
 const LENGTH: u64 = 9;
 
-/// The board's id.
-const BOARD_ID: u64 = 1;
+/// The board's mark.
+const MARK: u64 = 1;
 
 /// A terminal of 6 rows and 30 columns.
 fn target(alloc: Global) -> Result<ProgressDrawTarget<InMemoryTerm>, Refusal> {
@@ -84,7 +84,7 @@ impl RecordReader<InMemoryTerm, NoTracker> for RunsAgain {
         let Some(recorded) = record else {
             return Err(Law::Replay);
         };
-        let board = Board::new(alloc, target(alloc)?, recorded.opening().board_id);
+        let board = Board::new(alloc, target(alloc)?, recorded.opening().mark);
         let mut fresh = Box::new(alloc, board)?;
         Law::Replay.holds(answers_so(&mut fresh, alloc, recorded.entries())?)?;
         let rows = rows_of(recorded.board().term())?;
@@ -134,7 +134,7 @@ fn played_on<R: Plays>(rt: R, board: &Multi<R>, bars: &[Bar<R>], random: &Random
 /// Threads make random calls of a new board that keeps its history, as they should.
 pub fn played<R: Plays>(rt: R, random: &Random) -> Held {
     let clock = MachineClock::new(rt);
-    let board = MultiProgress::recorded(rt, rt.alloc(), target(rt.alloc())?, clock, BOARD_ID)?;
+    let board = MultiProgress::recorded(rt, rt.alloc(), target(rt.alloc())?, clock, MARK)?;
     let bars = bars_of(rt, &board)?;
     played_on(rt, &board, &bars, random)
 }

@@ -1,21 +1,22 @@
-//! Random lists of calls to an engine, and to one whose cursor only moves, beside one that writes whole frames: rows and cursor have
-//! to be the same behind each call.
+//! Random lists of calls to an engine, and to one whose cursor only moves, beside one that writes whole frames: rows, the colours of each
+//! cell and the cursor have to be the same behind each call.
 //!
-//! - `whole`: the engine that writes whole frames. `calls`: random calls.
+//! - `whole`: the engine that writes whole frames. `calls`: random calls. `coloured`: a terminal that keeps colours.
 //!
 //! `fuzz whole_frames` plays a thousand lists; `fuzz whole_frames SEED COUNT` so many by that seed. `fuzz whole_frames SEED COUNT bytes`
 //! prints, of each list, the terminal's rows and columns, and then what each of the three engines writes, as a text between quotes, a line
 //! each.
 mod calls;
+mod coloured;
 mod whole;
 
 use crate::numbers::Numbers;
 use crate::whole_frames::calls::{Call, Frame};
+use crate::whole_frames::coloured::Coloured;
 use crate::whole_frames::whole::WholeFrames;
 use anyhow::Result;
 use indicatif_term::draw_target::{Engine, MultiProgressAlignment};
-use indicatif_term::in_memory::InMemoryTerm;
-use indicatif_term::term_like::{Term, TermLike};
+use indicatif_term::term_like::Term;
 use indicatif_text::columns::Refusal;
 use scripts::judged::record::Size;
 use std::alloc::Global;
@@ -27,31 +28,25 @@ const CALLS: u32 = 16;
 /// The stream of random numbers.
 const STREAM: u64 = 54;
 
+/// A terminal that keeps what is written.
+type Written = Term<Vec<u8>>;
+
 /// The engines, each on a terminal of its own.
-struct Three<T: TermLike + Drop> {
-    engine: Engine<T>,
-    moving: Engine<T>,
-    whole: WholeFrames<T>,
+#[derive(Drop)]
+struct Three {
+    engine: Engine<Written>,
+    moving: Engine<Written>,
+    whole: WholeFrames<Written>,
 }
 
-impl<T: TermLike + Drop> Drop for Three<T> {
-    fn drop(self) {
-        let Three {
-            engine: _,
-            moving: _,
-            whole: _,
-        } = self;
-    }
-}
-
-impl<T: TermLike + Drop> Three<T> {
-    fn new(alloc: Global, term: T, moved: T, written: T) -> Three<T> {
-        let mut moving = Engine::new(alloc, moved);
+impl Three {
+    fn new(alloc: Global, size: Size) -> Three {
+        let mut moving = Engine::new(alloc, behind(alloc, size));
         moving.set_move_cursor(true);
         Three {
-            engine: Engine::new(alloc, term),
+            engine: Engine::new(alloc, behind(alloc, size)),
             moving,
-            whole: WholeFrames::new(alloc, written),
+            whole: WholeFrames::new(alloc, behind(alloc, size)),
         }
     }
 
@@ -79,24 +74,41 @@ impl<T: TermLike + Drop> Three<T> {
     }
 }
 
-/// Whether two terminals show the same, and their cursors stand in the same place.
-fn is_as(here: &InMemoryTerm, there: &InMemoryTerm) -> Result<bool, Refusal> {
-    Ok(here.cursor() == there.cursor() && here.picture()? == there.picture()?)
+/// What the three terminals show.
+#[derive(Drop)]
+struct Shown {
+    engine: Coloured,
+    moving: Coloured,
+    whole: Coloured,
+}
+
+impl Shown {
+    fn new(alloc: Global, size: Size) -> Result<Shown, Refusal> {
+        Ok(Shown {
+            engine: Coloured::new(alloc, size)?,
+            moving: Coloured::new(alloc, size)?,
+            whole: Coloured::new(alloc, size)?,
+        })
+    }
+
+    /// Reads on in what the engines wrote; whether all show the same then.
+    fn agree(&mut self, three: &Three) -> Result<bool, Refusal> {
+        let is_read = self.engine.read_on(three.engine.term().writer())?
+            && self.moving.read_on(three.moving.term().writer())?
+            && self.whole.read_on(three.whole.term().writer())?;
+        Ok(is_read && self.engine.is_as(&self.whole)? && self.moving.is_as(&self.whole)?)
+    }
 }
 
 /// A terminal's size.
 fn size_by(numbers: &mut Numbers) -> Size {
     let rows = 1 + numbers.below(5) as u16;
-    let cols = 1 + numbers.below(7) as u16;
+    let cols = 1 + numbers.below(9) as u16;
     Size { rows, cols }
 }
 
 /// Plays one call more; whether all answer the same.
-fn step<T: TermLike + Drop>(
-    three: &mut Three<T>,
-    frame: &mut Frame,
-    numbers: &mut Numbers,
-) -> Result<bool, Refusal> {
+fn step(three: &mut Three, frame: &mut Frame, numbers: &mut Numbers) -> Result<bool, Refusal> {
     frame.change(numbers)?;
     let alignment = match numbers.below(4) {
         0 => MultiProgressAlignment::Bottom,
@@ -108,34 +120,24 @@ fn step<T: TermLike + Drop>(
     Ok(agreed)
 }
 
-/// Three engines on terminals in memory.
-fn in_memory(alloc: Global, size: Size) -> Result<Three<InMemoryTerm>, Refusal> {
-    let Size { rows, cols } = size;
-    let term = InMemoryTerm::new(alloc, rows, cols)?;
-    let moved = InMemoryTerm::new(alloc, rows, cols)?;
-    Ok(Three::new(alloc, term, moved, InMemoryTerm::new(alloc, rows, cols)?))
-}
-
 /// Plays one list of calls; the number of the first one behind which they differ, from 1.
 fn played(alloc: Global, numbers: &mut Numbers) -> Result<Option<u32>, Refusal> {
-    let mut three = in_memory(alloc, size_by(numbers))?;
+    let size = size_by(numbers);
+    let mut three = Three::new(alloc, size);
+    let mut shown = Shown::new(alloc, size)?;
     let mut frame = Frame::new(alloc);
-    first_difference(&mut three, &mut frame, numbers)
+    first_difference(&mut three, &mut shown, (&mut frame, numbers))
 }
 
-/// The number of the first call behind which their answers, their rows or their cursors differ, from 1.
+/// The number of the first call behind which their answers, or what their terminals show, differ, from 1.
 fn first_difference(
-    three: &mut Three<InMemoryTerm>,
-    frame: &mut Frame,
-    numbers: &mut Numbers,
+    three: &mut Three,
+    shown: &mut Shown,
+    (frame, numbers): (&mut Frame, &mut Numbers),
 ) -> Result<Option<u32>, Refusal> {
     for at in 0..CALLS {
         let has_agreed = step(three, frame, numbers)?;
-        let whole = three.whole.term();
-        if !has_agreed
-            || !is_as(three.engine.term(), whole)?
-            || !is_as(three.moving.term(), whole)?
-        {
+        if !has_agreed || !shown.agree(three)? {
             return Ok(Some(at + 1));
         }
     }
@@ -143,7 +145,7 @@ fn first_difference(
 }
 
 /// A terminal behind a list of bytes.
-fn behind(alloc: Global, size: Size) -> Term<Vec<u8>> {
+fn behind(alloc: Global, size: Size) -> Written {
     Term::new(Vec::new(alloc), size.rows, size.cols)
 }
 
@@ -152,8 +154,7 @@ fn print_written<R: AllocGlobal + Print>(rt: &R, numbers: &mut Numbers) -> Resul
     let alloc = rt.alloc();
     let size = size_by(numbers);
     println!(rt; "{} {}", size.rows, size.cols)?;
-    let term = behind(alloc, size);
-    let mut three = Three::new(alloc, term, behind(alloc, size), behind(alloc, size));
+    let mut three = Three::new(alloc, size);
     let mut frame = Frame::new(alloc);
     print_calls(rt, &mut three, &mut frame, numbers)
 }
@@ -161,7 +162,7 @@ fn print_written<R: AllocGlobal + Print>(rt: &R, numbers: &mut Numbers) -> Resul
 /// Plays the calls of a list, and prints what each engine wrote.
 fn print_calls<R: Print>(
     rt: &R,
-    three: &mut Three<Term<Vec<u8>>>,
+    three: &mut Three,
     frame: &mut Frame,
     numbers: &mut Numbers,
 ) -> Result<()> {
@@ -174,7 +175,7 @@ fn print_calls<R: Print>(
 }
 
 /// Prints what a terminal's writer was given, as a text between quotes.
-fn print_bytes<R: Print>(rt: &R, term: &Term<Vec<u8>>) -> Result<()> {
+fn print_bytes<R: Print>(rt: &R, term: &Written) -> Result<()> {
     println!(rt; "{:?}", str::from_utf8(term.writer())?)?;
     Ok(())
 }
@@ -234,7 +235,7 @@ pub fn run<R: AllocGlobal + Print>(rt: &R, asked: Asked) -> Result<()> {
         }
     }
     if !prints {
-        println!(rt; "{count} lists: the same rows and cursor behind each call")?;
+        println!(rt; "{count} lists: the same rows, colours and cursor behind each call")?;
     }
     Ok(())
 }

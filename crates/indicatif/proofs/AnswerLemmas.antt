@@ -12,7 +12,7 @@ use Rattle.indicatif_term.specs.Calls.{TermView}
 use Rattle.indicatif_term.specs.Frames.{some_wide}
 use Rattle.indicatif_term.specs.Limiters.{Limiter}
 use Rattle.indicatif_bar.specs.Trackers.{Tracking}
-use Rattle.indicatif_bar.specs.Commands.{BarRecord, Command, Tick, TickerTick, SetTicker, Inc, Dec, SetPosition, Update, SetLength, UnsetLength, IncLength, DecLength, SetMessage, SetPrefix, SetStyle, WithPosition, WithMessage, WithPrefix, WithFinish, WithTabWidth, SetElapsed, ResetEta, ResetElapsed, SetTabWidth, Reset, Finish, FinishUsingStyle, ForceDraw, obeyed, is_beyond_clock}
+use Rattle.indicatif_bar.specs.Commands.{BarRecord, Command, Tick, SetElapsed, ForceDraw, obeyed, is_beyond_clock}
 use Rattle.indicatif_bar.specs.Bars.{bar_kind}
 use Rattle.indicatif_bar.specs.Kinds.{asked_of, Frame, NoFrame}
 use Rattle.indicatif_bar.specs.Machines.{Target, target_of, Machine, Draw, Deed, AtOnce, Draws, Leads, is_no, drawn_by}
@@ -100,8 +100,7 @@ module _ {S C A : Type 0} (m : Machine S C A) (target : Target) (s : S) (d : Dra
 module _ {S C A : Type 0} (m : Machine S C A) (target : Target) (s : S) (takes : Bool) (said : A) (after : S) (answer : A) (next : S) (P : Result Drawn Refusal → Type 0) where
   at_once : P (m.tells said) → (takes ≡ true → P (Err Memory)) → Leads m target s (AtOnce takes said after) answer next → P (m.tells answer)
   at_once told short (inl made) = subst P (sym (ap (λ o. m.tells o.0) made)) told
-  at_once told short (inr (inl made)) = subst P (sym (ap m.tells made.0 ∙ m.tells_said (Err Memory))) (short made.1.0)
-  at_once told short (inr (inr made)) = absurd made.2
+  at_once told short (inr made) = subst P (sym (ap m.tells made.0 ∙ m.tells_said (Err Memory))) (short made.1)
 
 short_so : (asked : Ask) → of_draw asked (Err Memory) ≡ true
 short_so No = refl
@@ -129,37 +128,12 @@ module _ {S C A : Type 0} (m : Machine S C A) (target : Target) (s : S) (d : Dra
 -- what a command asks of a bar is what it may ask
 abbrev AsksAs : Ask → Ask → Type 0
 AsksAs No ask = ask ≡ No
-AsksAs Unforced ask = Unit {0}
+AsksAs Unforced ask = ask ≡ ask
 AsksAs Forced ask = ask ≡ Forced
 
 command_asks : {K : Type 0} (m : Tracking K) (command : Command K) (bar : BarRecord K) (now : ℕ) → AsksAs (asked_by command) (obeyed m command bar now).1
-command_asks m Tick bar now = tt
-command_asks m TickerTick bar now = tt
-command_asks m (Inc n) bar now = tt
-command_asks m (Dec n) bar now = tt
-command_asks m (SetPosition position) bar now = tt
-command_asks m (Update position len) bar now = tt
-command_asks m (SetLength n) bar now = tt
-command_asks m UnsetLength bar now = tt
-command_asks m (IncLength n) bar now = tt
-command_asks m (DecLength n) bar now = tt
-command_asks m (SetMessage text) bar now = tt
-command_asks m (SetPrefix text) bar now = tt
-command_asks m Reset bar now = tt
-command_asks m (SetTicker installed) bar now = refl
-command_asks m (SetStyle style) bar now = refl
-command_asks m (WithPosition position) bar now = refl
-command_asks m (WithMessage text) bar now = refl
-command_asks m (WithPrefix text) bar now = refl
-command_asks m (WithFinish by) bar now = refl
-command_asks m (WithTabWidth tab) bar now = refl
-command_asks m (SetElapsed nanos) bar now = refl
-command_asks m ResetEta bar now = refl
-command_asks m ResetElapsed bar now = refl
-command_asks m (SetTabWidth tab) bar now = refl
-command_asks m (Finish by) bar now = refl
-command_asks m FinishUsingStyle bar now = refl
-command_asks m ForceDraw bar now = refl
+command_asks m Tick bar now = refl
+command_asks m _ bar now = refl
 
 -- the limiter isn't asked for a draw by force
 limiter_asked : (asked ask : Ask) (now : ℕ) (limiter : Option Limiter) → AsksAs asked ask → ComesAs asked ask (asked_of ask now limiter).0
@@ -240,41 +214,41 @@ after_named anchor (New bar) = refl
 or_none_named : {named : Bool} → named ≡ true → (named && true) ≡ true
 or_none_named is = rw is refl
 
-module _ {K : Type 0} (m : Tracking K) (board_id : ℕ) (target : Target) (now : ℕ) (s : BoardState (BarRecord K)) (answer : Answer) (next : BoardState (BarRecord K)) where
+module _ {K : Type 0} (m : Tracking K) (mark : ℕ) (target : Target) (now : ℕ) (s : BoardState (BarRecord K)) (answer : Answer) (next : BoardState (BarRecord K)) where
   abbrev Led : Deed (BoardState (BarRecord K)) Answer → Type 0
-  Led deed = Leads (board (board_bars m) board_id) target s deed answer next
+  Led deed = Leads (board (board_bars m) mark) target s deed answer next
 
   -- the answer of a call that answers at once, and takes no memory
   said_at_once : (P : Result Drawn Refusal → Type 0) (said : Answer) (after : BoardState (BarRecord K)) → P (drawn_of said) → Led (AtOnce false said after) → P (drawn_of answer)
-  said_at_once P said after told led = at_once (board (board_bars m) board_id) target s false said after answer next P told (λ taken. absurd (false≢true taken)) led
+  said_at_once P said after told led = at_once (board (board_bars m) mark) target s false said after answer next P told (λ taken. absurd (false≢true taken)) led
 
   -- a draw that was asked for so
   drew_as : (d : Draw (BoardState (BarRecord K))) (ends breaks : BoardState (BarRecord K) → BoardState (BarRecord K)) (asked : Ask) → ComesAs asked d.ask d.allowed → Led (Draws d ends breaks) →
       of_draw asked (drawn_of answer) ≡ true
-  drew_as d ends breaks asked is led = asked_leads (board (board_bars m) board_id) target s d ends breaks answer next asked is led
+  drew_as d ends breaks asked is led = asked_leads (board (board_bars m) mark) target s d ends breaks answer next asked is led
 
   -- a board that hasn't a bar refuses it so; one that has it goes on
   named_answers : (P : Result Drawn Refusal → Type 0) (id : Id) (deed : Deed (BoardState (BarRecord K)) Answer) → P (Err ForeignBar) → P (Err NotMember) →
-      (is_member id.number s.members ≡ true → Led deed → P (drawn_of answer)) → Led (or_refused (turned_away board_id id s) deed s) → P (drawn_of answer)
+      (is_member id.number s.members ≡ true → Led deed → P (drawn_of answer)) → Led (or_refused (turned_away mark id s) deed s) → P (drawn_of answer)
   named_answers P id deed foreign gone on =
       let Q = λ (o : Option Refusal). Led (or_refused o deed s) → P (drawn_of answer) in
-      cond_both (not (id.board == board_id)) (Some ForeignBar) (if is_member id.number s.members then None else Some NotMember) Q (λ other. said_at_once P (Refused ForeignBar) s foreign)
+      cond_both (not (id.mark == mark)) (Some ForeignBar) (if is_member id.number s.members then None else Some NotMember) Q (λ other. said_at_once P (Refused ForeignBar) s foreign)
       (λ ours. cond_both (is_member id.number s.members) None (Some NotMember) Q on (λ left. said_at_once P (Refused NotMember) s gone))
 
   -- a bar that is taken in, behind an anchor or without one
   abbrev Takes : Location → Entrant (BarRecord K) → Result Drawn Refusal → Type 0
   Takes at entrant r = (of_no_draw r || (names_bar entrant at && has_no_bar r)) ≡ true
 
-  entered : (at : Location) (entrant : Entrant (BarRecord K)) → Led (inserted board_id at entrant s) → Takes at entrant (drawn_of answer)
+  entered : (at : Location) (entrant : Entrant (BarRecord K)) → Led (inserted mark at entrant s) → Takes at entrant (drawn_of answer)
   entered at (New bar) =
-      cond_both (s.made == 2 ^ 64) (AtOnce true (Refused Memory) s) (AtOnce true (Given (record { board = board_id; number = s.made })) (taken_in at bar s))
+      cond_both (s.made == 2 ^ 64) (AtOnce true (Refused Memory) s) (AtOnce true (Given (record { mark = mark; number = s.made })) (taken_in at bar s))
       (λ deed. Led deed → Takes at (New bar) (drawn_of answer))
-      (λ full. at_once (board (board_bars m) board_id) target s true (Refused Memory) s answer next (Takes at (New bar)) refl (λ taken. refl))
-      (λ free. at_once (board (board_bars m) board_id) target s true (Given (record { board = board_id; number = s.made })) (taken_in at bar s) answer next (Takes at (New bar)) refl (λ taken. refl))
+      (λ full. at_once (board (board_bars m) mark) target s true (Refused Memory) s answer next (Takes at (New bar)) refl (λ taken. refl))
+      (λ free. at_once (board (board_bars m) mark) target s true (Given (record { mark = mark; number = s.made })) (taken_in at bar s) answer next (Takes at (New bar)) refl (λ taken. refl))
   entered at (Old id) = named_answers (Takes at (Old id)) id (AtOnce false (Given id) s) refl refl (λ there. said_at_once (Takes at (Old id)) (Given id) s refl)
 
   anchored : (at : Location) (entrant : Entrant (BarRecord K)) (deed : Deed (BoardState (BarRecord K)) Answer) → (Led deed → Takes at entrant (drawn_of answer)) →
-      Led (or_refused (anchor_turned_away board_id at s) deed s) → Takes at entrant (drawn_of answer)
+      Led (or_refused (anchor_turned_away mark at s) deed s) → Takes at entrant (drawn_of answer)
   anchored (Before anchor) entrant deed on =
       named_answers (Takes (Before anchor) entrant) anchor deed (or_none_named (before_named anchor entrant)) (or_none_named (before_named anchor entrant)) (λ there. on)
   anchored (After anchor) entrant deed on =
@@ -304,11 +278,11 @@ module _ {K : Type 0} (m : Tracking K) (board_id : ℕ) (target : Target) (now :
   hasnt : (command : Command K) (e : Refusal) → has_no_bar (Err e) ≡ true → bar_answers (Obey command) (Err e) ≡ true
   hasnt command e is = or-right (of_draw (asked_by command) (Err e)) (is_late command (Err e) || has_no_bar (Err e)) (or-right (is_late command (Err e)) (has_no_bar (Err e)) is)
 
-  board_call : (call : SharedCall K) → Led (deed_of (board_bars m) board_id target call now s) → board_answers call (drawn_of answer) ≡ true
-  board_call (Insert at entrant) led = anchored at entrant (inserted board_id at entrant s) (entered at entrant) led
+  board_call : (call : SharedCall K) → Led (deed_of (board_bars m) mark target call now s) → board_answers call (drawn_of answer) ≡ true
+  board_call (Insert at entrant) led = anchored at entrant (inserted mark at entrant s) (entered at entrant) led
   board_call (Remove id) led =
       let P = λ (r : Result Drawn Refusal). (of_no_draw r || is_foreign r) ≡ true in
-      cond_both (not (id.board == board_id)) (AtOnce false (Refused ForeignBar) s) (AtOnce false Done (taken_out id.number s)) (λ deed. Led deed → P (drawn_of answer))
+      cond_both (not (id.mark == mark)) (AtOnce false (Refused ForeignBar) s) (AtOnce false Done (taken_out id.number s)) (λ deed. Led deed → P (drawn_of answer))
       (λ other. said_at_once P (Refused ForeignBar) s refl) (λ ours. said_at_once P Done (taken_out id.number s) refl) led
   board_call (Drop id) led =
       named_answers (λ r. (of_no_draw r || (of_a_draw r || has_no_bar r)) ≡ true) id (Draws (last_draw (board_bars m) target id.number now s)
@@ -321,7 +295,7 @@ module _ {K : Type 0} (m : Tracking K) (board_id : ℕ) (target : Target) (now :
       named_answers (λ r. (of_a_draw r || has_no_bar r) ≡ true) id (draws d) refl refl
       (λ there led. or-left (of_a_draw (drawn_of answer)) (has_no_bar (drawn_of answer)) (drew_as d (λ x. x) (λ x. x) Forced (refl, refl) led)) led
   board_call ClearBoard led =
-      clear_leads (board (board_bars m) board_id) target s (draw_of target false Forced now NoFrame s s false) (λ x. x) (λ x. x) answer next refl refl refl led
+      clear_leads (board (board_bars m) mark) target s (draw_of target false Forced now NoFrame s s false) (λ x. x) (λ x. x) answer next refl refl refl led
   board_call Redraw led = drew_as (draw_of target false Forced now Frame s s false) (λ x. x) (λ x. x) Forced (refl, refl) led
   board_call (Align bottom) led = said_at_once (λ r. of_no_draw r ≡ true) Done (record s { bottom = bottom }) refl led
   board_call (Tell id command) led =
@@ -330,10 +304,10 @@ module _ {K : Type 0} (m : Tracking K) (board_id : ℕ) (target : Target) (now :
       (draws (draw_of_command (board_bars m) target id.number command now s)) s)
       (hasnt command ForeignBar refl) (hasnt command NotMember refl) (told_answers id command) led
 
-pub made_on_board : {K : Type 0} (m : Tracking K) (board_id : ℕ) (old new : Option TermView) (call : SharedCall K) (now : ℕ) (s : BoardState (BarRecord K)) (answer : Answer)
-    (next : BoardState (BarRecord K)) → CallMade (board (board_bars m) board_id) old new (call, now) s answer next → SharedDraws K call (drawn_of answer)
+pub made_on_board : {K : Type 0} (m : Tracking K) (mark : ℕ) (old new : Option TermView) (call : SharedCall K) (now : ℕ) (s : BoardState (BarRecord K)) (answer : Answer)
+    (next : BoardState (BarRecord K)) → CallMade (board (board_bars m) mark) old new (call, now) s answer next → SharedDraws K call (drawn_of answer)
 unfolding SharedDraws
-made_on_board m board_id old new call now s answer next made = board_call m board_id (target_of old) now s answer next call made.leads
+made_on_board m mark old new call now s answer next made = board_call m mark (target_of old) now s answer next call made.leads
 
 -- memory may always be wanting, for a history or for a text
 pub no_memory : {K : Type 0} (call : SharedCall K) → SharedDraws K call (Err Memory)

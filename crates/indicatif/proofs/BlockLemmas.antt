@@ -6,9 +6,7 @@ use Rattle.std.proofs.lemmas.List.{map-append}
 use Rattle.rayon.proofs.ListFacts.{AllZip-append, sum-append}
 use Rattle.indicatif_text.specs.declared.refusal.Drawn.{Drawn}
 use Rattle.indicatif_text.specs.declared.refusal.Refusal.{Refusal}
-use Rattle.indicatif.specs.Moves.{Standing, Goes}
-use Rattle.indicatif.specs.declared.moves.Move.{Move}
-use Rattle.indicatif.specs.declared.moves.Move.TheVariants.{Advance}
+use Rattle.indicatif.specs.Moves.{Standing, Goes, Move, Advance}
 use Rattle.indicatif.specs.Parallel.{AdvancedAlong, Blocks, block_length}
 
 sum_more : (ns : List ℕ) (n : ℕ) → sum (ns ++ n ∷ []) ≡ sum ns + n

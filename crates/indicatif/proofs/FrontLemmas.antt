@@ -14,12 +14,10 @@ use Rattle.indicatif_bar.specs.declared.lone.LoneBar.{LoneBar}
 use Rattle.indicatif_board.specs.BoardValues.{id_of}
 use Rattle.indicatif.specs.Fronts.{of_no_draw, of_a_draw, has_no_bar, CanAnswer, CanClear, CanDraw, CanMove, CanTurn, IsMissing, unchanged}
 use Rattle.indicatif.specs.Inside.AnyBar.{MadeBy, BarMakes, BarTurns, IsUntold, IsOf}
-use Rattle.indicatif.specs.Inside.Requests.{MatchTried, IfMade, BarTries, BarRedraws, BarMovesTo}
-use Rattle.indicatif.specs.Inside.SharedBoards.{SharedDraws, on_board}
+use Rattle.indicatif.specs.Inside.Requests.{MatchTried, IfMade, BarRedraws, BarMovesTo}
 use Rattle.indicatif.proofs.AnswerLemmas.{or-left, or-right, anywhere, clear_is_draw, made_alone, redrawn_alone, seated}
 use Rattle.indicatif.specs.declared.progress_bar.any_bar.AnyBar.{AnyBar}
 use Rattle.indicatif.specs.declared.progress_bar.any_bar.AnyBar.TheVariants.{Alone, Member}
-use Rattle.indicatif.specs.declared.progress_bar.member_bar.MemberBar.{MemberBar}
 use Rattle.indicatif.specs.declared.progress_bar.request.Tried.{Tried}
 use Rattle.indicatif.specs.declared.progress_bar.request.Tried.TheVariants.{Made, ComeAgain}
 
@@ -50,20 +48,10 @@ pub tried_as : {A Q : Type 0} {P P' : A → Type 0} {B B' : Q → Type 0} (tried
 tried_as (Made answer) made back holds = made answer holds
 tried_as (ComeAgain again) made back holds = back again holds
 
--- the same of an answer alone
-pub made_as : {A Q : Type 0} {P P' : A → Type 0} (tried : Tried A Q) → ((a : A) → P a → P' a) → IfMade tried P → IfMade tried P'
-made_as (Made answer) made holds = made answer holds
-made_as (ComeAgain again) made holds = tt
-
--- and of one that says nothing where it is handed back
+-- the same of an answer alone, and of one that says nothing where it is handed back
 pub made_or : {A Q : Type 0} {P P' : A → Type 0} {B : Q → Type 0} (tried : Tried A Q) → ((a : A) → P a → P' a) → ((q : Q) → B q) → IfMade tried P → MatchTried tried P' B
 made_or (Made answer) made back holds = made answer holds
 made_or (ComeAgain again) made back holds = back again
-
--- what a bar on a board was asked
-pub seat_tries : {K T C Q : Type 0} (m : Tracking K) (view : T → TermView) (member : MemberBar K T C) (call : LoneCall (Command K)) (tried : Tried (Result Drawn Refusal) Q) (asked : Q) →
-    MatchTried tried (λ answer. SharedDraws K (on_board (id_of member.id) call) answer) (λ again. again ≡ asked) → BarTries m view (Member member) call tried asked (Member member)
-seat_tries m view member call tried asked made = tried_as tried (λ answer can. (refl, can)) (λ again same. (same, refl)) made
 
 pub place_redraws : {K T C : Type 0} (m : Tracking K) (view : T → TermView) (old new : AnyBar K T C) (answer : Result Drawn Refusal) →
     BarRedraws m view old answer new → CanDraw answer

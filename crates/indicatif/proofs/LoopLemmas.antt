@@ -6,9 +6,7 @@ use Rattle.indicatif_text.specs.declared.refusal.Drawn.{Drawn}
 use Rattle.indicatif_text.specs.declared.refusal.Refusal.{Refusal}
 use Rattle.indicatif_text.specs.declared.refusal.Refusal.TheVariants.{Memory}
 use Rattle.indicatif.specs.declared.wrap.ProgressBarIter.{ProgressBarIter}
-use Rattle.indicatif.specs.Moves.{Standing, Goes, after_bar_move}
-use Rattle.indicatif.specs.declared.moves.Move.{Move}
-use Rattle.indicatif.specs.declared.moves.Move.TheVariants.{Advance, FinishAsStored}
+use Rattle.indicatif.specs.Moves.{Standing, Goes, after_bar_move, Move, Advance, Finish}
 use Rattle.indicatif.specs.Wrap.{inner_of, last_draw_of, CountsItem, NextGives}
 
 -- the bar at another position
@@ -19,7 +17,7 @@ module _ {T P : Type 0} (told : P → Option Standing) (leads : P → Move → R
   -- the bar is finished from this position, or stays there for want of memory
   abbrev pub EndsAt : Standing → ProgressBarIter T P → ℕ → Type 0
   EndsAt bar t position =
-      (told t.progress ≡ Some (after_bar_move (at_position bar position) FinishAsStored))
+      (told t.progress ≡ Some (after_bar_move (at_position bar position) Finish))
       ⊎ ((last_draw_of t ≡ Some (Err Memory)) × (told t.progress ≡ Some (at_position bar position)))
 
   module _ {A : Type 0} (gives : T → Option A → T → Type 0) where
@@ -36,7 +34,7 @@ module _ {T P : Type 0} (told : P → Option Standing) (leads : P → Move → R
         let is : told m.progress ≡ Some bar = subst (λ w. told w.progress ≡ Some bar) same before in
         ⊎_elim
         (λ made.
-        let goes = subst (λ o. Goes o FinishAsStored made.0.answer (told t.progress)) is made.0.goes in
+        let goes = subst (λ o. Goes o Finish made.0.answer (told t.progress)) is made.0.goes in
         subst (EndsAt bar t) none (⊎_elim inl (λ stays. inr (made.0.last ∙ ap Some stays.0, stays.1)) goes))
         (λ kept. absurd (true≢false (sym (subst (λ o. IfSome o (λ b. b.finished ≡ true)) is kept.1) ∙ going)))
         end

@@ -15,9 +15,7 @@ use Rattle.indicatif_bar.specs.LoneBars.{lone_known, lone_bar, LoneIsIn, LoneLea
 use Rattle.indicatif_bar.proofs.RunLemmas.{headline}
 use Rattle.indicatif.specs.declared.owned.OwnedBar.{OwnedBar}
 use Rattle.indicatif.specs.declared.wrap.ProgressBarIter.{ProgressBarIter}
-use Rattle.indicatif.specs.Moves.{Standing, MovedAlong, AreOfLoop}
-use Rattle.indicatif.specs.declared.moves.Move.{Move}
-use Rattle.indicatif.specs.declared.moves.Move.TheVariants.{Advance, PlaceAt, FinishAsStored}
+use Rattle.indicatif.specs.Moves.{Standing, MovedAlong, AreOfLoop, Move, Advance, Place, Finish}
 use Rattle.indicatif.specs.Wrap.{CountsItem, NextGives}
 use Rattle.indicatif.specs.Owned.{lone_of, standing_of, command_of_move, Commanded, IsRun}
 
@@ -31,7 +29,7 @@ pub loop-made : {T P A : Type 0} (told : P → Option Standing) (leads : P → M
 loop-made told leads gives [] s m t same end =
     let from : s.progress ≡ m.progress = ap (λ w. w.progress) same in
     ⊎_elim
-    (λ made. ((FinishAsStored, made.0.answer) ∷ [], (t.progress, subst (λ p. leads p FinishAsStored made.0.answer t.progress) (sym from) made.0.led, refl), inl refl))
+    (λ made. ((Finish, made.0.answer) ∷ [], (t.progress, subst (λ p. leads p Finish made.0.answer t.progress) (sym from) made.0.led, refl), inl refl))
     (λ kept. ([], kept.0.0 ∙ sym from, inr refl))
     end
 loop-made told leads gives (x ∷ items) s m t along end =
@@ -47,8 +45,8 @@ module _ {K T C : Type 0} (m : Tracking K) (view : T → TermView) where
   command-leads : (old : OwnedBar K T C) (move : Move) (answer : Result Drawn Refusal) (new : OwnedBar K T C) → Commanded m view old move answer new
       → (now : ℕ) × LoneLeadsBy m view (lone_of old) (lone_of new) (Obey (command_of_move move)) now answer
   command-leads old (Advance n) answer new made = (made.0, made.1.leads)
-  command-leads old (PlaceAt place) answer new made = (made.0, made.1.leads)
-  command-leads old FinishAsStored answer new made = (made.0, made.1.leads)
+  command-leads old (Place place) answer new made = (made.0, made.1.leads)
+  command-leads old Finish answer new made = (made.0, made.1.leads)
 
   -- the run without its headline
   abbrev pub RunFrom : List (Move × Result Drawn Refusal) → OwnedBar K T C → OwnedBar K T C → LoneState (BarRecord K) → Type 0

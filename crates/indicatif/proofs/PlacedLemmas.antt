@@ -4,8 +4,7 @@ use Rattle.std.specs.Prelude.{⊤}
 use Rattle.indicatif_text.specs.declared.refusal.Drawn.{Drawn}
 use Rattle.indicatif_text.specs.declared.refusal.Refusal.{Refusal}
 use Rattle.indicatif.specs.declared.wrap.ProgressBarIter.{ProgressBarIter}
-use Rattle.indicatif.specs.Moves.{Standing, PlacedAfter}
-use Rattle.indicatif.specs.declared.moves.Move.{Move}
+use Rattle.indicatif.specs.Moves.{Standing, PlacedAfter, Move}
 use Rattle.indicatif.specs.Seek.{Seeks, after_move}
 use Rattle.indicatif.specs.Wrap.{wrapped_seeks, last_draw_of, Placed}
 

@@ -6,11 +6,11 @@ use Rattle.indicatif_text.specs.declared.refusal.Drawn.{Drawn}
 use Rattle.indicatif_term.specs.Calls.{TermView}
 use Rattle.indicatif_bar.specs.Trackers.{Tracking}
 use Rattle.indicatif_bar.specs.Commands.{BarRecord}
-use Rattle.indicatif_board.specs.Boards.{Id, Remove, Answer, Done, Refused}
+use Rattle.indicatif_board.specs.Boards.{Id, Remove, Answer, Done, Refused, says, drawn_of_said}
 use Rattle.indicatif_board.specs.Calls.{answer_of, removal}
 use Rattle.indicatif_board.specs.declared.calls.Answer.{Answer as AnswerValue}
 use Rattle.indicatif_board.specs.declared.calls.Answer.TheVariants as answer
-use Rattle.indicatif_board.specs.Multi.{IsIn, LeadsBy, known}
+use Rattle.indicatif_board.specs.Multi.{IsIn, LeadsBy, known, mark_of}
 use Rattle.indicatif_board.specs.Recorded.{Record, IsOneRun, AddsCall}
 use Rattle.indicatif_board.specs.declared.multi.Board.{Board}
 use Rattle.indicatif.specs.Inside.AnyBoard.{BoardDraws, BoardRemoves, refused_with}
@@ -21,14 +21,24 @@ use Rattle.indicatif.proofs.AnswerLemmas.{made_on_board, no_memory}
 
 module _ {K T : Type 0} (m : Tracking K) (view : T → TermView) where
   -- a board that is in some state answered so, and a board can
-  pub can_answer : (old new : Board K T) (call : SharedCall K) (now : ℕ) (answer : Answer) (board_id : ℕ) (s : SharedState K) →
-      IsIn board_id old s → LeadsBy m view old new call now answer → SharedAnswers K call answer
-  can_answer old new call now answer board_id s is led = let made = led board_id s is in made_on_board m board_id (known view old) (known view new) call now s answer made.0 made.2
+  pub can_answer : (old new : Board K T) (call : SharedCall K) (now : ℕ) (answer : Answer) (mark : ℕ) (s : SharedState K) →
+      IsIn mark old s → LeadsBy m view old new call now answer → SharedAnswers K call answer
+  can_answer old new call now answer mark s is led = let made = led mark s is in made_on_board m mark (known view old) (known view new) call now s answer made.0 made.2
+
+  -- what a call that draws made of a board without a history, and what it answered
+  pub open_made : (old new : Board K T) (call : SharedCall K) (now : ℕ) (drawn : Result Drawn Refusal) →
+      LeadsBy m view old new call now (says drawn) → BoardDraws m view (kind.Open old) call now drawn (kind.Open new)
+  open_made old new call now drawn led = (says drawn, sym (drawn_of_said drawn), (new, refl, led))
+
+  pub open_can : (old new : Board K T) (call : SharedCall K) (now : ℕ) (drawn : Result Drawn Refusal) →
+      (s : SharedState K) × IsIn (mark_of old) old s → LeadsBy m view old new call now (says drawn) → SharedDraws K call drawn
+  open_can old new call now drawn some led =
+      subst (SharedDraws K call) (drawn_of_said drawn) (can_answer old new call now (says drawn) (mark_of old) some.0 some.1 led)
 
   -- the same of a board with its history
   pub record_answers : (old new : Record K T) (call : SharedCall K) (now : ℕ) (answer : Answer) →
       IsOneRun m old → AddsCall m view old call now answer new ⊎ ((new ≡ old) × (answer ≡ Refused Memory)) → SharedAnswers K call answer
-  record_answers old new call now answer run (inl grows) = can_answer old.board new.board call now answer old.board_id run.2.state run.2.holds grows.leads
+  record_answers old new call now answer run (inl grows) = can_answer old.board new.board call now answer old.mark run.2.state run.2.holds grows.leads
   record_answers old new call now answer run (inr same) = subst (SharedAnswers K call) (sym same.1) (no_memory call)
 
   -- what a history says of its growth, of the answer as its definition

@@ -5,9 +5,7 @@ use Rattle.std.proofs.Math.Nat.{mod-add-mod}
 use Rattle.std.proofs.lemmas.List.Sums.{sum_by-cons}
 use Rattle.indicatif_text.specs.declared.refusal.Drawn.{Drawn}
 use Rattle.indicatif_text.specs.declared.refusal.Refusal.{Refusal}
-use Rattle.indicatif.specs.Moves.{Standing, Goes, MovedAlong, after_bar_move}
-use Rattle.indicatif.specs.declared.moves.Move.{Move}
-use Rattle.indicatif.specs.declared.moves.Move.TheVariants.{Advance}
+use Rattle.indicatif.specs.Moves.{Standing, Goes, MovedAlong, after_bar_move, Move, Advance}
 use Rattle.indicatif.specs.Parallel.{AdvancedAlong, Blocks}
 use Rattle.indicatif.proofs.LoopLemmas.{at_position}
 

@@ -3,7 +3,7 @@ use Rattle.std.specs.Prelude.{◌≡◌, ℕ, ◌-◌, max, Option, Some, None, 
 use Rattle.std.specs.declared.alloc.Global.{Global}
 use Rattle.std.specs.declared.io.Stderr.{Stderr}
 use Rattle.std.specs.declared.io.buffered.BufWriter.{BufWriter}
-use Rattle.indicatif_term.specs.Limiters.{Limiter, draw_limiter}
+use Rattle.indicatif_term.specs.Limiters.{Limiter, default_rate, draw_limiter}
 use Rattle.indicatif_term.specs.DrawTargets.{hides, term_behind}
 use Rattle.indicatif_term.specs.Writers.{WriterTerm}
 use Rattle.indicatif_term.specs.declared.draw_target.Facts.{Facts}
@@ -16,7 +16,7 @@ use Rattle.indicatif.specs.declared.machine.until_gone.UntilGone.{UntilGone}
 
 -- a target on the terminal behind some writer, which may be drawn 20 times a second; a hidden one where the facts say so
 abbrev pub IsBehind : {W : Type 0} → Option (WriterTerm W × Option Limiter) → Facts → Type 0
-IsBehind {W} target facts = (w : W) × (now : ℕ) × (target ≡ (if hides facts then None else Some (term_behind w facts, Some (draw_limiter 20 now))))
+IsBehind {W} target facts = (w : W) × (now : ℕ) × (target ≡ (if hides facts then None else Some (term_behind w facts, Some (draw_limiter default_rate now))))
 
 -- a new terminal of the size that is told, behind some writer
 abbrev pub IsTermBehind : {W : Type 0} → WriterTerm W → Facts → Type 0
@@ -29,7 +29,7 @@ own_columns told = max (told - 1) 1
 -- a target on the terminal behind some writer, whose full rows are ended by the program, on all of it or on one row
 abbrev pub IsOwn : {W : Type 0} → Option (OwnRows (WriterTerm W) × Option Limiter) → Option OwnRow → Facts → Type 0
 IsOwn {W} target row facts = (w : W) × (now : ℕ)
-    × (target ≡ (if hides facts then None else Some (own_rows (term_behind w facts) row, Some (draw_limiter 20 now))))
+    × (target ≡ (if hides facts then None else Some (own_rows (term_behind w facts) row, Some (draw_limiter default_rate now))))
 
 -- the same on all of a terminal of which so many columns were told: rows have one less
 abbrev pub IsOnStream : {W : Type 0} → Option (OwnRows (WriterTerm W) × Option Limiter) → ℕ → Facts → Type 0
@@ -38,7 +38,7 @@ IsOnStream target told facts = (facts.cols ≡ own_columns told) × IsOwn target
 -- the same where the size is known: full rows are left to the terminal
 abbrev pub IsSized : {W : Type 0} → Option (OwnRows (WriterTerm W) × Option Limiter) → Facts → Type 0
 IsSized {W} target facts = (w : W) × (now : ℕ)
-    × (target ≡ (if hides facts then None else Some (left_rows (term_behind w facts), Some (draw_limiter 20 now))))
+    × (target ≡ (if hides facts then None else Some (left_rows (term_behind w facts), Some (draw_limiter default_rate now))))
 
 -- rows on standard error that the program ends
 abbrev pub IsOwnStderr : Option (StderrTerm × Option Limiter) → Option OwnRow → Facts → Type 0

@@ -4,8 +4,15 @@ use Rattle.indicatif_text.specs.declared.refusal.Drawn.{Drawn}
 use Rattle.indicatif_text.specs.declared.refusal.Refusal.{Refusal}
 use Rattle.indicatif_text.specs.declared.refusal.Refusal.TheVariants.{Memory}
 use Rattle.indicatif.specs.Seek.{Seeks, after_move}
-use Rattle.indicatif.specs.declared.moves.Move.{Move}
-use Rattle.indicatif.specs.declared.moves.Move.TheVariants.{Advance, PlaceAt, FinishAsStored}
+
+-- a move of a bar
+pub data Move : Type 0 where
+  -- its position goes on by so much
+  Advance : (n : ℕ) → Move
+  -- its position becomes this place
+  Place : (place : ℕ) → Move
+  -- it is finished by its stored finish
+  Finish : Move
 
 -- where a bar stands, as far as moves go
 pub record Standing : Type 0 where
@@ -17,14 +24,14 @@ pub record Standing : Type 0 where
 -- where a bar stands after a move
 abbrev pub after_bar_move : Standing → Move → Standing
 after_bar_move bar (Advance n) = record bar { position = (bar.position + n) % 2 ^ 64 }
-after_bar_move bar (PlaceAt place) = record bar { position = place }
-after_bar_move bar FinishAsStored = record bar { position = unwrap_or bar.ends_at bar.position; finished = true }
+after_bar_move bar (Place place) = record bar { position = place }
+after_bar_move bar Finish = record bar { position = unwrap_or bar.ends_at bar.position; finished = true }
 
 -- a bar that tells where it stands goes on by a move with this answer; one that is to be finished stays where it stands only if it was refused memory, as for the message of its finish
 abbrev pub Goes : Option Standing → Move → Result Drawn Refusal → Option Standing → Type 0
 Goes before (Advance n) answer now = IfSome before (λ bar. now ≡ Some (after_bar_move bar (Advance n)))
-Goes before (PlaceAt place) answer now = IfSome before (λ bar. now ≡ Some (after_bar_move bar (PlaceAt place)))
-Goes before FinishAsStored answer now = IfSome before (λ bar. (now ≡ Some (after_bar_move bar FinishAsStored)) ⊎ ((answer ≡ Err Memory) × (now ≡ Some bar)))
+Goes before (Place place) answer now = IfSome before (λ bar. now ≡ Some (after_bar_move bar (Place place)))
+Goes before Finish answer now = IfSome before (λ bar. (now ≡ Some (after_bar_move bar Finish)) ⊎ ((answer ≡ Err Memory) × (now ≡ Some bar)))
 
 -- by what the bar tells, and where a move leads it with an answer
 module _ {P : Type 0} (stands : P → Option Standing) (leads : P → Move → Result Drawn Refusal → P → Type 0) where
@@ -34,8 +41,8 @@ module _ {P : Type 0} (stands : P → Option Standing) (leads : P → Move → R
     pub place : ℕ
     pub here : IfSome (stands old) (λ bar. position ≡ bar.position)
     pub by_seeks : (place, kept) ≡ after_move 5 10 seeks position n
-    pub led : leads old (PlaceAt place) answer new
-    pub goes : Goes (stands old) (PlaceAt place) answer (stands new)
+    pub led : leads old (Place place) answer new
+    pub goes : Goes (stands old) (Place place) answer (stands new)
 
 -- moves one after another, each with its answer
 abbrev pub MovedAlong : {P : Type 0} → (P → Move → Result Drawn Refusal → P → Type 0) → List (Move × Result Drawn Refusal) → P → P → Type 0
@@ -44,4 +51,4 @@ MovedAlong {P} leads (made ∷ others) old new = (between : P) × leads old made
 
 -- the moves of a loop over so many items: an advance by one for each, then a finish, or nothing of a bar that was finished already
 abbrev pub AreOfLoop : ℕ → List Move → Type 0
-AreOfLoop items moves = (moves ≡ replicate items (Advance 1) ++ FinishAsStored ∷ []) ⊎ (moves ≡ replicate items (Advance 1))
+AreOfLoop items moves = (moves ≡ replicate items (Advance 1) ++ Finish ∷ []) ⊎ (moves ≡ replicate items (Advance 1))

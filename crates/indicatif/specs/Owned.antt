@@ -15,9 +15,7 @@ use Rattle.indicatif_bar.specs.Runs.{Runs, Headline}
 use Rattle.indicatif_bar.specs.Lone.{LoneState, LoneCall, Obey, opening_state}
 use Rattle.indicatif_bar.specs.LoneBars.{record_of, lone_terminal, lone_known, lone_bar, LoneIsIn, Obeys, ObeysOrNot, RefusesCommand}
 use Rattle.indicatif_bar.specs.declared.lone.LoneBar.{LoneBar}
-use Rattle.indicatif.specs.Moves.{Standing}
-use Rattle.indicatif.specs.declared.moves.Move.{Move}
-use Rattle.indicatif.specs.declared.moves.Move.TheVariants.{Advance, PlaceAt, FinishAsStored}
+use Rattle.indicatif.specs.Moves.{Standing, Move, Advance, Place, Finish}
 use Rattle.indicatif.specs.Wrap.{inner_of, wrapped_seeks, last_draw_of}
 use Rattle.indicatif.specs.declared.owned.OwnedBar.{OwnedBar}
 use Rattle.indicatif.specs.declared.wrap.ProgressBarIter.{ProgressBarIter}
@@ -45,14 +43,14 @@ lone_of owned = owned.bar
 -- the command that a move is
 abbrev pub command_of_move : {K : Type 0} → Move → Command K
 command_of_move (Advance n) = Inc n
-command_of_move (PlaceAt place) = SetPosition place
-command_of_move FinishAsStored = FinishUsingStyle
+command_of_move (Place place) = SetPosition place
+command_of_move Finish = FinishUsingStyle
 
 -- a move is the bar's command at some moment
 abbrev pub Commanded : {K T C : Type 0} → Tracking K → (T → TermView) → OwnedBar K T C → Move → Result Drawn Refusal → OwnedBar K T C → Type 0
 Commanded m view old (Advance n) answer new = (now : ℕ) × Obeys m view (lone_of old) (lone_of new) (Inc n) now answer
-Commanded m view old (PlaceAt place) answer new = (now : ℕ) × Obeys m view (lone_of old) (lone_of new) (SetPosition place) now answer
-Commanded m view old FinishAsStored answer new = (now : ℕ) × ObeysOrNot m view (lone_of old) (lone_of new) FinishUsingStyle now answer
+Commanded m view old (Place place) answer new = (now : ℕ) × Obeys m view (lone_of old) (lone_of new) (SetPosition place) now answer
+Commanded m view old Finish answer new = (now : ℕ) × ObeysOrNot m view (lone_of old) (lone_of new) FinishUsingStyle now answer
 
 -- whatever state the bar may have been in, these moves with their answers are a run of its commands, each at some moment; so the
 -- headline holds of them

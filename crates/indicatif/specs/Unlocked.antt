@@ -20,5 +20,5 @@ module _ {K T : Type 0} where
 
   -- a board is in some state; the history of one that keeps it is one run, at whose end the board is
   abbrev pub BoardIsSomewhere : Tracking K → UnlockedBoard K T → Type 0
-  BoardIsSomewhere m (Open b) = (board_id : ℕ) × (s : BoardState (BarRecord K)) × IsIn board_id b s
+  BoardIsSomewhere m (Open b) = (mark : ℕ) × (s : BoardState (BarRecord K)) × IsIn mark b s
   BoardIsSomewhere m (Recorded r) = IsOneRun m r

@@ -3,9 +3,7 @@ use Rattle.std.specs.Prelude.{ℕ, ◌%◌, ◌^◌, List, sum_by, length, Optio
 use Rattle.std.specs.declared.alloc.Global.{Global}
 use Rattle.indicatif_text.specs.declared.refusal.Drawn.{Drawn}
 use Rattle.indicatif_text.specs.declared.refusal.Refusal.{Refusal}
-use Rattle.indicatif.specs.Moves.{Standing, Goes}
-use Rattle.indicatif.specs.declared.moves.Move.{Move}
-use Rattle.indicatif.specs.declared.moves.Move.TheVariants.{Advance}
+use Rattle.indicatif.specs.Moves.{Standing, Goes, Move, Advance}
 
 -- how many items there are in all
 abbrev pub items_in : {T : Type 0} → List (Vec T Global) → ℕ

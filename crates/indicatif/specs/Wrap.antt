@@ -6,9 +6,7 @@ use Rattle.futures.specs.declared.task.Poll.{Poll}
 use Rattle.futures.specs.declared.task.Poll.TheVariants.{Ready, Pending}
 use Rattle.indicatif_text.specs.declared.refusal.Drawn.{Drawn}
 use Rattle.indicatif_text.specs.declared.refusal.Refusal.{Refusal}
-use Rattle.indicatif.specs.Moves.{Standing, Goes}
-use Rattle.indicatif.specs.declared.moves.Move.{Move}
-use Rattle.indicatif.specs.declared.moves.Move.TheVariants.{Advance, PlaceAt, FinishAsStored}
+use Rattle.indicatif.specs.Moves.{Standing, Goes, Move, Advance, Place, Finish}
 use Rattle.indicatif.specs.Seek.{Seeks, no_seeks, after_move, after_seek}
 use Rattle.indicatif.specs.declared.wrap.ProgressBarIter.{ProgressBarIter}
 
@@ -49,7 +47,7 @@ module _ {T P : Type 0} (stands : P → Option Standing) (leads : P → Move →
   abbrev pub CountsItem : Bool → ProgressBarIter T P → ProgressBarIter T P → Type 0
   CountsItem true s t = Moved s (Advance 1) t × (wrapped_seeks t ≡ wrapped_seeks s)
   CountsItem false s t =
-      (Moved s FinishAsStored t × (wrapped_seeks t ≡ wrapped_seeks s) × IfSome (stands s.progress) (λ bar. bar.finished ≡ false))
+      (Moved s Finish t × (wrapped_seeks t ≡ wrapped_seeks s) × IfSome (stands s.progress) (λ bar. bar.finished ≡ false))
       ⊎ (SameBar s t × IfSome (stands s.progress) (λ bar. bar.finished ≡ true))
 
   -- the bar was placed after n more bytes
@@ -58,13 +56,13 @@ module _ {T P : Type 0} (stands : P → Option Standing) (leads : P → Move →
     pub place : ℕ
     pub here : IfSome (stands s.progress) (λ bar. position ≡ bar.position)
     pub by_seeks : (place, wrapped_seeks t) ≡ after_move 5 10 (wrapped_seeks s) position n
-    pub moved : Moved s (PlaceAt place) t
+    pub moved : Moved s (Place place) t
 
   -- the bar was placed by a seek to a place
   pub record Sought (s : ProgressBarIter T P) (to : ℕ) (t : ProgressBarIter T P) : Type 0 where
     pub place : ℕ
     pub by_seeks : (place, wrapped_seeks t) ≡ after_seek 10 (wrapped_seeks s) to
-    pub moved : Moved s (PlaceAt place) t
+    pub moved : Moved s (Place place) t
 
   -- a call of `next`: what the inner one gave, by what its calls may give, was handed on, and counted
   abbrev pub NextGives : {Item : Type 0} → (T → Option Item → T → Type 0) → ProgressBarIter T P → Option Item → ProgressBarIter T P → Type 0
@@ -73,7 +71,7 @@ module _ {T P : Type 0} (stands : P → Option Standing) (leads : P → Move →
   -- an item of a stream advances the bar by 1; each end finishes it
   abbrev pub Polled : Bool → ProgressBarIter T P → ProgressBarIter T P → Type 0
   Polled true s t = Moved s (Advance 1) t × (wrapped_seeks t ≡ wrapped_seeks s)
-  Polled false s t = Moved s FinishAsStored t × (wrapped_seeks t ≡ wrapped_seeks s)
+  Polled false s t = Moved s Finish t × (wrapped_seeks t ≡ wrapped_seeks s)
 
   -- a polled read that is ready places the bar by the bytes that came; of one that failed none came
   abbrev pub ReadPlaces : {E : Type 0} → ProgressBarIter T P → Poll (Result ℕ E) → ProgressBarIter T P → Type 0

@@ -39,8 +39,8 @@ impl<T: TermLike + Drop, C: Clock + Drop, R: Wait + Clone + Drop, K: Tracks> Pro
         Done::new(self.alloc)
     }
 
-    /// Closes the sum, and the position goes up by what was added to it, modulo 2^64; else as `inc`. The worker has the whole
-    /// share: every other worker of this sum was joined to it. It needn't be a sum that this bar made.
+    /// Adds what workers have counted to the position, modulo 2^64; otherwise as `inc`. The sum is closed. The worker has the whole share:
+    /// every other worker of this sum was joined to it. It needn't be a sum that this bar made.
     pub fn absorb(&self, done: Done, worker: BarWorker) -> Result<Drawn, Refusal>
         requires of { worker.adds_to ≡ done }
         requires whole { worker.account.parts ≡ whole_share }

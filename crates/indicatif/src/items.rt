@@ -2,7 +2,7 @@
 ghost use Rattle.std.specs.Prelude.{◌≡◌, Some, None, IfSome};
 ghost use Rattle.indicatif.specs.Wrap.{inner_of, CountsItem};
 
-use crate::moves::{Move, Moves};
+use crate::moves::Moves;
 use crate::wrap::ProgressBarIter;
 use std::iter::FusedIterator;
 
@@ -13,9 +13,9 @@ impl<T, P: Moves> ProgressBarIter<T, P> {
         ensures counted { CountsItem P.stands P.leads is_item self.old self.new }
     {
         if is_item {
-            self.last = Some(self.progress.make_move(Move::Advance(1)));
-        } else if !self.progress.reading().finished {
-            self.last = Some(self.progress.make_move(Move::FinishAsStored));
+            self.last = Some(self.progress.advance(1));
+        } else if !self.progress.finished() {
+            self.last = Some(self.progress.finish());
         }
     }
 }

@@ -4,9 +4,7 @@ ghost use Rattle.std.specs.Iterator.{YieldsThen};
 ghost use Rattle.indicatif_text.specs.declared.refusal.Drawn.{Drawn};
 ghost use Rattle.indicatif_text.specs.declared.refusal.Refusal.{Refusal};
 ghost use Rattle.indicatif_text.specs.declared.refusal.Refusal.TheVariants.{Memory};
-ghost use Rattle.indicatif.specs.Moves.{after_bar_move, MovedAlong, AreOfLoop};
-ghost use Rattle.indicatif.specs.declared.moves.Move.{Move};
-ghost use Rattle.indicatif.specs.declared.moves.Move.TheVariants.{Advance, FinishAsStored};
+ghost use Rattle.indicatif.specs.Moves.{after_bar_move, MovedAlong, AreOfLoop, Move, Advance, Finish};
 ghost use Rattle.indicatif.specs.Owned.{Commanded, IsRun};
 ghost use Rattle.indicatif.specs.Parallel.{Blocks};
 ghost use Rattle.indicatif.specs.declared.owned.OwnedBar.{OwnedBar};
@@ -50,7 +48,7 @@ pub fn a_whole_loop<I: Iterator, P: Moves + Drop>()
     ensures { (items : List I.Item) (start end : ProgressBarIter I P) → YieldsThen ⟦<ProgressBarIter<I, P> as Iterator>⟧.next_gives start items None end →
         YieldsThen I.next_gives (inner_of start) items None (inner_of end)
         × IfSome (P.stands start.progress) (λ bar. bar.position < 2 ^ 64 → bar.finished ≡ false →
-        (P.stands end.progress ≡ Some (after_bar_move (after_bar_move bar (Advance (length items))) FinishAsStored))
+        (P.stands end.progress ≡ Some (after_bar_move (after_bar_move bar (Advance (length items))) Finish))
         ⊎ ((last_draw_of end ≡ Some (Err Memory)) × (P.stands end.progress ≡ Some (after_bar_move bar (Advance (length items)))))) }
 {}
 

@@ -131,7 +131,7 @@
 //! █████░░░░░░░░░░░░░░░ 1500/6000
 //! ```
 //!
-//! Each bar may be moved by its own thread: a clone is another owner of the same bar. The last argument of `new` is the board's id, a
+//! Each bar may be moved by its own thread: a clone is another owner of the same bar. The last argument of `new` is the board's mark, a
 //! number that tells boards apart.
 //!
 //! # Wrappers
@@ -271,7 +271,7 @@ pub mod style;
 mod workers;
 mod wrap;
 
-pub use crate::moves::{Move, Moves, Reading};
+pub use crate::moves::Moves;
 pub use crate::owned::OwnedBar;
 pub use crate::parallel::ParallelProgressIterator;
 pub use crate::plain_lines::PlainLines;
@@ -297,8 +297,8 @@ pub use indicatif_board::multi::{
     Size, Turned,
 };
 pub use indicatif_term::draw_target::{
-    Engine, Facts, Keep, LineType, MultiProgressAlignment, ProgressDrawTarget, RateLimiter,
-    Segment, Setup,
+    DEFAULT_RATE, Engine, Facts, Keep, LineType, MultiProgressAlignment, ProgressDrawTarget,
+    RateLimiter, Segment, Setup,
 };
 pub use indicatif_term::in_memory::{Cells, InMemoryTerm};
 pub use indicatif_term::term_like::{OwnRow, OwnRows, Resize, Term, TermLike, write_whole};

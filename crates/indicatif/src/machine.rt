@@ -16,7 +16,7 @@ pub use crate::machine::stderr_term::StderrTerm;
 pub use crate::machine::until_gone::UntilGone;
 use crate::progress_bar::{MultiProgress, ProgressBar};
 use indicatif_bar::style::{NoTracker, ProgressStyle, TICKS, Tracks};
-use indicatif_term::draw_target::{Facts, ProgressDrawTarget, Setup};
+use indicatif_term::draw_target::{DEFAULT_RATE, Facts, ProgressDrawTarget, Setup};
 use indicatif_term::term_like::{OwnRow, OwnRows, Term};
 use indicatif_text::columns::{Clock, Moment, Refusal};
 use std::env::{self, Env, VarError};
@@ -90,9 +90,6 @@ const ROWS: u16 = 24;
 
 /// The columns of a terminal whose columns nobody told.
 const COLUMNS: u16 = 80;
-
-/// Draws a second on the program's own streams.
-const HZ: u8 = 20;
 
 /// What the machine tells of a stream: whether it is a terminal, its kind by the variable `TERM`, and its size by `LINES` and
 /// `COLUMNS`, where they say a number from 1 to 65,535; else 24 rows and 80 columns are taken. A program that knows better
@@ -348,7 +345,7 @@ fn own_target<R: AllocGlobal + time::Clock + Copy, W: Write + Drop>(
 {
     let mut clock = MachineClock::new(*rt);
     let behind = term_on(rt, stream, &facts)?;
-    ProgressDrawTarget::term(rows_on(behind, row), facts, HZ, clock.now())
+    ProgressDrawTarget::term(rows_on(behind, row), facts, DEFAULT_RATE, clock.now())
 }
 
 /// A terminal whose full rows the program ends, or one row of it.
@@ -415,7 +412,12 @@ pub fn sized_target<R: Env + AllocGlobal + time::Clock + Copy, W: Write + IsTerm
     };
     let mut clock = MachineClock::new(*rt);
     let behind = term_on(rt, stream, &facts)?;
-    ProgressDrawTarget::term(OwnRows::left_to_terminal(behind), facts, HZ, clock.now())
+    ProgressDrawTarget::term(
+        OwnRows::left_to_terminal(behind),
+        facts,
+        DEFAULT_RATE,
+        clock.now(),
+    )
 }
 
 /// The terminal behind a stream of which this is told.

@@ -1,41 +1,11 @@
 //! What may stand for the progress of something else.
 ghost use Rattle.std.specs.Prelude.{◌≡◌, Option, None, IfSome, Result, false, ⊤};
-ghost use Rattle.indicatif.specs.Moves.{Standing, Goes, PlacedAfter};
-ghost use Rattle.indicatif.specs.declared.moves.Move.{Move};
+ghost use Rattle.indicatif.specs.Moves.{Standing, Goes, PlacedAfter, Move, Advance, Place, Finish};
 ghost use Rattle.indicatif_text.specs.declared.refusal.Drawn.{Drawn};
 ghost use Rattle.indicatif_text.specs.declared.refusal.Refusal.{Refusal};
 
 use crate::seek::SeekMax;
 use indicatif_text::columns::{Drawn, Refusal};
-
-/// What can be asked of a bar that something else moves.
-///
-/// ```
-/// bar.make_move(Move::Advance(1))?;
-/// bar.reading().position // 2, if it was 1
-/// ```
-#[derive(Debug, Clone, Copy)]
-pub enum Move {
-    /// The position goes on by so much.
-    Advance(u64),
-    /// The position becomes this place.
-    PlaceAt(u64),
-    /// The bar is finished by its stored finish.
-    FinishAsStored,
-}
-
-/// What is read of a bar that something else moves.
-///
-/// ```
-/// bar.reading().position // 1, behind the first item
-/// ```
-#[derive(Debug, Clone, Copy)]
-pub struct Reading {
-    /// The position.
-    pub position: u64,
-    /// Whether the bar is finished.
-    pub finished: bool,
-}
 
 /// A bar that something else moves: an iterator by its items, a reader by its bytes.
 ///
@@ -44,7 +14,7 @@ pub struct Reading {
 ///
 /// ```
 /// let mut wrapped = ProgressBarIter::new(list.into_iter(), bar); // bar: a type of one's own with these calls
-/// wrapped.next(); // bar.make_move(Move::Advance(1))
+/// wrapped.next(); // bar.advance(1)
 /// ```
 pub trait Moves {
     /// Where the bar stands, where it is told.
@@ -53,12 +23,26 @@ pub trait Moves {
     /// A move led from the first to the second, with this answer.
     ghost leads: { Self → Move → Result Drawn Refusal → Self → Type 0 } = { λ _ _ _ _. ⊤ };
 
-    /// Makes a move.
+    /// Advances the position by `n`, modulo 2^64.
     ///
-    /// Refused: as a draw is; where `FinishAsStored` is refused `Memory`, it may be that the bar isn't finished.
-    fn make_move(&mut self, step: Move) -> Result<Drawn, Refusal>
-        ensures led { leads self.old step result self.new }
-        ensures goes { Goes (stands self.old) step result (stands self.new) };
+    /// Refused: as a draw is.
+    fn advance(&mut self, n: u64) -> Result<Drawn, Refusal>
+        ensures led { leads self.old (Advance n) result self.new }
+        ensures goes { Goes (stands self.old) (Advance n) result (stands self.new) };
+
+    /// Sets the position.
+    ///
+    /// Refused: as a draw is.
+    fn place(&mut self, place: u64) -> Result<Drawn, Refusal>
+        ensures led { leads self.old (Place place) result self.new }
+        ensures goes { Goes (stands self.old) (Place place) result (stands self.new) };
+
+    /// Finishes the bar by its stored finish. Of a shared bar `finish_using_style` is the same call; its own `finish` leaves it at its length.
+    ///
+    /// Refused: as a draw is; on `Memory` it may be that the bar isn't finished.
+    fn finish(&mut self) -> Result<Drawn, Refusal>
+        ensures led { leads self.old Finish result self.new }
+        ensures goes { Goes (stands self.old) Finish result (stands self.new) };
 
     /// Places the bar after `n` more from its position, as `seeks` says, in one step, and returns what the draw answered. So nothing is
     /// lost if others move the bar meanwhile.
@@ -84,8 +68,11 @@ pub trait Moves {
         false
     }
 
-    /// Its position, and whether it is finished.
-    fn reading(&self) -> Reading
-        ensures position { IfSome (stands self.now) (λ bar. result.position ≡ bar.position) }
-        ensures finished { IfSome (stands self.now) (λ bar. result.finished ≡ bar.finished) };
+    /// Its position.
+    fn position(&self) -> u64
+        ensures { IfSome (stands self.now) (λ bar. result ≡ bar.position) };
+
+    /// Whether it is finished.
+    fn finished(&self) -> bool
+        ensures { IfSome (stands self.now) (λ bar. result ≡ bar.finished) };
 }

@@ -3,7 +3,7 @@ ghost use Rattle.std.specs.Prelude.{◌≡◌, ◌==◌, ℕ, IfOk, IfErr, IsFal
 ghost use Rattle.indicatif_bar.specs.Commands.{new_bar};
 ghost use Rattle.indicatif.specs.Owned.{lone_of, Begins, BeginsPlain};
 
-use crate::moves::{Move, Moves, Reading};
+use crate::moves::Moves;
 use indicatif_bar::lone::LoneBar;
 use indicatif_bar::state::BarState;
 use indicatif_bar::style::{NoTracker, ProgressStyle, TICKS, Tracks};
@@ -107,20 +107,27 @@ impl<K: Tracks, T: TermLike + Drop, C: Clock + Drop> Moves for OwnedBar<K, T, C>
     ghost leads = { λ old move answer new. Commanded K.means T.view old move answer new };
 
     #[inline(always)]
-    fn make_move(&mut self, step: Move) -> Result<Drawn, Refusal> {
+    fn advance(&mut self, n: u64) -> Result<Drawn, Refusal> {
         let now = self.clock.now();
-        match step {
-            Move::Advance(n) => self.bar.inc(n, now),
-            Move::PlaceAt(place) => self.bar.set_position(place, now),
-            Move::FinishAsStored => self.bar.finish_using_style(now),
-        }
+        self.bar.inc(n, now)
     }
 
-    fn reading(&self) -> Reading {
-        let state = self.bar.bar().state();
-        Reading {
-            position: state.pos(),
-            finished: state.is_finished(),
-        }
+    #[inline(always)]
+    fn place(&mut self, place: u64) -> Result<Drawn, Refusal> {
+        let now = self.clock.now();
+        self.bar.set_position(place, now)
+    }
+
+    fn finish(&mut self) -> Result<Drawn, Refusal> {
+        let now = self.clock.now();
+        self.bar.finish_using_style(now)
+    }
+
+    fn position(&self) -> u64 {
+        self.bar.bar().state().pos()
+    }
+
+    fn finished(&self) -> bool {
+        self.bar.bar().state().is_finished()
     }
 }

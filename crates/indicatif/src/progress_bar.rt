@@ -14,9 +14,9 @@
 ghost use Rattle.std.specs.Prelude.{◌≡◌, ◌⊎◌, ℕ, IfErr};
 ghost use Rattle.std.specs.Fn.{FnOnceReturnsAt};
 ghost use Rattle.indicatif_bar.specs.Commands as Command;
-ghost use Rattle.indicatif_bar.specs.Commands.{command_as};
 ghost use Rattle.indicatif_bar.specs.Finishes as Finish;
 ghost use Rattle.indicatif_bar.specs.Lone as Lone;
+ghost use Rattle.indicatif_bar.specs.LoneBars.{lone_call_as};
 ghost use Rattle.indicatif_bar.specs.Progress.{Progress};
 ghost use Rattle.indicatif_bar.specs.declared.state.commands.Change.{Change as Changed};
 ghost use Rattle.indicatif.specs.Fronts.{CanAnswer, CanDraw, CanMove, CanTurn, IsMissing, MemoryOrForeign, unchanged};
@@ -50,10 +50,10 @@ use self::board_cell::{BoardCell, SharedBoard};
 pub use self::multi::{MultiProgress, RecordReader};
 use self::position_change::PositionChange;
 use self::request::Tried;
-use self::shared_bar::SharedBar;
+use self::shared_bar::{SharedBar, wait_for_board};
 pub use self::unlocked::{UnlockedBar, UnlockedBoard};
 pub use self::weak::WeakProgressBar;
-use crate::moves::{Move, Moves, Reading};
+use crate::moves::Moves;
 use crate::seek::SeekMax;
 use indicatif_bar::lone::LoneCall;
 use indicatif_bar::state::{BarCommand, Change, ProgressFinish, ProgressState};
@@ -77,7 +77,7 @@ use std::sync::{Arc, Wait};
 ///
 /// A text is lent: the bar's record copies its message and its prefix, and nobody copies the lines above a bar. A bar that stands on a
 /// board answers as the board does when it is told that call of that bar; so each command may be refused `NotMember` there, where the
-/// board has lost the bar to one of the same id. Where the board keeps its history, each may be refused `Memory` because that has no
+/// board has lost the bar to one of the same mark. Where the board keeps its history, each may be refused `Memory` because that has no
 /// room, or no room for a copy of the text; nothing has changed then.
 ///
 /// Its clauses say which answers a call can have, by the call alone. At most these come: they allow `ForeignBar` too, which a bar's own
@@ -105,11 +105,22 @@ impl<T: TermLike + Drop, C: Clock + Drop, R: Wait + Clone + Drop, K: Tracks> Pro
     R,
     K,
 > {
-    /// A command of the bar. Its text is lent: nobody copies it but the bar's record, and the history of a board that keeps one.
-    fn tell(&self, command: BarCommand<K, &str>) -> Result<Drawn, Refusal>
-        ensures { CanAnswer K (Lone.Obey (command_as (λ text. text.now) command.entry)) result }
+    /// A call of the bar, made once neither the bar nor its board is in a pause. Its text is lent: nobody copies it but the bar's record, and
+    /// the history of a board that keeps one.
+    #[tactic(auto, using(crate::proofs::FrontLemmas::place_answers))]
+    fn tell(&self, call: LoneCall<K, &str>) -> Result<Drawn, Refusal>
+        ensures { CanAnswer K (lone_call_as (λ text. text.now) call.entry) result }
     {
-        self.state.tell(&self.rt, LoneCall::Bar(command))
+        let mut left = call;
+        for _ in self.rt.forever() {
+            let mut locked = self.state.turn(&self.rt);
+            match locked.tell(&self.rt, left) {
+                Tried::Made(answer) => return answer,
+                Tried::ComeAgain(again) => left = again,
+            }
+            wait_for_board(&self.rt, locked);
+        }
+        unreachable!()
     }
 
     /// A change of the bar's position. Mostly the lock is free, and no pause is on: two comparisons tell that.
@@ -124,18 +135,19 @@ impl<T: TermLike + Drop, C: Clock + Drop, R: Wait + Clone + Drop, K: Tracks> Pro
                 Tried::ComeAgain(()) => {}
             }
         }
-        self.tell(change.command())
+        self.tell(LoneCall::Bar(change.command()))
     }
 
-    /// One more tick, up to 2^64 - 1, and a draw: a spinner shows its next text. While a steady ticker is on, nothing changes.
+    /// Ticks once more, up to 2^64 - 1, and asks for a draw: a spinner shows its next text. While a steady ticker is on, nothing changes.
     pub fn tick(&self) -> Result<Drawn, Refusal>
         ensures { CanAnswer K (Lone.Obey Command.Tick) result }
     {
-        self.tell(BarCommand::Tick)
+        self.tell(LoneCall::Bar(BarCommand::Tick))
     }
 
     /// Adds `delta` to the position, modulo 2^64. Also ticks, as often as the position's limiter allows: 10 times at once, and once more
-    /// each millisecond. So a loop may call it at each of its steps. A position past the length is shown as it is, `8/5`, beside a full bar.
+    /// each millisecond. So a loop may call it at each of its steps. A position past the length is shown as it is, `8/5`, beside a full
+    /// bar.
     #[inline(always)]
     pub fn inc(&self, delta: u64) -> Result<Drawn, Refusal>
         ensures { CanAnswer K (Lone.Obey (Command.Inc delta)) result }
@@ -143,8 +155,8 @@ impl<T: TermLike + Drop, C: Clock + Drop, R: Wait + Clone + Drop, K: Tracks> Pro
         self.move_by(PositionChange::Up(delta))
     }
 
-    /// Subtracts `delta` from the position, modulo 2^64; otherwise as `inc`. So 12 taken from 0 give 2^64 - 12, which is shown so: a program
-    /// that may go below 0 looks at `position` first. A lower position restarts the rate.
+    /// Subtracts `delta` from the position, modulo 2^64; otherwise as `inc`. So 12 taken from 0 give 2^64 - 12, which is shown so: a
+    /// program that may go below 0 looks at `position` first. A lower position restarts the rate.
     #[inline(always)]
     pub fn dec(&self, delta: u64) -> Result<Drawn, Refusal>
         ensures { CanAnswer K (Lone.Obey (Command.Dec delta)) result }
@@ -164,28 +176,28 @@ impl<T: TermLike + Drop, C: Clock + Drop, R: Wait + Clone + Drop, K: Tracks> Pro
     pub fn set_length(&self, len: u64) -> Result<Drawn, Refusal>
         ensures { CanAnswer K (Lone.Obey (Command.SetLength len)) result }
     {
-        self.tell(BarCommand::SetLength(len))
+        self.tell(LoneCall::Bar(BarCommand::SetLength(len)))
     }
 
     /// Removes the length, and asks for a draw: the bar is empty, `{len}` shows the position, and `{eta}` is 0.
     pub fn unset_length(&self) -> Result<Drawn, Refusal>
         ensures { CanAnswer K (Lone.Obey Command.UnsetLength) result }
     {
-        self.tell(BarCommand::UnsetLength)
+        self.tell(LoneCall::Bar(BarCommand::UnsetLength))
     }
 
     /// Adds `delta` to the length, up to 2^64 - 1, if there is one; and asks for a draw.
     pub fn inc_length(&self, delta: u64) -> Result<Drawn, Refusal>
         ensures { CanAnswer K (Lone.Obey (Command.IncLength delta)) result }
     {
-        self.tell(BarCommand::IncLength(delta))
+        self.tell(LoneCall::Bar(BarCommand::IncLength(delta)))
     }
 
     /// Subtracts `delta` from the length, down to 0, if there is one; and asks for a draw.
     pub fn dec_length(&self, delta: u64) -> Result<Drawn, Refusal>
         ensures { CanAnswer K (Lone.Obey (Command.DecLength delta)) result }
     {
-        self.tell(BarCommand::DecLength(delta))
+        self.tell(LoneCall::Bar(BarCommand::DecLength(delta)))
     }
 
     /// Sets the message, and asks for a draw. It shows only where the template has `{msg}` or `{wide_msg}`: the template of `new` has
@@ -193,14 +205,14 @@ impl<T: TermLike + Drop, C: Clock + Drop, R: Wait + Clone + Drop, K: Tracks> Pro
     pub fn set_message(&self, text: &str) -> Result<Drawn, Refusal>
         ensures { CanAnswer K (Lone.Obey (Command.SetMessage text.now)) result }
     {
-        self.tell(BarCommand::SetMessage(text))
+        self.tell(LoneCall::Bar(BarCommand::SetMessage(text)))
     }
 
     /// Sets the prefix, and asks for a draw. It shows only where the template has `{prefix}`.
     pub fn set_prefix(&self, text: &str) -> Result<Drawn, Refusal>
         ensures { CanAnswer K (Lone.Obey (Command.SetPrefix text.now)) result }
     {
-        self.tell(BarCommand::SetPrefix(text))
+        self.tell(LoneCall::Bar(BarCommand::SetPrefix(text)))
     }
 
     /// Sets the style, and gives it the bar's width of tabs. Asks for no draw: the next one is in this style.
@@ -209,14 +221,14 @@ impl<T: TermLike + Drop, C: Clock + Drop, R: Wait + Clone + Drop, K: Tracks> Pro
     pub fn set_style(&self, style: ProgressStyle<K>) -> Result<Drawn, Refusal>
         ensures { CanAnswer K (Lone.Obey (Command.SetStyle style)) result }
     {
-        self.tell(BarCommand::SetStyle(style))
+        self.tell(LoneCall::Bar(BarCommand::SetStyle(style)))
     }
 
     /// Sets how many spaces a tab has in the message, the prefix and the style, and forces a draw.
     pub fn set_tab_width(&self, tab: usize) -> Result<Drawn, Refusal>
         ensures { CanAnswer K (Lone.Obey (Command.SetTabWidth tab)) result }
     {
-        self.tell(BarCommand::SetTabWidth(tab))
+        self.tell(LoneCall::Bar(BarCommand::SetTabWidth(tab)))
     }
 
     /// Sets the time since the start, in nanoseconds, as `{elapsed}` shows it: for work that began before the bar. Asks for no draw.
@@ -225,82 +237,82 @@ impl<T: TermLike + Drop, C: Clock + Drop, R: Wait + Clone + Drop, K: Tracks> Pro
     pub fn set_elapsed(&self, nanos: u64) -> Result<Drawn, Refusal>
         ensures { CanAnswer K (Lone.Obey (Command.SetElapsed nanos)) result }
     {
-        self.tell(BarCommand::SetElapsed(nanos))
+        self.tell(LoneCall::Bar(BarCommand::SetElapsed(nanos)))
     }
 
     /// Counts the rate, and the time that is left, from now on: for instance after a pause. Asks for no draw.
     pub fn reset_eta(&self) -> Result<Drawn, Refusal>
         ensures { CanAnswer K (Lone.Obey Command.ResetEta) result }
     {
-        self.tell(BarCommand::ResetEta)
+        self.tell(LoneCall::Bar(BarCommand::ResetEta))
     }
 
     /// Counts the rate and the elapsed time from now on. Asks for no draw.
     pub fn reset_elapsed(&self) -> Result<Drawn, Refusal>
         ensures { CanAnswer K (Lone.Obey Command.ResetElapsed) result }
     {
-        self.tell(BarCommand::ResetElapsed)
+        self.tell(LoneCall::Bar(BarCommand::ResetElapsed))
     }
 
     /// Sets the position to 0, counts rate and time from now on, and asks for a draw.
     pub fn reset(&self) -> Result<Drawn, Refusal>
         ensures { CanAnswer K (Lone.Obey Command.Reset) result }
     {
-        self.tell(BarCommand::Reset)
+        self.tell(LoneCall::Bar(BarCommand::Reset))
     }
 
-    /// Finishes the bar at its length, if it has one, and forces a draw. The bar stays on the screen. Each draw that it asks for from then
+    /// Finishes the bar at its length, if it has one, and forces a draw: the bar stays on the screen. Each draw that it asks for from then
     /// on is forced too, so no rate holds it back.
     pub fn finish(&self) -> Result<Drawn, Refusal>
         ensures { CanAnswer K (Lone.Obey (Command.Finish Finish.AndLeave)) result }
     {
-        self.tell(BarCommand::Finish(ProgressFinish::AndLeave))
+        self.tell(LoneCall::Bar(BarCommand::Finish(ProgressFinish::AndLeave)))
     }
 
     /// As `finish`, with this message, which shows only where the template has `{msg}` or `{wide_msg}`.
     pub fn finish_with_message(&self, text: &str) -> Result<Drawn, Refusal>
         ensures { CanAnswer K (Lone.Obey (Command.Finish (Finish.WithMessage text.now))) result }
     {
-        self.tell(BarCommand::Finish(ProgressFinish::WithMessage(text)))
+        self.tell(LoneCall::Bar(BarCommand::Finish(ProgressFinish::WithMessage(text))))
     }
 
-    /// Finishes the bar at its length, if it has one, and forces a draw. The bar leaves the screen: it has no more lines.
+    /// Finishes the bar at its length, if it has one, and forces a draw: the bar leaves the screen, and has no more lines.
     pub fn finish_and_clear(&self) -> Result<Drawn, Refusal>
         ensures { CanAnswer K (Lone.Obey (Command.Finish Finish.AndClear)) result }
     {
-        self.tell(BarCommand::Finish(ProgressFinish::AndClear))
+        self.tell(LoneCall::Bar(BarCommand::Finish(ProgressFinish::AndClear)))
     }
 
-    /// Finishes the bar where it is, for work that is given up, and forces a draw. The bar stays on the screen.
+    /// Finishes the bar where it is, for work that is given up, and forces a draw: the bar stays on the screen.
     pub fn abandon(&self) -> Result<Drawn, Refusal>
         ensures { CanAnswer K (Lone.Obey (Command.Finish Finish.Abandon)) result }
     {
-        self.tell(BarCommand::Finish(ProgressFinish::Abandon))
+        self.tell(LoneCall::Bar(BarCommand::Finish(ProgressFinish::Abandon)))
     }
 
     /// As `abandon`, with this message.
     pub fn abandon_with_message(&self, text: &str) -> Result<Drawn, Refusal>
         ensures { CanAnswer K (Lone.Obey (Command.Finish (Finish.AbandonWithMessage text.now))) result }
     {
-        self.tell(BarCommand::Finish(ProgressFinish::AbandonWithMessage(text)))
+        self.tell(LoneCall::Bar(BarCommand::Finish(ProgressFinish::AbandonWithMessage(text))))
     }
 
     /// Finishes the bar by its stored finish (`with_finish`; the default is `AndClear`), and forces a draw.
     pub fn finish_using_style(&self) -> Result<Drawn, Refusal>
         ensures { CanAnswer K (Lone.Obey Command.FinishUsingStyle) result }
     {
-        self.tell(BarCommand::FinishUsingStyle)
+        self.tell(LoneCall::Bar(BarCommand::FinishUsingStyle))
     }
 
-    /// Forces a draw. The bar doesn't change.
+    /// Forces a draw, and changes nothing of the bar.
     pub fn force_draw(&self) -> Result<Drawn, Refusal>
         ensures { CanAnswer K (Lone.Obey Command.ForceDraw) result }
     {
-        self.tell(BarCommand::ForceDraw)
+        self.tell(LoneCall::Bar(BarCommand::ForceDraw))
     }
 
-    /// Calls the closure with the bar's state, under the lock, and sets what it returns; then as `tick`. If its board hasn't the bar, the
-    /// closure isn't called. A call of this bar in it, or of any bar of its board, waits for ever.
+    /// Sets what the closure answers of the bar's state; then as `tick`. The closure is called under the lock, and not at all if its board
+    /// hasn't the bar. A call of this bar in it, or of any bar of its board, waits for ever.
     pub fn update<F: FnOnce(&ProgressState) -> Change>(&self, f: F) -> Result<Drawn, Refusal>
         requires { F.IsAlwaysCallable f }
         ensures { (change : Changed) × CanAnswer K (Lone.Obey (Command.Update change.pos change.len)) result
@@ -314,7 +326,7 @@ impl<T: TermLike + Drop, C: Clock + Drop, R: Wait + Clone + Drop, K: Tracks> Pro
     pub fn println(&self, text: &str) -> Result<Drawn, Refusal>
         ensures { CanAnswer K (Lone.Log text.now) result }
     {
-        self.state.tell(&self.rt, LoneCall::Log(text))
+        self.tell(LoneCall::Log(text))
     }
 
     /// Takes the bar's rows back (on a board the rows of all bars), calls `f` once, and forces a draw, at the moment of the clear. It returns
@@ -440,12 +452,17 @@ impl<T: TermLike + Drop, C: Clock + Drop, R: Wait + Clone + Drop, K: Tracks> Deb
 impl<T: TermLike + Drop, C: Clock + Drop, R: Wait + Clone + Drop, K: Tracks> Moves
     for ProgressBar<T, C, R, K> {
     #[inline(always)]
-    fn make_move(&mut self, step: Move) -> Result<Drawn, Refusal> {
-        match step {
-            Move::Advance(n) => self.inc(n),
-            Move::PlaceAt(place) => self.set_position(place),
-            Move::FinishAsStored => self.finish_using_style(),
-        }
+    fn advance(&mut self, n: u64) -> Result<Drawn, Refusal> {
+        self.inc(n)
+    }
+
+    #[inline(always)]
+    fn place(&mut self, place: u64) -> Result<Drawn, Refusal> {
+        self.set_position(place)
+    }
+
+    fn finish(&mut self) -> Result<Drawn, Refusal> {
+        self.finish_using_style()
     }
 
     #[tactic(auto, using(crate::proofs::PlacedLemmas::untold_placed))]
@@ -458,10 +475,11 @@ impl<T: TermLike + Drop, C: Clock + Drop, R: Wait + Clone + Drop, K: Tracks> Mov
         true
     }
 
-    fn reading(&self) -> Reading {
-        Reading {
-            position: self.position(),
-            finished: self.is_finished(),
-        }
+    fn position(&self) -> u64 {
+        self.position()
+    }
+
+    fn finished(&self) -> bool {
+        self.is_finished()
     }
 }

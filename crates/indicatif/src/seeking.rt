@@ -4,7 +4,7 @@ ghost use Rattle.std.specs.Io.Seek.{SeekMoves};
 ghost use Rattle.std.specs.Io.KnownBytes.{Keeps};
 ghost use Rattle.indicatif.specs.Wrap.{inner_of, Sought, SameBar, SeekMovesBar};
 
-use crate::moves::{Move, Moves};
+use crate::moves::Moves;
 use crate::wrap::ProgressBarIter;
 use std::io::{self, Seek, SeekFrom};
 
@@ -15,7 +15,7 @@ impl<T, P: Moves> ProgressBarIter<T, P> {
         ensures sought { Sought P.stands P.leads self.old at self.new }
     {
         let place = self.seeks.update_seek(at);
-        self.last = Some(self.progress.make_move(Move::PlaceAt(place)));
+        self.last = Some(self.progress.place(place));
     }
 }
 

@@ -5,7 +5,7 @@ ghost use Rattle.futures.specs.Runs.{After, Within};
 ghost use Rattle.futures.specs.Task.{Covers, Keeps};
 ghost use Rattle.indicatif.specs.Wrap.{inner_of, Polled, SameBar};
 
-use crate::moves::{Move, Moves};
+use crate::moves::Moves;
 use crate::wrap::ProgressBarIter;
 use futures::stream::Stream;
 use futures::task::{Context, Poll};
@@ -17,9 +17,9 @@ impl<T, P: Moves> ProgressBarIter<T, P> {
         ensures polled { Polled P.stands P.leads is_item self.old self.new }
     {
         self.last = if is_item {
-            Some(self.progress.make_move(Move::Advance(1)))
+            Some(self.progress.advance(1))
         } else {
-            Some(self.progress.make_move(Move::FinishAsStored))
+            Some(self.progress.finish())
         };
     }
 }

@@ -12,7 +12,7 @@ mod pieces;
 
 use self::crew::by_all;
 use self::pieces::Pieces;
-use crate::moves::{Move, Moves};
+use crate::moves::Moves;
 use crate::parallel::claims::Claims;
 use crate::progress_bar::ProgressBar;
 use indicatif_bar::style::Tracks;
@@ -125,7 +125,7 @@ pub fn run_workers_with<
         return Err(Refusal::ZeroPieces);
     }
     let (answers, met) = answered(rt, alloc, pieces, &f, gate)?;
-    let _ = bar.make_move(Move::Advance(met));
+    let _ = bar.advance(met);
     answers.ok_or(Refusal::Memory)
 }
 

@@ -4,7 +4,7 @@ ghost use Rattle.indicatif.specs.Seek.{no_seeks};
 ghost use Rattle.indicatif.specs.Moves.{PlacedAfter};
 ghost use Rattle.indicatif.specs.Wrap.{inner_of, wrapped_seeks, last_draw_of, Placed};
 
-use crate::moves::{Move, Moves};
+use crate::moves::Moves;
 use crate::seek::SeekMax;
 use indicatif_text::columns::{Drawn, Refusal};
 
@@ -84,6 +84,6 @@ impl<T, P: Moves> ProgressBarIter<T, P> {
 fn place<P: Moves>(bar: &mut P, seeks: &mut SeekMax<5, 10>, n: u64) -> Result<Drawn, Refusal>
     ensures { PlacedAfter P.stands P.leads bar.old seeks.old n result bar.new seeks.new }
 {
-    let place = seeks.update_seq(bar.reading().position, n);
-    bar.make_move(Move::PlaceAt(place))
+    let place = seeks.update_seq(bar.position(), n);
+    bar.place(place)
 }

@@ -129,11 +129,11 @@ module _ {S : Type 0} (target : Target) (d : Draw S) where
 
 module _ {S C A : Type 0} (m : Machine S C A) (target : Target) (s : S) (answer : A) (next : S) where
   call_decided : (deed : Deed S A) → Leads m target s deed answer next → (m.tells answer ≡ Err Memory → ⊥) → DecidedBy m target deed answer
-  call_decided deed (inr (inl short)) ample = absurd (ample (ap m.tells short.0 ∙ m.tells_said (Err Memory)))
   call_decided (AtOnce takes said after) (inl made) ample = ap (λ o. o.0) made
-  call_decided (AtOnce takes said after) (inr (inr broken)) ample = absurd broken.2
+  call_decided (AtOnce takes said after) (inr short) ample = absurd (ample (ap m.tells short.0 ∙ m.tells_said (Err Memory)))
   call_decided (Draws d ends breaks) (inl made) ample =
       subst (Decided target d) (sym (ap (λ o. m.tells o.0) made ∙ m.tells_said (drawn_by target d).0)) (outcome_decided target d)
+  call_decided (Draws d ends breaks) (inr (inl short)) ample = absurd (ample (ap m.tells short.0 ∙ m.tells_said (Err Memory)))
   call_decided (Draws d ends breaks) (inr (inr broken)) ample =
       decided_failure target d broken.2.0 (m.tells answer) (ap is_failure (ap m.tells broken.1 ∙ m.tells_said (Err (Failure broken.0))))
 
@@ -149,8 +149,7 @@ module _ {S C A : Type 0} (m : Machine S C A) (target : Target) (s : S) (answer 
 
   short_takes : (deed : Deed S A) → Leads m target s deed answer next → m.tells answer ≡ Err Memory → TakesMemory m target deed
   short_takes (AtOnce takes said after) (inl made) e = inr (sym (ap (λ o. m.tells o.0) made) ∙ e)
-  short_takes (AtOnce takes said after) (inr (inl short)) e = inl short.1.0
-  short_takes (AtOnce takes said after) (inr (inr broken)) e = absurd broken.2
+  short_takes (AtOnce takes said after) (inr short) e = inl short.1
   short_takes (Draws d ends breaks) (inl made) e = absurd (drawn-ample d (sym (ap (λ o. m.tells o.0) made ∙ m.tells_said (drawn_by target d).0) ∙ e))
   short_takes (Draws d ends breaks) (inr (inl short)) e = elim short.1 [
     | inl text ↦ rw text.0 refl

@@ -17,7 +17,7 @@ use Rattle.indicatif_bar.specs.declared.ask.Ask.TheVariants.{No, Unforced, Force
 use Rattle.indicatif_bar.specs.Machines.{Target, target_of, Machine, Draw, Deed, AtOnce, Draws, Leads, is_no, drawn_by}
 use Rattle.indicatif_bar.specs.Kinds.{Kind, asked_of}
 use Rattle.indicatif_bar.specs.Runs.{Runs, deed_on}
-use Rattle.indicatif_bar.specs.Lone.{LoneState, lone, refused_at_once, draw_of_call, deed_unless}
+use Rattle.indicatif_bar.specs.Lone.{LoneState, LoneCall, Obey, Log, Clear, lone, refused_at_once, draw_of_call, deed_unless}
 use Rattle.indicatif_bar.specs.Bounds.{AsksLimiter, DeedAsks, IsLimited, Spent, SpendingsAddUp, is_unforced, is_yes, drew_unforced, unforced_draws, RunsAreBounded, RunsAreBoundedFrom, RunsSpend}
 
 and-false : (a b : Bool) → b ≡ false → (a && b) ≡ false
@@ -77,8 +77,7 @@ module _ {S C A : Type 0} (m : Machine S C A) (limiter : S → Option Limiter) (
   pub call_step : (target : Target) (s : S) (deed : Deed S A) (answer : A) (next : S) → limiter s ≡ Some l → DeedAsks limiter now s deed → Leads m target s deed answer next →
       LimiterStep next (drew_unforced deed (m.tells answer))
   call_step target s (AtOnce takes said after) answer next is asks (inl made) = inl (ap (λ o. limiter o.1) made ∙ asks ∙ is, refl)
-  call_step target s (AtOnce takes said after) answer next is asks (inr (inl short)) = inl (ap limiter short.1.1 ∙ is, refl)
-  call_step target s (AtOnce takes said after) answer next is asks (inr (inr broken)) = absurd broken.2
+  call_step target s (AtOnce takes said after) answer next is asks (inr short) = inl (ap limiter short.2 ∙ is, refl)
   call_step target s (Draws d ends breaks) answer next is asks (inl made) =
       let said : m.tells answer ≡ (drawn_by target d).0 = ap (λ o. m.tells o.0) made ∙ m.tells_said (drawn_by target d).0 in
       subst (λ r. LimiterStep next (drew_unforced {Answer = A} (Draws d ends breaks) r)) (sym said)
@@ -209,12 +208,22 @@ deed_asks : {B C : Type 0} (kind : Kind B C) (refused : Option Refusal) (d : Dra
 deed_asks kind (Some e) d now s asks = refl
 deed_asks kind None d now s asks = (asks, (λ x. refl), (λ x. refl))
 
+call_asks : {B C : Type 0} (kind : Kind B C) (target : Target) (call : LoneCall C) (now : ℕ) (s : LoneState B) → AsksLimiter (λ x. x.limiter) now s (draw_of_call kind target call now s)
+call_asks kind target (Obey command) now s = record { before = refl; decides = refl; asked = refl; written = refl; broken = refl }
+call_asks kind target (Log text) now s = record { before = refl; decides = refl; asked = refl; written = refl; broken = refl }
+call_asks kind target Clear now s = record { before = refl; decides = refl; asked = refl; written = refl; broken = refl }
+
 pub lone_limited : {B C : Type 0} (kind : Kind B C) → IsLimited (lone kind) (λ s. s.limiter)
 lone_limited kind target call now s =
-    deed_asks kind (refused_at_once kind call now s.bar) (draw_of_call kind target call now s) now s (record { before = refl; decides = refl; asked = refl; written = refl; broken = refl })
+    deed_asks kind (refused_at_once kind call now s.bar) (draw_of_call kind target call now s) now s (call_asks kind target call now s)
 
 -- without a limiter each draw is allowed
 pub allowed_without : (ask : Ask) (now : ℕ) (limiter : Option Limiter) → limiter ≡ None → (asked_of ask now limiter).0 ≡ true
 allowed_without No now limiter e = refl
 allowed_without Unforced now limiter e = ap (λ o. (asked_of Unforced now o).0) e
 allowed_without Forced now limiter e = refl
+
+pub call_allowed : {B C : Type 0} (kind : Kind B C) (target : Target) (call : LoneCall C) (now : ℕ) (s : LoneState B) → s.limiter ≡ None → (draw_of_call kind target call now s).allowed ≡ true
+call_allowed kind target (Obey command) now s none = allowed_without (kind.after command s.bar now).1 now s.limiter none
+call_allowed kind target (Log text) now s none = refl
+call_allowed kind target Clear now s none = refl

@@ -1,13 +1,14 @@
 -- What every command of a bar keeps.
 use Rattle.std.proofs.Common.{◌≡◌, ◌≢◌, ℕ, ◌+◌, ◌-◌, ◌%◌, ◌^◌, Bool, true, false, refl}
 use Rattle.std.specs.Prelude.{IsTrue, if◌then◌else◌, nat_lt, unwrap_or}
+use Rattle.std.specs.Option.{option_or}
 use Rattle.indicatif_bar.specs.declared.ask.Ask.{Ask}
 use Rattle.indicatif_bar.specs.declared.ask.Ask.TheVariants.{No, Unforced, Forced}
 use Rattle.indicatif_bar.specs.Progress.{is_finished}
 use Rattle.indicatif_bar.specs.PositionLimiters.{allow_position}
 use Rattle.indicatif_bar.specs.Trackers.{Tracking}
 use Rattle.indicatif_bar.specs.Finishes.{BarFinish, AndLeave, WithMessage as LeaveWithMessage, AndClear, Abandon, AbandonWithMessage}
-use Rattle.indicatif_bar.specs.Commands.{BarRecord, Command, obeyed, tick, ticker_tick, moved_to, finish, asks_draw, with_progress, some_or, Tick, SetTicker, Inc, Dec, SetPosition, Update, SetStyle, WithPosition, WithMessage, WithPrefix, WithFinish, WithTabWidth, SetTabWidth, SetElapsed, ResetEta, ResetElapsed, Finish, FinishUsingStyle, ForceDraw}
+use Rattle.indicatif_bar.specs.Commands.{BarRecord, Command, obeyed, tick, ticker_tick, moved_to, finish, asks_draw, with_progress, Tick, SetTicker, Inc, Dec, SetPosition, Update, SetStyle, WithPosition, WithMessage, WithPrefix, WithFinish, WithTabWidth, SetTabWidth, SetElapsed, ResetEta, ResetElapsed, Finish, FinishUsingStyle, ForceDraw}
 use Rattle.indicatif_bar.specs.ProgressLaws.{TabsAgree, FinishedDrawsAreForced}
 
 -- ---- tabs
@@ -94,7 +95,7 @@ finished_draws_are_forced m bar (Inc n) now = moved_is_forced m ((bar.progress.p
 finished_draws_are_forced m bar (Dec n) now = moved_is_forced m ((bar.progress.position + 2 ^ 64 - n) % 2 ^ 64) bar now
 finished_draws_are_forced m bar (SetPosition position) now = moved_is_forced m position bar now
 finished_draws_are_forced m bar (Update position len) now =
-    tick_is_forced m (with_progress bar (record bar.progress { position = unwrap_or position bar.progress.position; len = some_or len bar.progress.len })) now
+    tick_is_forced m (with_progress bar (record bar.progress { position = unwrap_or position bar.progress.position; len = option_or len bar.progress.len })) now
 finished_draws_are_forced m bar (SetStyle style) now = none_is_forced (obeyed m (SetStyle style) bar now).0
 finished_draws_are_forced m bar (WithPosition position) now = none_is_forced (obeyed m (WithPosition position) bar now).0
 finished_draws_are_forced m bar (WithMessage text) now = none_is_forced (obeyed m (WithMessage text) bar now).0

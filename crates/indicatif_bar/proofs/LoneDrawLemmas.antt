@@ -16,7 +16,7 @@ use Rattle.indicatif_bar.specs.Bars.{bar_kind}
 use Rattle.indicatif_bar.specs.Kinds.{Kind, Writing, Frame, TextAndFrame, NoFrame, asked_of}
 use Rattle.indicatif_bar.specs.Machines.{target_of, Draw, is_no, Leads}
 use Rattle.indicatif_bar.specs.Runs.{CallMade, wrote, lines_by, deed_on}
-use Rattle.indicatif_bar.specs.Lone.{LoneState, LoneCall, Obey, Log, Clear, lone_frame, draw_asked, draw_of_call, refused_at_once, deed_unless, takes_text, lone}
+use Rattle.indicatif_bar.specs.Lone.{LoneState, LoneCall, Obey, Log, Clear, lone_frame, draw_asked, draw_of_call, refused_at_once, deed_unless, lone}
 use Rattle.indicatif_bar.specs.LoneBars.{LoneIsIn, LoneIsNowhere, lone_bar, LoneLeadsBy, Obeys, ObeysOrNot, RefusesCommand, lone_known, lone_moves, record_of, lone_terminal}
 use Rattle.indicatif_bar.specs.Shown.{PutsFrame, DrewBy, DrewOn, WritesLinesOn}
 use Rattle.indicatif_term.specs.declared.lines.Segment.{Segment}
@@ -79,7 +79,7 @@ module _ {B C : Type 0} (kind : Kind B C) (old : Option TermView) (call : LoneCa
       }
 
   -- one that was refused for want of memory before anything changed
-  pub call_short : refused_at_once kind call now s.bar ≡ None → takes_text kind call now s.bar ≡ true → CallMade (lone kind) old old (call, now) s (Err Memory) s
+  pub call_short : refused_at_once kind call now s.bar ≡ None → (draw_of_call kind (target_of old) call now s).text_takes ≡ true → CallMade (lone kind) old old (call, now) s (Err Memory) s
   call_short allowed taken =
       let d = draw_of_call kind (target_of old) call now s in
       record {

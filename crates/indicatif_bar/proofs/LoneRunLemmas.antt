@@ -9,15 +9,18 @@ use Rattle.indicatif_text.specs.declared.refusal.Refusal.TheVariants.{Memory}
 use Rattle.indicatif_text.specs.declared.refusal.Drawn.{Drawn}
 use Rattle.indicatif_term.specs.Calls.{TermView}
 use Rattle.indicatif_term.specs.Lists.{Lists, BarLines, drawn, logged, cleared}
-use Rattle.indicatif_bar.specs.Machines.{Target}
+use Rattle.indicatif_term.specs.Frames.{text_lines, logged_lines}
+use Rattle.indicatif_bar.specs.Machines.{Target, Draws}
 use Rattle.indicatif_bar.specs.Runs.{ReadsAfter}
 use Rattle.indicatif_bar.specs.Kinds.{Kind, Writing, Frame, TextAndFrame, NoFrame, written_lists}
 use Rattle.indicatif_bar.specs.Trackers.{Tracking}
 use Rattle.indicatif_bar.specs.Bars.{bar_kind}
 use Rattle.indicatif_bar.specs.Commands.{BarRecord, Command, SetElapsed, obeyed, is_beyond_clock}
 use Rattle.indicatif_bar.specs.LoneBars.{CallDone, RecordGoes, RecordsGo, record_of}
+use Rattle.indicatif_bar.specs.declared.ask.Ask.{Ask}
+use Rattle.indicatif_bar.specs.declared.ask.Ask.TheVariants.{Forced}
 use Rattle.indicatif_bar.specs.declared.lone.LoneBar.{LoneBar}
-use Rattle.indicatif_bar.specs.Lone.{LoneState, LoneCall, Obey, Log, Clear, bar_after, bar_after_all, draw_of_call, refused_at_once, deed_unless, lone}
+use Rattle.indicatif_bar.specs.Lone.{LoneState, LoneCall, Obey, Log, Clear, bar_after, bar_after_all, lone_frame, draw_asked, draw_of_call, refused_at_once, deed_unless, lone}
 use Rattle.indicatif_bar.proofs.SoundRunLemmas.{GoesSoundly, sound_read_after}
 
 pub written_soundly : (writing : Writing) (target : Target) (bottom : Bool) (leave : ℕ) (frame : List BarLines) (l : Lists) → (written_lists writing target bottom leave frame l).failed ≡ false
@@ -27,11 +30,21 @@ written_soundly (TextAndFrame text) target bottom leave frame l = refl
 written_soundly NoFrame target bottom leave frame l = refl
 
 module _ {B C : Type 0} (kind : Kind B C) where
+  drawn_soundly : (target : Target) (takes : Bool) (ask : Ask) (now : ℕ) (writing : Writing) (s : LoneState B) (bar : B) →
+      GoesSoundly (lone kind) s (Draws (draw_asked kind target takes ask now writing (record s { bar = bar })) (λ x. x) (λ x. x))
+  drawn_soundly target takes ask now writing s bar = (
+    record { numbers = λ sound. sound; ready = λ sound. sound; written = λ sound. written_soundly writing target false 0 (lone_frame kind target now bar) s.lists },
+    (λ x sound. sound),
+    λ x sound. sound,
+  )
+
   deed_soundly : (refused : Option Refusal) (target : Target) (call : LoneCall C) (now : ℕ) (s : LoneState B) →
       GoesSoundly (lone kind) s (deed_unless kind refused (draw_of_call kind target call now s) s)
   deed_soundly (Some e) target call now s = λ sound. sound
-  deed_soundly None target call now s =
-      (record { numbers = λ sound. sound; ready = λ sound. sound; written = λ sound. written_soundly _ target _ _ _ s.lists }, (λ x sound. sound), λ x sound. sound)
+  deed_soundly None target (Obey command) now s =
+      let told = kind.after command s.bar now in drawn_soundly target (kind.takes command s.bar now) told.1 now Frame s told.0
+  deed_soundly None target (Log text) now s = drawn_soundly target false Forced now (TextAndFrame (text_lines (logged_lines text))) s s.bar
+  deed_soundly None target Clear now s = drawn_soundly target false Forced now NoFrame s s.bar
 
   pub lone_goes : (target : Target) (call : LoneCall C) (now : ℕ) (s : LoneState B) → GoesSoundly (lone kind) s ((lone kind).deed target call now s)
   lone_goes target call now s = deed_soundly (refused_at_once kind call now s.bar) target call now s

@@ -5,6 +5,7 @@ use Rattle.std.specs.List.{AllByRecursion}
 use Rattle.std.proofs.lemmas.Bool.{cond_both}
 use Rattle.std.proofs.lemmas.List.Folds.{list_all-append}
 use Rattle.std.proofs.lemmas.List.Elements.{All-from_recursion, recursion_from_All}
+use Rattle.std.specs.Option.{option_or}
 use Rattle.indicatif_text.specs.declared.refusal.Refusal.{Refusal}
 use Rattle.indicatif_text.specs.declared.refusal.Drawn.{Drawn}
 use Rattle.indicatif_text.specs.Columns.{is_plain}
@@ -15,7 +16,7 @@ use Rattle.indicatif_term.specs.Frames.{are_plain, all_lines, text_lines, logged
 use Rattle.indicatif_bar.specs.Machines.{Target, target_of, Machine}
 use Rattle.indicatif_bar.specs.Runs.{Runs, AllPlain, lines_by}
 use Rattle.indicatif_bar.specs.Kinds.{Kind, Writing, Frame, TextAndFrame, NoFrame, lines_to_write}
-use Rattle.indicatif_bar.specs.Lone.{LoneState, LoneCall, Obey, Log, Clear, lone, lone_frame, writing_of, bar_after, refused_at_once, deed_unless, draw_of_call}
+use Rattle.indicatif_bar.specs.Lone.{LoneState, LoneCall, Obey, Log, Clear, lone, lone_frame, refused_at_once, deed_unless, draw_of_call}
 use Rattle.indicatif_bar.specs.declared.ask.Ask.{Ask}
 use Rattle.indicatif_bar.specs.declared.ask.Ask.TheVariants.{No}
 use Rattle.indicatif_bar.specs.Progress.{Progress, is_hidden, progress_reset}
@@ -26,7 +27,7 @@ use Rattle.indicatif_bar.specs.Trackers.{Tracking, TrackerStep, Ticked, WasReset
 use Rattle.indicatif_bar.specs.Styles.{BarStyle, lines}
 use Rattle.indicatif_bar.specs.Bars.{bar_kind, lines_of_bar}
 use Rattle.indicatif_bar.specs.Finishes.{BarFinish, AndLeave, WithMessage as LeaveWithMessage, AndClear, Abandon, AbandonWithMessage}
-use Rattle.indicatif_bar.specs.Commands.{BarRecord, Command, Tick, Inc, Dec, SetPosition, TickerTick, Update, SetLength, UnsetLength, IncLength, DecLength, SetMessage, SetPrefix, SetStyle, WithMessage, WithPrefix, WithFinish, SetElapsed, Reset, Finish, FinishUsingStyle, obeyed, tick, ticker_tick, update, with_length, reset, moved_to, finish, with_progress, some_or}
+use Rattle.indicatif_bar.specs.Commands.{BarRecord, Command, Tick, Inc, Dec, SetPosition, TickerTick, Update, SetLength, UnsetLength, IncLength, DecLength, SetMessage, SetPrefix, SetStyle, WithMessage, WithPrefix, WithFinish, SetElapsed, Reset, Finish, FinishUsingStyle, obeyed, tick, ticker_tick, update, with_length, reset, moved_to, finish, with_progress}
 use Rattle.indicatif_bar.specs.StyleLaws.{IsPlainText}
 use Rattle.indicatif_bar.specs.LineLaws.{IsPlainLiteral, HasPlainTexts}
 use Rattle.indicatif_bar.specs.PlainLaws.{IsPlainWithTabs, IsPlainTracker, ArePlainTrackers, HasPlainLiteral, IsPlainFinish, IsPlainBar, IsPlainCommand, IsPlainLoneCall, LoneRunsArePlain, TellersArePlain}
@@ -97,29 +98,24 @@ module _ {B C : Type 0} (kind : Kind B C) (IsBar : B → Type 0) (IsCommand : C 
   IsCall (Log text) = IsTrue (are_plain (text_lines (logged_lines text)))
   IsCall Clear = Unit {0}
 
-  told_plain : (call : LoneCall C) (now : ℕ) (bar : B) → IsCall call → IsBar bar → IsBar (bar_after kind call now bar)
-  told_plain (Obey command) now bar c b = k.after command bar now c b
-  told_plain (Log text) now bar c b = b
-  told_plain Clear now bar c b = b
-
-  call_writing : (call : LoneCall C) → IsCall call → IsPlainWriting (writing_of call)
-  call_writing (Obey command) c = tt
-  call_writing (Log text) c = c
-  call_writing Clear c = tt
-
   deed_keeps : (refused : Option Refusal) (target : Target) (call : LoneCall C) (now : ℕ) (s : LoneState B) → IsCall call → IsState s →
       IsPreserved (lone kind) IsState (deed_unless kind refused (draw_of_call kind target call now s) s)
   deed_keeps (Some e) target call now s c p = p
-  deed_keeps None target call now s c p =
-      let bar = told_plain call now s.bar c p in
+  deed_keeps None target (Obey command) now s c p =
+      let bar = k.after command s.bar now c p in
       (bar, bar, bar, bar, (λ x q. q), λ x q. q)
+  deed_keeps None target (Log text) now s c p = (p, p, p, p, (λ x q. q), λ x q. q)
+  deed_keeps None target Clear now s c p = (p, p, p, p, (λ x q. q), λ x q. q)
 
   deed_plain : (refused : Option Refusal) (target : Target) (call : LoneCall C) (now : ℕ) (s : LoneState B) → IsCall call → IsState s →
       IsTrue (are_plain (lines_by (deed_unless kind refused (draw_of_call kind target call now s) s)))
   deed_plain (Some e) target call now s c p = refl
-  deed_plain None target call now s c p =
-      let bar = bar_after kind call now s.bar in
-      written_plain (writing_of call) 0 (lone_frame kind target now bar) (call_writing call c) (k.lines bar (told_plain call now s.bar c p) now target.columns, tt)
+  deed_plain None target (Obey command) now s c p =
+      let bar = (kind.after command s.bar now).0 in
+      written_plain Frame 0 (lone_frame kind target now bar) tt (k.lines bar (k.after command s.bar now c p) now target.columns, tt)
+  deed_plain None target (Log text) now s c p =
+      written_plain (TextAndFrame (text_lines (logged_lines text))) 0 (lone_frame kind target now s.bar) c (k.lines s.bar p now target.columns, tt)
+  deed_plain None target Clear now s c p = refl
 
   pub lone_plain : (calls : List (LoneCall C × ℕ)) (answers : List (Result Drawn Refusal)) (old : Option TermView) (s : LoneState B) (new : Option TermView) (next : LoneState B)
       (run : Runs (lone kind) calls answers old s new next) → IsState s → AllByRecursion (λ call. IsCall call.0) calls →
@@ -234,7 +230,7 @@ module _ {K : Type 0} (m : Tracking K) where
   obeyed_plain (Dec n) bar now c h = moved_plain _ bar now h
   obeyed_plain (SetPosition position) bar now c h = moved_plain position bar now h
   obeyed_plain (Update position len) bar now c h =
-      let next = with_progress bar (record bar.progress { position = unwrap_or position bar.progress.position; len = some_or len bar.progress.len }) in
+      let next = with_progress bar (record bar.progress { position = unwrap_or position bar.progress.position; len = option_or len bar.progress.len }) in
       let same : IsPlainBar m next = same_bar h refl refl refl refl refl refl refl in
       ticked_plain next now same
   obeyed_plain (SetLength n) bar now c h = told_length _ bar now h

@@ -11,8 +11,7 @@ module _ {S C A : Type 0} (m : Machine S C A) (P : S → Type 0) where
 
   pub leads_preserve : (target : Target) (s next : S) (deed : Deed S A) (answer : A) → IsPreserved deed → Leads m target s deed answer next → P s → P next
   leads_preserve target s next (AtOnce takes said after) answer keeps (inl made) is = subst P (sym (ap (λ o. o.1) made)) keeps
-  leads_preserve target s next (AtOnce takes said after) answer keeps (inr (inl short)) is = subst P (sym short.1.1) is
-  leads_preserve target s next (AtOnce takes said after) answer keeps (inr (inr broken)) is = absurd broken.2
+  leads_preserve target s next (AtOnce takes said after) answer keeps (inr short) is = subst P (sym short.2) is
   leads_preserve target s next (Draws d ends breaks) answer keeps (inl made) is =
       subst P (sym (ap (λ o. o.1) made)) (keeps.4 (drawn_by target d).1 (drawn_keeps P target d keeps.0 keeps.1 keeps.2))
   leads_preserve target s next (Draws d ends breaks) answer keeps (inr (inl short)) is = elim short.1 [

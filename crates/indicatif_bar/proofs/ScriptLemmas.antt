@@ -14,6 +14,8 @@ use Rattle.indicatif_term.specs.Shows.{Rests, Placed, safe_rows}
 use Rattle.indicatif_term.specs.Resizes.{resized, resized_terminal, resized_lists, recut, recut_all, told_resized}
 use Rattle.indicatif_term.specs.Events.{Event, Given, Sized, terminal_after, told_after, RowsLastThrough, rows_then}
 use Rattle.indicatif_term.specs.Engines.{Paints}
+use Rattle.indicatif_term.specs.Calm.{Calmly}
+use Rattle.indicatif_term.proofs.CalmLemmas.{no_drawings, drawings_append}
 use Rattle.indicatif_term.proofs.CallTurnLemmas.{still_tells}
 use Rattle.indicatif_term.proofs.PlaceLemmas.{stay_fewer}
 use Rattle.indicatif_term.proofs.ResizeLemmas.{resized_rests, above_resized, still_failed, forgotten_stay}
@@ -22,7 +24,7 @@ use Rattle.indicatif_term.proofs.StandingRowLemmas.{rows_taken, rows_placed, row
 use Rattle.indicatif_term.proofs.RowReadingLemmas.{shown_is_read}
 use Rattle.indicatif_bar.specs.Machines.{Target, target_of, Machine}
 use Rattle.indicatif_bar.specs.Runs.{broke, is_undisturbed}
-use Rattle.indicatif_bar.specs.Scripts.{SizedOn, sized_target, sized_lists, Sizing, Part, Called, Size, opening_then, rows_sized, rows_cut, MaySize, sized, Plays, script_broke, AllRunsPlain, AllSizesKnown, GoesBy, RowsLastIn, ScriptsCarry, SafeRowsLast, ScriptsAreRead, UnbrokenScriptsAreRead, played, OneScriptOutcome}
+use Rattle.indicatif_bar.specs.Scripts.{SizedOn, sized_target, sized_lists, Sizing, Part, Called, Size, opening_then, rows_sized, rows_cut, bytes_given, MaySize, sized, Plays, script_broke, AllRunsPlain, AllSizesKnown, GoesBy, RowsLastIn, ScriptsCarry, SafeRowsLast, ScriptsAreRead, UnbrokenScriptsAreRead, played, OneScriptOutcome}
 use Rattle.indicatif_bar.proofs.SoundRunLemmas.{Sound, GoesSoundly, runs_soundly}
 use Rattle.indicatif_bar.proofs.RunLemmas.{lasts, run_target_stays, runs_once}
 
@@ -131,6 +133,7 @@ module _ {S C A : Type 0} (m : Machine S C A) (z : Sizing m) where
     rests : IsFalse broken → IsFalse (script_broke m z parts) → (opening : Screen) (t : Terminal) → Rests v.columns v.rows opening (m.lists s) t →
         Rests v'.columns v'.rows (opening_then parts opening) (m.lists next) (terminal_after t events)
     added : IsFalse (script_broke m z parts) → (rows : List (List Cell)) × ((m.lists next).above ≡ rows_cut parts v.columns v.rows (m.lists s).above ++ rows)
+    drawings : Calmly (m.lists s).failed (bytes_given events) (m.lists next).failed
 
   -- what is claimed of the rest of a script
   abbrev Left : Bool → (parts : List (Part C A)) (v : TermView) (s : S) (new : Option TermView) (next : S) → Option TermView → Type 0
@@ -150,6 +153,7 @@ module _ {S C A : Type 0} (m : Machine S C A) (z : Sizing m) where
       lasts = λ t k. refl;
       rests = λ fine whole opening t r. subst (λ x. Rests v.columns v.rows opening (m.lists x) t) (sym plays.1) r;
       added = λ whole. ([], ap (λ x. (m.lists x).above) plays.1 ∙ sym (append-nil (m.lists s).above));
+      drawings = subst (λ x. Calmly (m.lists s).failed [] (m.lists x).failed) (sym plays.1) (no_drawings (m.lists s).failed);
     },
   )
   carried broken (Called calls answers ∷ parts) v s new next some plays plain known =
@@ -197,6 +201,7 @@ module _ {S C A : Type 0} (m : Machine S C A) (z : Sizing m) where
                 rows_cut parts v.columns v.rows now.0 ++ more.0,
                 added_then parts u.columns u.rows v.columns v.rows l.above (m.lists x).above (m.lists next).above now.0 more.0 columns rows now.1 more.1,
               );
+          drawings = drawings_append l.failed p.bytes (m.lists x).failed (bytes_given c.events) (m.lists next).failed p.drawings c.drawings;
         },
       )
   carried broken (Size w h ∷ parts) v s new next some plays plain known =
@@ -248,6 +253,7 @@ module _ {S C A : Type 0} (m : Machine S C A) (z : Sizing m) where
                 added_then parts u.columns u.rows w h (rows_sized v.columns v.rows w h l.above) (m.lists x).above (m.lists next).above now.0 more.0 is.columns_are is.rows_are
                     (ap (λ q. q.above) lists ∙ now.1) more.1,
               );
+          drawings = subst (λ b. Calmly b (bytes_given c.events) (m.lists next).failed) (ap (λ q. q.failed) lists ∙ still_failed v.columns v.rows w h l) c.drawings;
         },
       )
 
@@ -265,6 +271,7 @@ module _ {S C A : Type 0} (m : Machine S C A) (z : Sizing m) where
           lasts = λ opening t k. c.lasts t (known_at_rest v.columns v.rows opening l t sound k);
           rests = λ whole opening t k. c.rests refl whole opening t k;
           added = c.added;
+          drawings = c.drawings;
         },
       )
 
@@ -273,7 +280,7 @@ module _ {S C A : Type 0} (m : Machine S C A) (z : Sizing m) where
   safe_rows_last parts v s new next plays some plain known =
       let r = carried true parts v s new next some plays plain known in
       let c = r.2 in
-      (r.0, r.1, c.events, c.told_is, c.goes_by, c.lasts)
+      (r.0, r.1, c.events, c.told_is, c.goes_by, c.drawings, c.lasts)
 
   -- a terminal that tells its state tells it after events
   told_state : (t : Terminal) (events : List Event) → told_after (Holding t) events ≡ Holding (terminal_after t events)

@@ -44,8 +44,7 @@ module _ {S C A : Type 0} (m : Machine S C A) where
 
   leads_soundly : (target : Target) (s next : S) (deed : Deed S A) (answer : A) → GoesSoundly s deed → Leads m target s deed answer next → is_failure (m.tells answer) ≡ false → Sound s → Sound next
   leads_soundly target s next (AtOnce takes said after) answer goes (inl made) fine sound = ap (λ o. (m.lists o.1).failed) made ∙ goes sound
-  leads_soundly target s next (AtOnce takes said after) answer goes (inr (inl short)) fine sound = ap (λ x. (m.lists x).failed) short.1.1 ∙ sound
-  leads_soundly target s next (AtOnce takes said after) answer goes (inr (inr broken)) fine sound = absurd broken.2
+  leads_soundly target s next (AtOnce takes said after) answer goes (inr short) fine sound = ap (λ x. (m.lists x).failed) short.2 ∙ sound
   leads_soundly target s next (Draws d ends breaks) answer goes (inl made) fine sound =
       ap (λ o. (m.lists o.1).failed) made ∙ goes.1 (drawn_by target d).1 (drawn_keeps Sound target d (goes.0.numbers sound) (goes.0.ready sound) (goes.0.written sound))
   leads_soundly target s next (Draws d ends breaks) answer goes (inr (inl short)) fine sound = elim short.1 [

@@ -5,7 +5,7 @@ use Rattle.indicatif_text.specs.declared.refusal.Refusal.{Refusal}
 use Rattle.indicatif_text.specs.declared.refusal.Drawn.{Drawn}
 use Rattle.indicatif_text.specs.declared.refusal.Drawn.TheVariants.{Yes}
 use Rattle.indicatif_term.specs.Calls.{TermView}
-use Rattle.indicatif_term.specs.Limiters.{Limiter, draw_limiter}
+use Rattle.indicatif_term.specs.Limiters.{Limiter, burst, draw_limiter}
 use Rattle.indicatif_bar.specs.declared.ask.Ask.{Ask}
 use Rattle.indicatif_bar.specs.declared.ask.Ask.TheVariants.{No, Unforced, Forced}
 use Rattle.indicatif_bar.specs.Machines.{Target, Machine, Draw, Deed, AtOnce, Draws}
@@ -75,7 +75,7 @@ module _ {State Call Answer : Type 0} (m : Machine State Call Answer) where
       (rate making : ℕ) → 0 < rate → rate < 256 → (calls : List (Call × ℕ)) (answers : List Answer) (old : Option TermView) (s : State) (new : Option TermView) (next : State)
       (run : Runs m calls answers old s new next) → limiter s ≡ Some (draw_limiter rate making) →
       let moments = unforced_draws calls answers old s new next run in
-      (last : ℕ) → last_or None moments ≡ Some last → length moments ≤ 20 + (last - making) / (draw_limiter rate making).interval
+      (last : ℕ) → last_or None moments ≡ Some last → length moments ≤ burst + (last - making) / (draw_limiter rate making).interval
 
   -- the same from any state of a limiter: each unforced draw takes one from its hand, or one of the intervals from its last moment to
   -- the last draw

@@ -2,6 +2,7 @@
 use Rattle.std.specs.declared.string.String.{String}
 use Rattle.std.specs.declared.alloc.Global.{Global}
 use Rattle.std.specs.Prelude.{not, ◌||◌, ◌==◌, ℕ, string_bytes, ◌+◌, ◌-◌, ◌%◌, ◌^◌, Bool, true, false, nat_lt, min, List, Option, Some, None, if◌then◌else◌, unwrap_or, option_map}
+use Rattle.std.specs.Option.{option_or}
 use Rattle.indicatif_bar.specs.declared.ask.Ask.{Ask}
 use Rattle.indicatif_bar.specs.declared.ask.Ask.TheVariants.{No, Unforced, Forced}
 use Rattle.indicatif_bar.specs.Measures.{greatest_u64, recorded}
@@ -12,7 +13,7 @@ use Rattle.indicatif_bar.specs.Trackers.{Tracking, changed_trackers}
 use Rattle.indicatif_bar.specs.Styles.{BarStyle}
 use Rattle.indicatif_bar.specs.declared.state.commands.BarCommand.{BarCommand}
 use Rattle.indicatif_bar.specs.declared.state.commands.BarCommand.TheVariants as told
-use Rattle.indicatif_bar.specs.Finishes.{BarFinish, AndClear, finish_as, finish_of, finished_by, finish_takes_memory}
+use Rattle.indicatif_bar.specs.Finishes.{BarFinish, AndClear, finish_as, finished_by, finish_takes_memory}
 
 pub record BarRecord (K : Type 0) : Type 0 where
   pub progress : Progress
@@ -54,11 +55,6 @@ pub data Command (K : Type 0) : Type 0 where
   ForceDraw : Command K
 
 -- ---- parts of a record
-
--- the first, if it is there, or else the second
-abbrev pub some_or : {X : Type 0} → Option X → Option X → Option X
-some_or None other = other
-some_or (Some x) other = Some x
 
 -- the record as made, in a style
 abbrev pub new_bar : {K : Type 0} → BarStyle K → Option ℕ → ℕ → BarRecord K
@@ -137,7 +133,7 @@ module _ {K : Type 0} (m : Tracking K) where
   obeyed (Dec n) bar now = moved_to ((bar.progress.position + 2 ^ 64 - n) % 2 ^ 64) bar now
   obeyed (SetPosition position) bar now = moved_to position bar now
   obeyed (Update position len) bar now =
-      tick (with_progress bar (record bar.progress { position = unwrap_or position bar.progress.position; len = some_or len bar.progress.len })) now
+      tick (with_progress bar (record bar.progress { position = unwrap_or position bar.progress.position; len = option_or len bar.progress.len })) now
   obeyed (SetLength n) bar now = with_length (Some n) bar now
   obeyed UnsetLength bar now = with_length None bar now
   obeyed (IncLength n) bar now = with_length (option_map (λ len. min (len + n) greatest_u64) bar.progress.len) bar now
@@ -219,7 +215,7 @@ command_as bytes (told.SetStyle style) = SetStyle style
 command_as bytes (told.WithPosition position) = WithPosition position
 command_as bytes (told.WithMessage text) = WithMessage (bytes text)
 command_as bytes (told.WithPrefix text) = WithPrefix (bytes text)
-command_as bytes (told.WithFinish finish) = WithFinish (finish_of finish)
+command_as bytes (told.WithFinish finish) = WithFinish (finish_as string_bytes finish)
 command_as bytes (told.WithTabWidth tab) = WithTabWidth tab
 command_as bytes (told.SetTabWidth tab) = SetTabWidth tab
 command_as bytes (told.SetElapsed nanos) = SetElapsed nanos

@@ -35,19 +35,8 @@ pub data LoneCall (C : Type 0) : Type 0 where
   -- the bar's rows taken back
   Clear : LoneCall C
 
--- what it writes
-abbrev pub writing_of : {C : Type 0} → LoneCall C → Writing
-writing_of (Obey command) = Frame
-writing_of (Log text) = TextAndFrame (text_lines (logged_lines text))
-writing_of Clear = NoFrame
-
 module _ {B C : Type 0} (kind : Kind B C) where
-  -- whether it takes memory for a text of the bar
-  abbrev pub takes_text : LoneCall C → ℕ → B → Bool
-  takes_text (Obey command) now bar = kind.takes command bar now
-  takes_text _ now bar = false
-
-  -- the bar then
+  -- the bar after a call
   abbrev pub bar_after : LoneCall C → ℕ → B → B
   bar_after (Obey command) now bar = (kind.after command bar now).0
   bar_after _ now bar = bar
@@ -56,11 +45,6 @@ module _ {B C : Type 0} (kind : Kind B C) where
   abbrev pub bar_after_all : List (LoneCall C × ℕ) → B → B
   bar_after_all [] bar = bar
   bar_after_all (call ∷ calls) bar = bar_after_all calls (bar_after call.0 call.1 bar)
-
-  -- whether it asks for a draw
-  abbrev pub asks : LoneCall C → ℕ → B → Ask
-  asks (Obey command) now bar = (kind.after command bar now).1
-  asks _ now bar = Forced
 
   -- the bar as the one member of a frame: it is laid out anew for each draw that writes its lines
   abbrev pub lone_frame : Target → ℕ → B → List BarLines
@@ -90,10 +74,13 @@ module _ {B C : Type 0} (kind : Kind B C) where
         broken = record ready { lists = forgotten_lists };
       }
 
-  -- the draw of a call
+  -- the draw of a call: a command first changes the bar; the draw of a text and that of a clear are forced
   abbrev pub draw_of_call : Target → LoneCall C → ℕ → LoneState B → Draw (LoneState B)
-  draw_of_call target call now s =
-      draw_asked target (takes_text call now s.bar) (asks call now s.bar) now (writing_of call) (record s { bar = bar_after call now s.bar })
+  draw_of_call target (Obey command) now s =
+      let told = kind.after command s.bar now in
+      draw_asked target (kind.takes command s.bar now) told.1 now Frame (record s { bar = told.0 })
+  draw_of_call target (Log text) now s = draw_asked target false Forced now (TextAndFrame (text_lines (logged_lines text))) s
+  draw_of_call target Clear now s = draw_asked target false Forced now NoFrame s
 
   -- why a call is refused at once, if it is
   abbrev pub refused_at_once : LoneCall C → ℕ → B → Option Refusal

@@ -122,6 +122,6 @@ lone_call_as bytes ClearCall = Clear
 abbrev pub lone_call_of : {K : Type 0} → LoneCallValue K (String Global) → LoneCall (Command K)
 lone_call_of call = lone_call_as string_bytes call
 
--- the same with its moment
+-- the same of one with a text of its own, with its moment
 abbrev pub lone_timed : {K : Type 0} → LoneCallValue K (String Global) × ℕ → LoneCall (Command K) × ℕ
-lone_timed c = (lone_call_of c.0, c.1)
+lone_timed c = (lone_call_as string_bytes c.0, c.1)

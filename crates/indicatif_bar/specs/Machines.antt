@@ -2,7 +2,7 @@
 -- order: the numbers change; no draw is asked; the target is hidden; it has no columns; the lines are laid out and stored; the
 -- limiter is asked, unless the draw is forced; a line is too wide; the terminal is written. A lone bar asks the limiter before its
 -- lines are laid out.
-use Rattle.std.specs.Prelude.{◌≡◌, ℕ, Bool, true, false, IsTrue, not, ◌&&◌, ◌==◌, List, [], ◌∷◌, Option, Some, None, Result, Ok, Err, if◌then◌else◌, ◌⊎◌}
+use Rattle.std.specs.Prelude.{◌≡◌, ℕ, Bool, true, false, IsTrue, not, ◌&&◌, ◌==◌, List, [], ◌∷◌, Option, Some, None, MatchOption, Result, Ok, Err, if◌then◌else◌, ◌⊎◌}
 use Rattle.std.specs.declared.io.ErrorKind.{ErrorKind}
 use Rattle.indicatif_text.specs.declared.refusal.Refusal.{Refusal}
 use Rattle.indicatif_text.specs.declared.refusal.Refusal.TheVariants.{NoColumns, TooWide, Memory, Terminal as Failure}
@@ -27,6 +27,10 @@ pub record Target : Type 0 where
 abbrev pub target_of : Option TermView → Target
 target_of None = record { hidden = true; columns = 0; rows = 0 }
 target_of (Some view) = record { hidden = false; columns = view.columns; rows = view.rows }
+
+-- what became of a target of which these were known before and after: a hidden one stays hidden, and of a terminal this holds
+abbrev pub On : Option TermView → Option TermView → (TermView → TermView → Type 0) → Type 0
+On old new P = MatchOption old (new ≡ None) (λ v. (v' : TermView) × (new ≡ Some v') × P v v')
 
 -- whether no draw is asked
 abbrev pub is_no : Ask → Bool
@@ -87,18 +91,6 @@ drawn_by target d =
 abbrev pub comes_to_lines : {State : Type 0} → Target → Draw State → Bool
 comes_to_lines target d = not (is_no d.ask) && not target.hidden && not (target.columns == 0)
 
--- memory is refused at a step that takes some: before the numbers change, as lines are laid out, or, once the limiter allowed it, as rows are planned; the next state is that before the step
-abbrev pub IsOutOfMemory : {State Answer : Type 0} → Target → State → Deed State Answer → State → Type 0
-IsOutOfMemory target s (AtOnce takes answer after) next = IsTrue takes × (next ≡ s)
-IsOutOfMemory target s (Draws d ends breaks) next =
-    (IsTrue d.text_takes × (next ≡ breaks s))
-    ⊎ (IsTrue (comes_to_lines target d) × ((IsTrue d.lines_take × (next ≡ breaks d.after_command)) ⊎ (IsTrue d.rows_take × IsTrue d.allowed × (next ≡ breaks d.ready))))
-
--- the terminal fails while it is written
-abbrev pub IsBroken : {State Answer : Type 0} → Target → Deed State Answer → State → Type 0
-IsBroken target (AtOnce takes answer after) next = ⊥
-IsBroken target (Draws d ends breaks) next = ((drawn_by target d).0 ≡ Ok Yes) × (next ≡ breaks d.broken)
-
 -- ---- what a call leads to
 
 module _ {State Call Answer : Type 0} (m : Machine State Call Answer) where
@@ -107,12 +99,21 @@ module _ {State Call Answer : Type 0} (m : Machine State Call Answer) where
   done_by target (AtOnce takes answer next) = (answer, next)
   done_by target (Draws d ends breaks) = let o = drawn_by target d in (m.says o.0, ends o.1)
 
-  -- a call answers so and leads to the next state: as where nothing fails; or memory is refused to it; or the terminal fails
+  -- a call answers so and leads to the next state. One that answers at once: it does so, or memory is refused to it. One that draws: it comes as
+  -- far as its steps let it; or memory is refused at a step that takes some, before the numbers change, as lines are laid out, or, once the
+  -- limiter allowed it, as rows are planned, and the next state is that before the step; or the terminal fails while it is written
   abbrev pub Leads : Target → State → Deed State Answer → Answer → State → Type 0
-  Leads target s deed answer next =
-      ((answer, next) ≡ done_by target deed)
-      ⊎ (((answer ≡ m.says (Err Memory)) × IsOutOfMemory target s deed next)
-      ⊎ ((kind : ErrorKind) × (answer ≡ m.says (Err (Failure kind))) × IsBroken target deed next))
+  Leads target s (AtOnce takes said after) answer next =
+      let ended : Answer × State = (said, after) in
+      ((answer, next) ≡ ended) ⊎ ((answer ≡ m.says (Err Memory)) × IsTrue takes × (next ≡ s))
+  Leads target s (Draws d ends breaks) answer next =
+      let o = drawn_by target d in
+      let ended : Answer × State = (m.says o.0, ends o.1) in
+      ((answer, next) ≡ ended)
+      ⊎ (((answer ≡ m.says (Err Memory))
+      × ((IsTrue d.text_takes × (next ≡ breaks s))
+      ⊎ (IsTrue (comes_to_lines target d) × ((IsTrue d.lines_take × (next ≡ breaks d.after_command)) ⊎ (IsTrue d.rows_take × IsTrue d.allowed × (next ≡ breaks d.ready))))))
+      ⊎ ((kind : ErrorKind) × (answer ≡ m.says (Err (Failure kind))) × ((o.0 ≡ Ok Yes) × (next ≡ breaks d.broken))))
 
   -- of calls with their moments, one after another: the answers and the last state
   abbrev pub outcomes : Target → List (Call × ℕ) → State → List Answer × State

@@ -5,12 +5,13 @@ use Rattle.indicatif_text.specs.Columns.{Cell}
 use Rattle.indicatif_term.specs.Screen.{Screen}
 use Rattle.indicatif_term.specs.Terminal.{Terminal, after}
 use Rattle.indicatif_term.specs.Calls.{TermView, is_told}
+use Rattle.indicatif_term.specs.Calm.{Calmly}
 use Rattle.indicatif_term.specs.Lists.{Lists, forgotten_lists, all_rows}
-use Rattle.indicatif_term.specs.Limiters.{Limiter, draw_limiter}
+use Rattle.indicatif_term.specs.Limiters.{Limiter, burst, draw_limiter}
 use Rattle.indicatif_term.specs.Shows.{Rests, Placed, safe_rows}
 use Rattle.indicatif_term.specs.Resizes.{resized, resized_terminal, resized_lists, recut_all, has_size, Resized}
 use Rattle.indicatif_term.specs.Events.{Event, Given, Sized, terminal_after, told_after, rows_then, RowsLastThrough}
-use Rattle.indicatif_bar.specs.Machines.{Target, target_of, Machine, outcomes}
+use Rattle.indicatif_bar.specs.Machines.{Target, target_of, On, Machine, outcomes}
 use Rattle.indicatif_bar.specs.Runs.{Runs, AllPlain, broke, IsLedOn, RowsLast, ReadsAs, Starts, is_undisturbed}
 use Rattle.indicatif_bar.specs.Bounds.{Spent, unforced_draws}
 
@@ -26,7 +27,7 @@ sized_lists w h target l = if target.hidden then l else resized_lists target.col
 
 -- what became of a target of which this is known
 abbrev pub SizedOn : ℕ → ℕ → Option TermView → Option TermView → Type 0
-SizedOn w h old new = MatchOption old (new ≡ None) (λ v. (v' : TermView) × (new ≡ Some v') × Resized w h v v')
+SizedOn w h old new = On old new (λ v v'. Resized w h v v')
 
 -- this is another size than that of a target of which this is known; a hidden one has none that could change
 abbrev pub IsAnotherSize : ℕ → ℕ → Option TermView → Type 0
@@ -64,6 +65,12 @@ rows_cut (Size w' h' ∷ parts) w h rows = rows_cut parts w' h' (rows_sized w h 
 abbrev pub MaySize : Bool → Lists → Type 0
 MaySize false l = IsFalse l.failed
 MaySize true l = l ≡ forgotten_lists
+
+-- the bytes of events, one behind another
+abbrev pub bytes_given : List Event → List ℕ
+bytes_given [] = []
+bytes_given (Given bytes ∷ events) = bytes ++ bytes_given events
+bytes_given (Sized w h ∷ events) = bytes_given events
 
 module _ {State Call Answer : Type 0} (m : Machine State Call Answer) (z : Sizing m) where
   -- the state after a size
@@ -126,7 +133,7 @@ module _ {State Call Answer : Type 0} (m : Machine State Call Answer) (z : Sizin
   -- these events, one for each part, led from the one to the other. Of a terminal that rests with the lists of the start after an
   -- opening: the rows that are safe last (the untouched ones and those above), and those that are safe later. And unless a call was
   -- broken off it rests then with the lists of the end, after the opening that got the sizes too, and rows above were cut by the
-  -- sizes, and only added
+  -- sizes, and only added. In any case the bytes are those of drawings
   pub record Carries (parts : List (Part Call Answer)) (v v' : TermView) (s : State) (new : Option TermView) (next : State) (plays : Plays parts (Some v) s new next) : Type 0 where
     pub events : List Event
     pub told_is : IsTrue (is_told v.told) → v'.told ≡ told_after v.told events
@@ -135,6 +142,7 @@ module _ {State Call Answer : Type 0} (m : Machine State Call Answer) (z : Sizin
     pub rests : IsFalse (script_broke parts) → (opening : Screen) (t : Terminal) → Rests v.columns v.rows opening (m.lists s) t →
         Rests v'.columns v'.rows (opening_then parts opening) (m.lists next) (terminal_after t events)
     pub added : IsFalse (script_broke parts) → (rows : List (List Cell)) × ((m.lists next).above ≡ rows_cut parts v.columns v.rows (m.lists s).above ++ rows)
+    pub drawings : Calmly (m.lists s).failed (bytes_given events) (m.lists next).failed
 
   -- the headline of scripts
   abbrev pub ScriptsCarry : Type 0
@@ -143,13 +151,14 @@ module _ {State Call Answer : Type 0} (m : Machine State Call Answer) (z : Sizin
       0 < v.columns → IsFalse (m.lists s).failed → AllRunsPlain parts (Some v) s new next plays → AllSizesKnown false parts (Some v) s new next plays →
       (v' : TermView) × (new ≡ Some v') × Carries parts v v' s new next plays
 
-  -- a script that begins after a failure, wherever the terminal broke off: the rows of any terminal with a place that are safe last, and
-  -- those that are safe later. Each size comes where nothing was drawn since the last failure
+  -- a script that begins after a failure, wherever the terminal broke off: the bytes are those of drawings, the rows of any terminal
+  -- with a place that are safe last, and those that are safe later. Each size comes where nothing was drawn since the last failure
   abbrev pub SafeRowsLast : Type 0
   SafeRowsLast =
       (parts : List (Part Call Answer)) (v : TermView) (s : State) (new : Option TermView) (next : State) (plays : Plays parts (Some v) s new next) →
       0 < v.columns → AllRunsPlain parts (Some v) s new next plays → AllSizesKnown true parts (Some v) s new next plays →
       (v' : TermView) × (new ≡ Some v') × (events : List Event) × (IsTrue (is_told v.told) → v'.told ≡ told_after v.told events) × GoesBy parts (Some v) s new next plays events
+      × Calmly (m.lists s).failed (bytes_given events) (m.lists next).failed
       × ((t : Terminal) → Placed v.columns v.rows (m.lists s) t → RowsLastIn parts (Some v) s new next plays t events)
 
   -- after a script that the terminal didn't break off, on one that tells its state, the untouched rows and those of the lists are read
@@ -207,7 +216,7 @@ module _ {State Call Answer : Type 0} (m : Machine State Call Answer) (z : Sizin
       (rate making : ℕ) → 0 < rate → rate < 256 → (parts : List (Part Call Answer)) (old : Option TermView) (s : State) (new : Option TermView) (next : State)
       (plays : Plays parts old s new next) → limiter s ≡ Some (draw_limiter rate making) →
       let moments = unforced_in parts old s new next plays in
-      (last : ℕ) → last_or None moments ≡ Some last → length moments ≤ 20 + (last - making) / (draw_limiter rate making).interval
+      (last : ℕ) → last_or None moments ≡ Some last → length moments ≤ burst + (last - making) / (draw_limiter rate making).interval
 
   -- the same from any state of a limiter
   abbrev pub ScriptsAreBoundedFrom : (State → Option Limiter) → Type 0

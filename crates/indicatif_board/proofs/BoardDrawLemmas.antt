@@ -29,7 +29,7 @@ pub asked_so : (ask : Ask) (now : ℕ) (limiter own next : Option Limiter) → l
 asked_so ask now limiter own next same allowed next_is =
     ap (asked_of ask now) (sym same) ∙ ap (λ a. (a, (asked_of ask now limiter).1)) allowed ∙ ap (λ l. (true, l)) (sym next_is)
 
-module _ {K T : Type 0} (tracks : Tracking K) (view : T → TermView) (board_id : ℕ) (takes : Bool) (ask : Ask) (now : ℕ)
+module _ {K T : Type 0} (tracks : Tracking K) (view : T → TermView) (mark : ℕ) (takes : Bool) (ask : Ask) (now : ℕ)
     (writing : Writing) (s laid : BoardState (BarRecord K)) (lays : Bool) (old : Engine T)
     (frame : List Segment) (members : List (MemberValue K)) (made : ℕ) (bottom : Bool) (holds : Holds frame members made bottom laid) where
   abbrev d : Draw (BoardState (BarRecord K))
@@ -53,12 +53,12 @@ module _ {K T : Type 0} (tracks : Tracking K) (view : T → TermView) (board_id 
   pub frame_drew : (P : BoardState (BarRecord K) → Type 0) (new : Engine T) (r : Result Unit Refusal) (gone : ℕ) → gone ≡ leaders laid.members → is_no ask ≡ false →
       0 < (view (engine_term old)).columns → d.allowed ≡ true →
       laid.lists ≡ s.lists → Fits old s.lists → PutsFrame view writing bottom gone (map bar_lines frame) old new r →
-      MatchResult r (λ _. P d.written) (λ _. P d.ready × P d.broken) → DrewBy (board (board_bars tracks) board_id) P view old new d s.lists (drawn_answer r)
+      MatchResult r (λ _. P d.written) (λ _. P d.ready × P d.broken) → DrewBy (board (board_bars tracks) mark) P view old new d s.lists (drawn_answer r)
   frame_drew P new r gone gone_is asked some allowed lists_stay fits puts held =
       let p = subst (λ f. PutsFrame view writing laid.bottom (leaders laid.members) f old new r) holds.frame_is
       (subst (λ k. PutsFrame view writing laid.bottom k (map bar_lines frame) old new r) gone_is (subst (λ b. PutsFrame view writing b gone (map bar_lines frame) old new r) holds.bottom_is puts)) in
       let w = λ (x : Lists). written_lists writing (target_of (Some (view (engine_term old)))) laid.bottom (leaders laid.members) (frame_of laid.members) x in
-      drew (board (board_bars tracks) board_id) P view old new d s.lists (record { asked = asked; some = some; allowed = allowed; fits = fits; lists_stay = lists_stay; lists_go = refl }) r held
+      drew (board (board_bars tracks) mark) P view old new d s.lists (record { asked = asked; some = some; allowed = allowed; fits = fits; lists_stay = lists_stay; lists_go = refl }) r held
       (record {
         answers = p.answers;
         memory = p.memory;

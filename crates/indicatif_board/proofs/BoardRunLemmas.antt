@@ -23,13 +23,13 @@ kept_soundly : (columns number : ℕ) (l : Lists) → l.failed ≡ false → (ke
 unfolding kept_of
 kept_soundly columns number l sound = cond_both (is_first number l.live.segments) (passed columns 1 l) l (λ x. x.failed ≡ false) (λ a. sound) (λ a. sound)
 
-module _ {B C : Type 0} (kind : BoardKind B C) (board_id : ℕ) where
+module _ {B C : Type 0} (kind : BoardKind B C) (mark : ℕ) where
   -- the rows of a board aren't forgotten
   abbrev RowsStand : BoardState B → Type 0
   RowsStand s = s.lists.failed ≡ false
 
   abbrev BoardGoes : BoardState B → Deed (BoardState B) Answer → Type 0
-  BoardGoes s deed = GoesSoundly (board kind board_id) s deed
+  BoardGoes s deed = GoesSoundly (board kind mark) s deed
 
   unless_refused : (s : BoardState B) (refused : Option Refusal) (deed : Deed (BoardState B) Answer) → BoardGoes s deed → BoardGoes s (or_refused refused deed s)
   unless_refused s None deed goes = goes
@@ -39,9 +39,9 @@ module _ {B C : Type 0} (kind : BoardKind B C) (board_id : ℕ) where
   either s true one other a b = a
   either s false one other a b = b
 
-  inserted_soundly : (s : BoardState B) (at : Location) (entrant : Entrant B) → BoardGoes s (inserted board_id at entrant s)
+  inserted_soundly : (s : BoardState B) (at : Location) (entrant : Entrant B) → BoardGoes s (inserted mark at entrant s)
   inserted_soundly s at (New bar) = either s (s.made == 2 ^ 64) _ _ (λ sound. sound) (λ sound. sound)
-  inserted_soundly s at (Old id) = unless_refused s (turned_away board_id id s) _ (λ sound. sound)
+  inserted_soundly s at (Old id) = unless_refused s (turned_away mark id s) _ (λ sound. sound)
 
   taken_out_soundly : (s : BoardState B) (number : ℕ) → RowsStand s → RowsStand (taken_out number s)
   taken_out_soundly s number sound = cond_both (is_member number s.members) (record s { members = without number s.members }) s RowsStand (λ a. sound) (λ a. sound)
@@ -58,7 +58,7 @@ module _ {B C : Type 0} (kind : BoardKind B C) (board_id : ℕ) where
 
   draw_soundly : (target : Target) (takes : Bool) (ask : Ask) (now : ℕ) (writing : Writing) (s after laid : BoardState B) (lays : Bool) →
       (RowsStand s → RowsStand after) → (RowsStand s → RowsStand laid) →
-      DrawsSoundly (board kind board_id) s (draw_of target takes ask now writing after laid lays)
+      DrawsSoundly (board kind mark) s (draw_of target takes ask now writing after laid lays)
   draw_soundly target takes ask now writing s after laid lays numbers ready =
       record { numbers = numbers; ready = ready; written = λ sound. written_soundly writing target laid.bottom (leaders laid.members) (frame_of laid.members) laid.lists }
 
@@ -68,12 +68,12 @@ module _ {B C : Type 0} (kind : BoardKind B C) (board_id : ℕ) where
       BoardGoes s (draws (draw_of target takes ask now writing after laid lays))
   only_draws target takes ask now writing s after laid lays numbers ready = (draw_soundly target takes ask now writing s after laid lays numbers ready, (λ x sound. sound), λ x sound. sound)
 
-  pub board_goes : (target : Target) (call : Call B C) (now : ℕ) (s : BoardState B) → BoardGoes s ((board kind board_id).deed target call now s)
-  board_goes target (Insert at entrant) now s = unless_refused s (anchor_turned_away board_id at s) _ (inserted_soundly s at entrant)
-  board_goes target (Remove id) now s = either s (not (id.board == board_id)) _ _ (λ sound. sound) (taken_out_soundly s id.number)
+  pub board_goes : (target : Target) (call : Call B C) (now : ℕ) (s : BoardState B) → BoardGoes s ((board kind mark).deed target call now s)
+  board_goes target (Insert at entrant) now s = unless_refused s (anchor_turned_away mark at s) _ (inserted_soundly s at entrant)
+  board_goes target (Remove id) now s = either s (not (id.mark == mark)) _ _ (λ sound. sound) (taken_out_soundly s id.number)
   board_goes target (Drop id) now s =
       let after = bar_changed id.number (kind.left now) s in
-      unless_refused s (turned_away board_id id s) _ (
+      unless_refused s (turned_away mark id s) _ (
         draw_soundly target (said_of false (kind.left_takes now) id.number s.members) (said_of No (kind.left_asked now) id.number s.members) now Frame s after
             (laid_out kind target now id.number after) (layout_takes kind id.number after) (λ sound. sound) (λ sound. sound),
         left_soundly target id.number,
@@ -81,18 +81,18 @@ module _ {B C : Type 0} (kind : BoardKind B C) (board_id : ℕ) where
       )
   board_goes target (Log text) now s = only_draws target false Forced now (TextAndFrame (text_lines (logged_lines text))) s s s false (λ sound. sound) (λ sound. sound)
   board_goes target (BarLog id text) now s =
-      unless_refused s (turned_away board_id id s) _
+      unless_refused s (turned_away mark id s) _
       (only_draws target false Forced now (TextAndFrame (text_lines (logged_lines text))) s s (laid_out kind target now id.number s) (layout_takes kind id.number s) (λ sound. sound) (λ sound. sound))
   board_goes target Clear now s = only_draws target false Forced now NoFrame s s s false (λ sound. sound) (λ sound. sound)
   board_goes target Redraw now s = only_draws target false Forced now Frame s s s false (λ sound. sound) (λ sound. sound)
   board_goes target (Align bottom) now s = λ sound. sound
   board_goes target (Tell id command) now s =
       let after = bar_changed id.number (λ bar. (kind.bars.after command bar now).0) s in
-      unless_refused s (turned_away board_id id s) _
+      unless_refused s (turned_away mark id s) _
       (unless_refused s (said_of None (λ bar. kind.bars.refused command bar now) id.number s.members) _
       (only_draws target (said_of false (λ bar. kind.bars.takes command bar now) id.number s.members) (said_of No (λ bar. (kind.bars.after command bar now).1) id.number s.members) now Frame s after
       (laid_out kind target now id.number after) (layout_takes kind id.number after) (λ sound. sound) (λ sound. sound)))
 
   pub board_read_after : (calls : List (Call B C × ℕ)) (answers : List Answer) (v : TermView) (s : BoardState B) (new : Option TermView) (next : BoardState B) →
-      IsFalse s.lists.failed → ReadsAfter (board kind board_id) calls answers v s new next
-  board_read_after = sound_read_after (board kind board_id) board_goes
+      IsFalse s.lists.failed → ReadsAfter (board kind mark) calls answers v s new next
+  board_read_after = sound_read_after (board kind mark) board_goes

@@ -51,26 +51,26 @@ module _ {B : Type 0} (now : ℕ) (s : BoardState B) where
   drawn : (d : Draw (BoardState B)) → AsksLimiter limit now s d → Asks (draws d)
   drawn d asks = (asks, (λ x. refl), λ x. refl)
 
-  insert_asks : (board_id : ℕ) (at : Location) (entrant : Entrant B) → Asks (inserted board_id at entrant s)
-  insert_asks board_id at (New bar) = either (s.made == 2 ^ 64) _ _ refl refl
-  insert_asks board_id at (Old id) = unless_refused (turned_away board_id id s) _ refl
+  insert_asks : (mark : ℕ) (at : Location) (entrant : Entrant B) → Asks (inserted mark at entrant s)
+  insert_asks mark at (New bar) = either (s.made == 2 ^ 64) _ _ refl refl
+  insert_asks mark at (Old id) = unless_refused (turned_away mark id s) _ refl
 
 -- every call of a board leaves its limiter to its draw
-pub board_limited : {B C : Type 0} (kind : BoardKind B C) (board_id : ℕ) → IsLimited (board kind board_id) (λ s. s.limiter)
-board_limited kind board_id target (Insert at entrant) now s = unless_refused now s (anchor_turned_away board_id at s) _ (insert_asks now s board_id at entrant)
-board_limited kind board_id target (Remove id) now s =
-    either now s (not (id.board == board_id)) _ _ refl (taken_out_limits id.number s (is_member id.number s.members))
-board_limited kind board_id target (Drop id) now s =
-    unless_refused now s (turned_away board_id id s) _
+pub board_limited : {B C : Type 0} (kind : BoardKind B C) (mark : ℕ) → IsLimited (board kind mark) (λ s. s.limiter)
+board_limited kind mark target (Insert at entrant) now s = unless_refused now s (anchor_turned_away mark at s) _ (insert_asks now s mark at entrant)
+board_limited kind mark target (Remove id) now s =
+    either now s (not (id.mark == mark)) _ _ refl (taken_out_limits id.number s (is_member id.number s.members))
+board_limited kind mark target (Drop id) now s =
+    unless_refused now s (turned_away mark id s) _
     (record { before = refl; decides = refl; asked = refl; written = refl; broken = refl }, left_limits target id.number, λ x. refl)
-board_limited kind board_id target (Log text) now s = drawn now s _ (record { before = refl; decides = refl; asked = refl; written = refl; broken = refl })
-board_limited kind board_id target (BarLog id text) now s =
-    unless_refused now s (turned_away board_id id s) _ (drawn now s _ (record { before = refl; decides = refl; asked = refl; written = refl; broken = refl }))
-board_limited kind board_id target Clear now s = drawn now s _ (record { before = refl; decides = refl; asked = refl; written = refl; broken = refl })
-board_limited kind board_id target Redraw now s = drawn now s _ (record { before = refl; decides = refl; asked = refl; written = refl; broken = refl })
-board_limited kind board_id target (Align bottom) now s = refl
-board_limited kind board_id target (Tell id command) now s =
-    unless_refused now s (turned_away board_id id s) _
+board_limited kind mark target (Log text) now s = drawn now s _ (record { before = refl; decides = refl; asked = refl; written = refl; broken = refl })
+board_limited kind mark target (BarLog id text) now s =
+    unless_refused now s (turned_away mark id s) _ (drawn now s _ (record { before = refl; decides = refl; asked = refl; written = refl; broken = refl }))
+board_limited kind mark target Clear now s = drawn now s _ (record { before = refl; decides = refl; asked = refl; written = refl; broken = refl })
+board_limited kind mark target Redraw now s = drawn now s _ (record { before = refl; decides = refl; asked = refl; written = refl; broken = refl })
+board_limited kind mark target (Align bottom) now s = refl
+board_limited kind mark target (Tell id command) now s =
+    unless_refused now s (turned_away mark id s) _
     (unless_refused now s (said_of None (λ bar. kind.bars.refused command bar now) id.number s.members) _
     (drawn now s _ (record { before = refl; decides = refl; asked = refl; written = refl; broken = refl })))
 
@@ -79,6 +79,6 @@ free_by : {S A : Type 0} (limiter : S → Option Limiter) (now : ℕ) (s : S) (d
 free_by limiter now s (AtOnce takes answer next) none asks = tt
 free_by limiter now s (Draws d ends breaks) none asks = asks.0.decides ∙ allowed_without d.ask now (limiter s) none
 
-pub board_free : {B C : Type 0} (kind : BoardKind B C) (board_id : ℕ) (target : Target) (call : Call B C) (now : ℕ) (s : BoardState B) → s.limiter ≡ None →
-    IsAllowed ((board kind board_id).deed target call now s)
-board_free kind board_id target call now s none = free_by (λ x. x.limiter) now s ((board kind board_id).deed target call now s) none (board_limited kind board_id target call now s)
+pub board_free : {B C : Type 0} (kind : BoardKind B C) (mark : ℕ) (target : Target) (call : Call B C) (now : ℕ) (s : BoardState B) → s.limiter ≡ None →
+    IsAllowed ((board kind mark).deed target call now s)
+board_free kind mark target call now s none = free_by (λ x. x.limiter) now s ((board kind mark).deed target call now s) none (board_limited kind mark target call now s)

@@ -45,8 +45,7 @@ module _ {S C A : Type 0} (m : Machine S C A) (P : S → Type 0) where
 
   call_keeps : (target : Target) (s next : S) (deed : Deed S A) (answer : A) → Keeps deed → Leads m target s deed answer next → is_failure (m.tells answer) ≡ false → P s → P next
   call_keeps target s next (AtOnce takes said after) answer keeps (inl made) fine is = subst P (sym (ap (λ o. o.1) made)) keeps
-  call_keeps target s next (AtOnce takes said after) answer keeps (inr (inl short)) fine is = subst P (sym short.1.1) is
-  call_keeps target s next (AtOnce takes said after) answer keeps (inr (inr broken)) fine is = absurd broken.2
+  call_keeps target s next (AtOnce takes said after) answer keeps (inr short) fine is = subst P (sym short.2) is
   call_keeps target s next (Draws d ends breaks) answer keeps (inl made) fine is =
       subst P (sym (ap (λ o. o.1) made)) (keeps.3 (drawn_by target d).1 (drawn_keeps P target d keeps.0 keeps.1 keeps.2))
   call_keeps target s next (Draws d ends breaks) answer keeps (inr (inl short)) fine is = elim short.1 [
@@ -115,12 +114,12 @@ written_above NoFrame target bottom gone frame first l b = subst (Begin first) (
 
 -- ---- a board's
 
-module _ {B C : Type 0} (kind : BoardKind B C) (board_id : ℕ) (first : List (List Cell)) where
+module _ {B C : Type 0} (kind : BoardKind B C) (mark : ℕ) (first : List (List Cell)) where
   abbrev Stand : BoardState B → Type 0
   Stand s = Begin first s.lists.above
 
   abbrev Goes : Deed (BoardState B) Answer → Type 0
-  Goes deed = Keeps (board kind board_id) Stand deed
+  Goes deed = Keeps (board kind mark) Stand deed
 
   unless_refused : (s : BoardState B) (refused : Option Refusal) (deed : Deed (BoardState B) Answer) → Stand s → Goes deed → Goes (or_refused refused deed s)
   unless_refused s None deed is goes = goes
@@ -130,9 +129,9 @@ module _ {B C : Type 0} (kind : BoardKind B C) (board_id : ℕ) (first : List (L
   either true one other a b = a
   either false one other a b = b
 
-  inserted_goes : (s : BoardState B) (at : Location) (entrant : Entrant B) → Stand s → Goes (inserted board_id at entrant s)
+  inserted_goes : (s : BoardState B) (at : Location) (entrant : Entrant B) → Stand s → Goes (inserted mark at entrant s)
   inserted_goes s at (New bar) is = either (s.made == 2 ^ 64) _ _ is is
-  inserted_goes s at (Old id) is = unless_refused s (turned_away board_id id s) _ is is
+  inserted_goes s at (Old id) is = unless_refused s (turned_away mark id s) _ is is
 
   taken_out_stands : (s : BoardState B) (number : ℕ) → Stand s → Stand (taken_out number s)
   taken_out_stands s number is = cond_both (is_member number s.members) (record s { members = without number s.members }) s Stand (λ a. is) (λ a. is)
@@ -152,32 +151,32 @@ module _ {B C : Type 0} (kind : BoardKind B C) (board_id : ℕ) (first : List (L
   draw_goes target takes ask now writing after laid lays is more =
       (is, more, written_above writing target laid.bottom (leaders laid.members) (frame_of laid.members) first laid.lists more, (λ x p. p), λ x p. p)
 
-  call_goes : (target : Target) (call : Call B C) (now : ℕ) (s : BoardState B) → Stand s → Goes ((board kind board_id).deed target call now s)
-  call_goes target (Insert at entrant) now s is = unless_refused s (anchor_turned_away board_id at s) _ is (inserted_goes s at entrant is)
-  call_goes target (Remove id) now s is = either (not (id.board == board_id)) _ _ is (taken_out_stands s id.number is)
+  call_goes : (target : Target) (call : Call B C) (now : ℕ) (s : BoardState B) → Stand s → Goes ((board kind mark).deed target call now s)
+  call_goes target (Insert at entrant) now s is = unless_refused s (anchor_turned_away mark at s) _ is (inserted_goes s at entrant is)
+  call_goes target (Remove id) now s is = either (not (id.mark == mark)) _ _ is (taken_out_stands s id.number is)
   call_goes target (Drop id) now s is =
       let after = bar_changed id.number (kind.left now) s in
       let d = draw_goes target (said_of false (kind.left_takes now) id.number s.members) (said_of No (kind.left_asked now) id.number s.members) now Frame after
       (laid_out kind target now id.number after) (layout_takes kind id.number after) is is in
-      unless_refused s (turned_away board_id id s) _ is (d.0, d.1, d.2, left_stands target id.number, λ x p. p)
+      unless_refused s (turned_away mark id s) _ is (d.0, d.1, d.2, left_stands target id.number, λ x p. p)
   call_goes target (Log text) now s is = draw_goes target false Forced now (TextAndFrame (text_lines (logged_lines text))) s s false is is
   call_goes target (BarLog id text) now s is =
-      unless_refused s (turned_away board_id id s) _ is
+      unless_refused s (turned_away mark id s) _ is
       (draw_goes target false Forced now (TextAndFrame (text_lines (logged_lines text))) s (laid_out kind target now id.number s) (layout_takes kind id.number s) is is)
   call_goes target Clear now s is = draw_goes target false Forced now NoFrame s s false is is
   call_goes target Redraw now s is = draw_goes target false Forced now Frame s s false is is
   call_goes target (Align bottom) now s is = is
   call_goes target (Tell id command) now s is =
       let after = bar_changed id.number (λ bar. (kind.bars.after command bar now).0) s in
-      unless_refused s (turned_away board_id id s) _ is
+      unless_refused s (turned_away mark id s) _ is
       (unless_refused s (said_of None (λ bar. kind.bars.refused command bar now) id.number s.members) _ is
       (draw_goes target (said_of false (λ bar. kind.bars.takes command bar now) id.number s.members) (said_of No (λ bar. (kind.bars.after command bar now).1) id.number s.members) now Frame after
       (laid_out kind target now id.number after) (layout_takes kind id.number after) is is))
 
-pub above_only_grows : {B C : Type 0} (kind : BoardKind B C) (board_id : ℕ) → AboveOnlyGrows (board kind board_id)
-above_only_grows kind board_id calls answers old s new next run fine =
+pub above_only_grows : {B C : Type 0} (kind : BoardKind B C) (mark : ℕ) → AboveOnlyGrows (board kind mark)
+above_only_grows kind mark calls answers old s new next run fine =
     let first = s.lists.above in
-    run_keeps (board kind board_id) (Stand kind board_id first) (call_goes kind board_id first) calls answers old s new next run fine ([], sym (append-nil first))
+    run_keeps (board kind mark) (Stand kind mark first) (call_goes kind mark first) calls answers old s new next run fine ([], sym (append-nil first))
 
 -- ---- an entry that logs a text
 
@@ -196,8 +195,8 @@ said_so : (r : Result Drawn Refusal) → Drew Yes ≡ says r → r ≡ Ok Yes
 said_so (Ok d) e = cc e
 said_so (Err refusal) e = absurd (cc e)
 
-module _ {B C : Type 0} (kind : BoardKind B C) (board_id : ℕ) where
-  draws_yes : (target : Target) (s next : BoardState B) (d : Draw (BoardState B)) → Leads (board kind board_id) target s (draws d) (Drew Yes) next → next ≡ d.written
+module _ {B C : Type 0} (kind : BoardKind B C) (mark : ℕ) where
+  draws_yes : (target : Target) (s next : BoardState B) (d : Draw (BoardState B)) → Leads (board kind mark) target s (draws d) (Drew Yes) next → next ≡ d.written
   draws_yes target s next d (inl made) =
       let yes = said_so (drawn_by target d).0 (ap (λ o. o.0) made) in
       ap (λ o. o.1) made ∙ drawn_yes target d yes
@@ -206,11 +205,10 @@ module _ {B C : Type 0} (kind : BoardKind B C) (board_id : ℕ) where
 
   -- one that wasn't turned away
   unless_away : (target : Target) (s next : BoardState B) (refused : Option Refusal) (d : Draw (BoardState B)) →
-      Leads (board kind board_id) target s (or_refused refused (draws d) s) (Drew Yes) next → next ≡ d.written
+      Leads (board kind mark) target s (or_refused refused (draws d) s) (Drew Yes) next → next ≡ d.written
   unless_away target s next None d led = draws_yes target s next d led
   unless_away target s next (Some e) d (inl made) = absurd (let q = ap (λ o. o.0) made in cc q)
-  unless_away target s next (Some e) d (inr (inl short)) = absurd (let q = short.0 in cc q)
-  unless_away target s next (Some e) d (inr (inr broken)) = absurd (let q = broken.1 in cc q)
+  unless_away target s next (Some e) d (inr short) = absurd (let q = short.0 in cc q)
 
   -- the text's rows
   abbrev rows_on : Target → List ℕ → List (List Cell)
@@ -223,7 +221,7 @@ module _ {B C : Type 0} (kind : BoardKind B C) (board_id : ℕ) where
       (b.0, b.1 ∙ ap (λ (l : Lists). (l.above ++ rows_on target text) ++ b.0) same)
 
   logged_now : (target : Target) (call : Call B C) (now : ℕ) (text : List ℕ) (s next : BoardState B) → text_of call ≡ Some text →
-      Leads (board kind board_id) target s ((board kind board_id).deed target call now s) (Drew Yes) next → Begin (s.lists.above ++ rows_on target text) next.lists.above
+      Leads (board kind mark) target s ((board kind mark).deed target call now s) (Drew Yes) next → Begin (s.lists.above ++ rows_on target text) next.lists.above
   logged_now target (Log other) now text s next is led =
       let same : other ≡ text = cc is in
       let made = draws_yes target s next (log_of kind target other now s s false) led in
@@ -233,7 +231,7 @@ module _ {B C : Type 0} (kind : BoardKind B C) (board_id : ℕ) where
       let same : other ≡ text = cc is in
       let laid = laid_out kind target now id.number s in
       let lays = layout_takes kind id.number s in
-      let made = unless_away target s next (turned_away board_id id s) (log_of kind target other now s laid lays) led in
+      let made = unless_away target s next (turned_away mark id s) (log_of kind target other now s laid lays) led in
       subst (λ x. Begin (s.lists.above ++ rows_on target x) next.lists.above) same
       (subst (λ x. Begin (s.lists.above ++ rows_on target other) x.lists.above) (sym made) (log_stands target other now s laid lays refl))
   logged_now target (Insert at entrant) now text s next is led = absurd (cc is)
@@ -251,26 +249,26 @@ size_stays m (Some v) new call s next answer made =
     let counted = made.writes.2.counted in
     ap target_of made.writes.1 ∙ rw (counted.columns_stay, counted.rows_stay) refl
 
-module _ {K : Type 0} (m : Tracking K) (board_id : ℕ) where
+module _ {K : Type 0} (m : Tracking K) (mark : ℕ) where
   abbrev Rows : Target → List ℕ → List (List Cell) → Type 0
   Rows target text above = (front : List (List Cell)) × (rest : List (List Cell)) × (above ≡ front ++ flat_map (rows_of target.columns) (text_lines (logged_lines text)) ++ rest)
 
   logged_then : (target : Target) (before after : List (BoardStep K)) (call : Call (BarRecord K) (Command K)) (now : ℕ) (text : List ℕ) (old : Option TermView) (s : BoardState (BarRecord K))
       (new : Option TermView) (next : BoardState (BarRecord K)) → text_of call ≡ Some text → target_of old ≡ target → AreUnbroken after →
-      (let steps = before ++ record { call = call; now = now; answer = Drew Yes } ∷ after in Runs (board (board_bars m) board_id) (calls_of steps) (answers_of steps) old s new next) →
+      (let steps = before ++ record { call = call; now = now; answer = Drew Yes } ∷ after in Runs (board (board_bars m) mark) (calls_of steps) (answers_of steps) old s new next) →
       Rows target text next.lists.above
   logged_then target [] after call now text old s new next is size fine run =
       let x = run.1 in
       let rows = flat_map (rows_of target.columns) (text_lines (logged_lines text)) in
       let here = subst (λ t. Begin (s.lists.above ++ flat_map (rows_of t.columns) (text_lines (logged_lines text))) x.lists.above) size
-      (logged_now (board_bars m) board_id (target_of old) call now text s x is run.2.leads) in
-      let later = above_only_grows (board_bars m) board_id (calls_of after) (answers_of after) run.0 x new next run.3 fine in (
+      (logged_now (board_bars m) mark (target_of old) call now text s x is run.2.leads) in
+      let later = above_only_grows (board_bars m) mark (calls_of after) (answers_of after) run.0 x new next run.3 fine in (
         s.lists.above,
         here.0 ++ later.0,
         later.1 ∙ ap (λ a. a ++ later.0) here.1 ∙ append_assoc (s.lists.above ++ rows) here.0 later.0,
       )
   logged_then target (e ∷ before) after call now text old s new next is size fine run =
-      let machine = board (board_bars m) board_id in
+      let machine = board (board_bars m) mark in
       logged_then target before after call now text run.0 run.1 new next is (size_stays machine old run.0 (e.call, e.now) s run.1 e.answer run.2 ∙ size) fine run.3
 
 -- ---- the laws
@@ -278,22 +276,22 @@ module _ {K : Type 0} (m : Tracking K) (board_id : ℕ) where
 module _ {K T : Type 0} (m : Tracking K) where
   pub follows : FollowsFromItsCalls T m
   follows opened r last run fine =
-      let machine = board (board_bars m) r.board_id in
+      let machine = board (board_bars m) r.mark in
       subst (λ t. outcomes machine t (calls_of r.steps) (opening_board r.limiter) ≡ (answers_of r.steps, run.state)) run.size
       (one_outcome machine (calls_of r.steps) (answers_of r.steps) opened (opening_board r.limiter) last run.state run.runs fine)
 
   pub bounded : HasBoundedDraws T m
   bounded opened r last run rate making some few is =
-      runs_bounded (board (board_bars m) r.board_id) (λ s. s.limiter) (board_limited (board_bars m) r.board_id) rate making some few (calls_of r.steps) (answers_of r.steps) opened
+      runs_bounded (board (board_bars m) r.mark) (λ s. s.limiter) (board_limited (board_bars m) r.mark) rate making some few (calls_of r.steps) (answers_of r.steps) opened
       (opening_board r.limiter) last run.state run.runs is
 
   pub logged_stand : LoggedRowsStand T m
   logged_stand opened r last run before after call now text is split fine =
-      logged_then m r.board_id r.target before after call now text opened (opening_board r.limiter) last run.state is run.size fine
-      (subst (λ steps. Runs (board (board_bars m) r.board_id) (calls_of steps) (answers_of steps) opened (opening_board r.limiter) last run.state) split run.runs)
+      logged_then m r.mark r.target before after call now text opened (opening_board r.limiter) last run.state is run.size fine
+      (subst (λ steps. Runs (board (board_bars m) r.mark) (calls_of steps) (answers_of steps) opened (opening_board r.limiter) last run.state) split run.runs)
 
   pub read_so : IsReadAsItsRun T m
   read_so v r last run fine plain opening starts =
       let begun = opening_board r.limiter in
-      let texts = board_runs_are_plain m r.board_id (calls_of r.steps) (answers_of r.steps) (Some v) begun last run.state run.runs (All-from_recursion (IsPlainMember m) [] tt) plain in
-      board_read_after (board_bars m) r.board_id (calls_of r.steps) (answers_of r.steps) v begun last run.state refl run.runs fine texts.0 opening starts
+      let texts = board_runs_are_plain m r.mark (calls_of r.steps) (answers_of r.steps) (Some v) begun last run.state run.runs (All-from_recursion (IsPlainMember m) [] tt) plain in
+      board_read_after (board_bars m) r.mark (calls_of r.steps) (answers_of r.steps) v begun last run.state refl run.runs fine texts.0 opening starts

@@ -6,6 +6,8 @@ pub mod SlotLemmas
 pub mod MemberLemmas
 pub mod BoardDrawLemmas
 pub mod BoardCallLemmas
+pub mod KeepsLemmas
+pub mod AnchorLemmas
 pub mod DropLemmas
 pub mod BoundLemmas
 pub mod BoardRunLemmas

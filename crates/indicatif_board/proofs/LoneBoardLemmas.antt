@@ -11,12 +11,12 @@ use Rattle.indicatif_term.specs.Frames.{some_wide}
 use Rattle.indicatif_bar.specs.Machines.{Target, target_of, Draw, Draws, Leads, is_no, drawn_by}
 use Rattle.indicatif_bar.specs.Runs.{CallMade, lines_by}
 use Rattle.indicatif_bar.specs.Shown.{WritesLinesOn}
-use Rattle.indicatif_bar.specs.Lone.{LoneState, LoneCall, Obey, Log, Clear, bar_after, draw_of_call, deed_unless, lines_take, refused_at_once, writing_of, lone}
+use Rattle.indicatif_bar.specs.Lone.{LoneState, LoneCall, Obey, Log, Clear, draw_of_call, deed_unless, refused_at_once, lone}
 use Rattle.indicatif_board.specs.Boards.{BoardKind, BoardState, says, drawn_of_said, turned_away, or_refused, draws, board}
 use Rattle.indicatif_board.specs.LoneLaws.{first_bar, with_one, call_on_board, on_board, OneIsTakenIn, LoneRunsAreBoardRuns}
 
 pub one_taken_in : {B : Type 0} → OneIsTakenIn B
-one_taken_in board_id bar limiter = refl
+one_taken_in mark bar limiter = refl
 
 -- both of a choice are alike where both of its sides are
 if_both : {X Y : Type 0} (P : X → Y → Type 0) (b : Bool) (x x' : X) (y y' : Y) → P x y → P x' y' → P (if b then x else x') (if b then y else y')
@@ -55,11 +55,11 @@ module _ {B : Type 0} where
       (if_both AreAlike (some_wide target.columns d.lines) (Err TooWide, d.ready) (Ok Yes, d.written) (Err TooWide, ready) (Ok Yes, with_one laid d.written)
       (refl, laid, refl) (refl, laid, refl)))))
 
-module _ {B C : Type 0} (kind : BoardKind B C) (board_id : ℕ) (target : Target) where
+module _ {B C : Type 0} (kind : BoardKind B C) (mark : ℕ) (target : Target) where
   -- what a draw of the lone bar leads to, that of the board does, whose layout takes memory where the lone bar's does
   draw_carried : (lays : Bool) (stored laid : List (List ℕ)) (d : Draw (LoneState B)) → (d.lines_take ≡ true → lays ≡ true) → (s next : LoneState B) (answer : Result Drawn Refusal) →
       Leads (lone kind.bars) target s (Draws d (λ x. x) (λ x. x)) answer next →
-      (kept : List (List ℕ)) × Leads (board kind board_id) target (with_one stored s) (draws (drawn_on lays stored laid d)) (says answer) (with_one kept next)
+      (kept : List (List ℕ)) × Leads (board kind mark) target (with_one stored s) (draws (drawn_on lays stored laid d)) (says answer) (with_one kept next)
   draw_carried lays stored laid d take s next answer (inl made) =
       let o = drawn_by target d in
       let p = drawn_by target (drawn_on lays stored laid d) in
@@ -79,11 +79,10 @@ module _ {B C : Type 0} (kind : BoardKind B C) (board_id : ℕ) (target : Target
   -- the same of a call that may be refused at once
   deed_carried : (why : Option Refusal) (lays : Bool) (stored laid : List (List ℕ)) (d : Draw (LoneState B)) → (d.lines_take ≡ true → lays ≡ true) →
       (s next : LoneState B) (answer : Result Drawn Refusal) → Leads (lone kind.bars) target s (deed_unless kind.bars why d s) answer next →
-      (kept : List (List ℕ)) × Leads (board kind board_id) target (with_one stored s) (or_refused why (draws (drawn_on lays stored laid d)) (with_one stored s)) (says answer) (with_one kept next)
+      (kept : List (List ℕ)) × Leads (board kind mark) target (with_one stored s) (or_refused why (draws (drawn_on lays stored laid d)) (with_one stored s)) (says answer) (with_one kept next)
   deed_carried None lays stored laid d take s next answer led = draw_carried lays stored laid d take s next answer led
   deed_carried (Some e) lays stored laid d take s next answer (inl made) = (stored, inl (ap (λ (x : Result Drawn Refusal × LoneState B). (says x.0, with_one stored x.1)) made))
-  deed_carried (Some e) lays stored laid d take s next answer (inr (inl short)) = (stored, inr (inl (ap says short.0, (short.1.0, ap (with_one stored) short.1.1))))
-  deed_carried (Some e) lays stored laid d take s next answer (inr (inr broken)) = absurd broken.2
+  deed_carried (Some e) lays stored laid d take s next answer (inr short) = (stored, inr (ap says short.0, short.1, ap (with_one stored) short.2))
 
   -- the lines to write are the same
   lines_carried : (why : Option Refusal) (lays : Bool) (stored laid : List (List ℕ)) (d : Draw (LoneState B)) (s : LoneState B) →
@@ -92,8 +91,8 @@ module _ {B C : Type 0} (kind : BoardKind B C) (board_id : ℕ) (target : Target
   lines_carried (Some e) lays stored laid d s = refl
 
   -- the one bar is meant
-  is_meant : (stored : List (List ℕ)) (s : LoneState B) → turned_away board_id (first_bar board_id) (with_one stored s) ≡ None
-  is_meant stored s = rw (eq-eqb board_id board_id refl) refl
+  is_meant : (stored : List (List ℕ)) (s : LoneState B) → turned_away mark (first_bar mark) (with_one stored s) ≡ None
+  is_meant stored s = rw (eq-eqb mark mark refl) refl
 
   -- what the board stores of the bar for a call
   abbrev laid_for : LoneCall C → ℕ → LoneState B → List (List ℕ) → List (List ℕ)
@@ -103,11 +102,19 @@ module _ {B C : Type 0} (kind : BoardKind B C) (board_id : ℕ) (target : Target
 
   -- whether the board's layout takes memory then: also where the limiter won't allow the draw
   abbrev lays_for : LoneCall C → ℕ → LoneState B → Bool
-  lays_for call now s = lines_take kind.bars (writing_of call) (bar_after kind.bars call now s.bar)
+  lays_for (Obey command) now s = kind.bars.lays (kind.bars.after command s.bar now).0
+  lays_for (Log text) now s = kind.bars.lays s.bar
+  lays_for Clear now s = false
+
+  -- where the lone bar's lines take memory, the board's layout does
+  lays_too : (call : LoneCall C) (now : ℕ) (s : LoneState B) → (draw_of_call kind.bars target call now s).lines_take ≡ true → lays_for call now s ≡ true
+  lays_too (Obey command) now s take = (and_parts (draw_of_call kind.bars target (Obey command) now s).allowed (lays_for (Obey command) now s) take).1
+  lays_too (Log text) now s take = (and_parts true (lays_for (Log text) now s) take).1
+  lays_too Clear now s take = (and_parts true false take).1
 
   -- the board's deed is the lone bar's
   deed_is : (call : LoneCall C) (now : ℕ) (s : LoneState B) (stored : List (List ℕ)) →
-      (board kind board_id).deed target (call_on_board board_id call) now (with_one stored s)
+      (board kind mark).deed target (call_on_board mark call) now (with_one stored s)
       ≡ or_refused (refused_at_once kind.bars call now s.bar)
       (draws (drawn_on (lays_for call now s) stored (laid_for call now s stored) (draw_of_call kind.bars target call now s))) (with_one stored s)
   deed_is (Obey command) now s stored = rw (is_meant stored s) refl
@@ -115,22 +122,22 @@ module _ {B C : Type 0} (kind : BoardKind B C) (board_id : ℕ) (target : Target
   deed_is Clear now s stored = refl
 
 module _ {B C : Type 0} (kind : BoardKind B C) where
-  call_carried : (board_id : ℕ) (call : LoneCall C) (now : ℕ) (old new : Option TermView) (s next : LoneState B) (answer : Result Drawn Refusal) (stored : List (List ℕ)) →
+  call_carried : (mark : ℕ) (call : LoneCall C) (now : ℕ) (old new : Option TermView) (s next : LoneState B) (answer : Result Drawn Refusal) (stored : List (List ℕ)) →
       CallMade (lone kind.bars) old new (call, now) s answer next →
-      (kept : List (List ℕ)) × CallMade (board kind board_id) old new (on_board board_id (call, now)) (with_one stored s) (says answer) (with_one kept next)
-  call_carried board_id call now old new s next answer stored made =
+      (kept : List (List ℕ)) × CallMade (board kind mark) old new (on_board mark (call, now)) (with_one stored s) (says answer) (with_one kept next)
+  call_carried mark call now old new s next answer stored made =
       let target = target_of old in
       let why = refused_at_once kind.bars call now s.bar in
       let d = draw_of_call kind.bars target call now s in
-      let laid = laid_for kind board_id target call now s stored in
-      let lays = lays_for kind board_id target call now s in
-      let is = deed_is kind board_id target call now s stored in
-      let led = deed_carried kind board_id target why lays stored laid d (λ take. (and_parts d.allowed lays take).1) s next answer made.leads in
-      let lines = lines_carried kind board_id target why lays stored laid d s ∙ ap lines_by (sym is) in (
+      let laid = laid_for kind mark target call now s stored in
+      let lays = lays_for kind mark target call now s in
+      let is = deed_is kind mark target call now s stored in
+      let led = deed_carried kind mark target why lays stored laid d (lays_too kind mark target call now s) s next answer made.leads in
+      let lines = lines_carried kind mark target why lays stored laid d s ∙ ap lines_by (sym is) in (
         led.0,
         record {
-          leads = subst (λ deed. Leads (board kind board_id) target (with_one stored s) deed (says answer) (with_one led.0 next)) (sym is) led.1;
-          writes = subst (λ r. WritesLinesOn old new (lines_by ((board kind board_id).deed target (call_on_board board_id call) now (with_one stored s))) s.lists next.lists r)
+          leads = subst (λ deed. Leads (board kind mark) target (with_one stored s) deed (says answer) (with_one led.0 next)) (sym is) led.1;
+          writes = subst (λ r. WritesLinesOn old new (lines_by ((board kind mark).deed target (call_on_board mark call) now (with_one stored s))) s.lists next.lists r)
               (sym (drawn_of_said answer))
               (subst (λ ls. WritesLinesOn old new ls s.lists next.lists answer) lines made.writes);
         },

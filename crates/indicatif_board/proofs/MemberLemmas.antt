@@ -148,39 +148,39 @@ member_some number d (m ∷ ms) within = elim (cases_Bool (m.number == number)) 
       rw (there, step) (member_some number d ms (omega (arith, within, e)))
 ]
 
-turned : {K : Type 0} → (board_id : ℕ) (id : Id) (s : BoardState (BarRecord K)) (b : Bool) → id.board ≡ board_id → is_member id.number s.members ≡ b →
-    turned_away board_id id s ≡ (if b then None else Some NotMember)
-turned board_id id s b same e = rw (eq-eqb id.board board_id same, e) refl
+turned : {K : Type 0} → (mark : ℕ) (id : Id) (s : BoardState (BarRecord K)) (b : Bool) → id.mark ≡ mark → is_member id.number s.members ≡ b →
+    turned_away mark id s ≡ (if b then None else Some NotMember)
+turned mark id s b same e = rw (eq-eqb id.mark mark same, e) refl
 
-module _ {K : Type 0} (frame : List Segment) (members : List (MemberValue K)) (made : ℕ) (bottom : Bool) (board_id : ℕ) (id : Id) (s : BoardState (BarRecord K))
-    (at : ℕ) (same : id.board ≡ board_id) (holds : Holds frame members made bottom s)
+module _ {K : Type 0} (frame : List Segment) (members : List (MemberValue K)) (made : ℕ) (bottom : Bool) (mark : ℕ) (id : Id) (s : BoardState (BarRecord K))
+    (at : ℕ) (same : id.mark ≡ mark) (holds : Holds frame members made bottom s)
     (at_is : at ≡ position_or_len (λ x. x.bar == id.number) frame) where
   pub placed_at : at ≡ place_of id.number s.members
   placed_at = at_is ∙ place_is frame s.members id.number holds.frame_is
 
-  pub found_none : at ≡ length frame → turned_away board_id id s ≡ Some NotMember
-  found_none e = turned board_id id s false same (member_none id.number s.members (sym placed_at ∙ e ∙ frame_length frame s.members holds.frame_is))
+  pub found_none : at ≡ length frame → turned_away mark id s ≡ Some NotMember
+  found_none e = turned mark id s false same (member_none id.number s.members (sym placed_at ∙ e ∙ frame_length frame s.members holds.frame_is))
 
-  found_some : (item : MemberValue K) (b : Bool) → at < length s.members → item ≡ get_or members at item → item.dropped ≡ b → turned_away board_id id s ≡ (if not b then None else Some NotMember)
+  found_some : (item : MemberValue K) (b : Bool) → at < length s.members → item ≡ get_or members at item → item.dropped ≡ b → turned_away mark id s ≡ (if not b then None else Some NotMember)
   found_some item b within item_is e =
       let d = new_member 0 item.bar in
       let place : place_of id.number s.members < length s.members = subst (λ k. k < length s.members) placed_at within in
       let item_of : item ≡ member_of (get_or s.members at d) = item_is ∙ ap (λ xs. get_or xs at item) holds.members_are ∙ get_or-map_at member_of s.members at d item within in
       let gone : (get_or s.members (place_of id.number s.members) d).dropped ≡ b = ap (λ k. (get_or s.members k d).dropped) (sym placed_at) ∙ sym (ap (λ x. x.dropped) item_of) ∙ e in
-      turned board_id id s (not b) same (member_some id.number d s.members place ∙ ap not gone)
+      turned mark id s (not b) same (member_some id.number d s.members place ∙ ap not gone)
 
-  pub found_gone : (item : MemberValue K) → at < length s.members → item ≡ get_or members at item → item.dropped ≡ true → turned_away board_id id s ≡ Some NotMember
+  pub found_gone : (item : MemberValue K) → at < length s.members → item ≡ get_or members at item → item.dropped ≡ true → turned_away mark id s ≡ Some NotMember
   found_gone item within item_is e = found_some item true within item_is e
 
-  pub found_there : (item : MemberValue K) → at < length s.members → item ≡ get_or members at item → item.dropped ≡ false → turned_away board_id id s ≡ None
+  pub found_there : (item : MemberValue K) → at < length s.members → item ≡ get_or members at item → item.dropped ≡ false → turned_away mark id s ≡ None
   found_there item within item_is e = found_some item false within item_is e
 
 -- a bar told something at its place
-told_by : {K : Type 0} → (f : BarRecord K → BarRecord K) (frame : List Segment) (members : List (MemberValue K)) (made : ℕ) (bottom : Bool) (board_id : ℕ)
+told_by : {K : Type 0} → (f : BarRecord K → BarRecord K) (frame : List Segment) (members : List (MemberValue K)) (made : ℕ) (bottom : Bool) (mark : ℕ)
     (s : BoardState (BarRecord K)) (number at : ℕ) (item : MemberValue K) (bar : BarRecord K) →
     Holds frame members made bottom s → at ≡ place_of number s.members → at < length s.members → item ≡ get_or members at item → bar ≡ f item.bar →
     Holds frame (set members at (record { bar = bar; dropped = item.dropped })) made bottom (bar_changed number f s)
-told_by {K = K} f frame members made bottom board_id s number at item bar holds here within item_is bar_is =
+told_by {K = K} f frame members made bottom mark s number at item bar holds here within item_is bar_is =
     let ms = s.members in
     let change = λ (m : Member (BarRecord K)). let x : Member (BarRecord K) = record m { bar = f m.bar } in x in
     let d = new_member 0 item.bar in
@@ -201,13 +201,13 @@ told_by {K = K} f frame members made bottom board_id s number at item bar holds 
     }
 
 -- the same of a member whose bar alone has changed
-pub told_at : {K : Type 0} → (f : BarRecord K → BarRecord K) (frame : List Segment) (members : List (MemberValue K)) (made : ℕ) (bottom : Bool) (board_id : ℕ)
+pub told_at : {K : Type 0} → (f : BarRecord K → BarRecord K) (frame : List Segment) (members : List (MemberValue K)) (made : ℕ) (bottom : Bool) (mark : ℕ)
     (s : BoardState (BarRecord K)) (number at : ℕ) (item next : MemberValue K) → next ≡ record item { bar = next.bar } →
     Holds frame members made bottom s → at ≡ place_of number s.members → at < length s.members → item ≡ get_or members at item → next.bar ≡ f item.bar →
     Holds frame (set members at next) made bottom (bar_changed number f s)
-told_at f frame members made bottom board_id s number at item next stays holds here within item_is bar_is =
+told_at f frame members made bottom mark s number at item next stays holds here within item_is bar_is =
     subst (λ m. Holds frame (set members at m) made bottom (bar_changed number f s)) (sym stays)
-    (told_by f frame members made bottom board_id s number at item next.bar holds here within item_is bar_is)
+    (told_by f frame members made bottom mark s number at item next.bar holds here within item_is bar_is)
 
 -- a changed bar that is as it was
 same_by : {K : Type 0} → (frame : List Segment) (members : List (MemberValue K)) (made : ℕ) (bottom : Bool) (s : BoardState (BarRecord K)) (at : ℕ)
@@ -280,8 +280,8 @@ held_with frame members made bottom s limiter l holds = record {
 }
 
 -- a bar of another board
-pub found_foreign : {K : Type 0} → (board_id : ℕ) (id : Id) (s : BoardState (BarRecord K)) → (id.board ≢ board_id) → turned_away board_id id s ≡ Some ForeignBar
-found_foreign board_id id s other = rw (ne_eqb id.board board_id other) refl
+pub found_foreign : {K : Type 0} → (mark : ℕ) (id : Id) (s : BoardState (BarRecord K)) → (id.mark ≢ mark) → turned_away mark id s ≡ Some ForeignBar
+found_foreign mark id s other = rw (ne_eqb id.mark mark other) refl
 
 -- ---- insertions
 

@@ -30,12 +30,12 @@ record Lasts (Q : List ℕ → ℕ → Type 0) : Type 0 where
   go : (order : List ℕ) (made at : ℕ) → Q order made → Q (remove order at) made
   go_first : (order : List ℕ) (made count : ℕ) → Q order made → Q (drop count order) made
 
-module _ {B C : Type 0} (kind : BoardKind B C) (board_id : ℕ) (Q : List ℕ → ℕ → Type 0) (lasts : Lasts Q) where
+module _ {B C : Type 0} (kind : BoardKind B C) (mark : ℕ) (Q : List ℕ → ℕ → Type 0) (lasts : Lasts Q) where
   abbrev P : BoardState B → Type 0
   P s = Q (order_of s.members) s.made
 
   abbrev PreservesIt : Deed (BoardState B) Answer → Type 0
-  PreservesIt deed = IsPreserved (board kind board_id) P deed
+  PreservesIt deed = IsPreserved (board kind mark) P deed
 
   unless_refused : (s : BoardState B) (refused : Option Refusal) (deed : Deed (BoardState B) Answer) → P s → PreservesIt deed → PreservesIt (or_refused refused deed s)
   unless_refused s None deed is keeps = keeps
@@ -59,9 +59,9 @@ module _ {B C : Type 0} (kind : BoardKind B C) (board_id : ℕ) (Q : List ℕ �
       let k = place_of number members in
       subst (λ o. Q o made) (map-removed (λ (m : Member B). m.number) members k) (lasts.go (order_of members) made k is)
 
-  inserted_keeps : (s : BoardState B) (at : Location) (entrant : Entrant B) → P s → Comes (Insert at entrant) s → PreservesIt (inserted board_id at entrant s)
+  inserted_keeps : (s : BoardState B) (at : Location) (entrant : Entrant B) → P s → Comes (Insert at entrant) s → PreservesIt (inserted mark at entrant s)
   inserted_keeps s at (New bar) is comes = either (s.made == 2 ^ 64) _ _ is comes
-  inserted_keeps s at (Old id) is comes = unless_refused s (turned_away board_id id s) _ is is
+  inserted_keeps s at (Old id) is comes = unless_refused s (turned_away mark id s) _ is is
 
   taken_out_keeps : (s : BoardState B) (number : ℕ) → P s → P (taken_out number s)
   taken_out_keeps s number is =
@@ -94,17 +94,17 @@ module _ {B C : Type 0} (kind : BoardKind B C) (board_id : ℕ) (Q : List ℕ �
   told_keeps : (number : ℕ) (f : B → B) (s : BoardState B) → P s → P (bar_changed number f s)
   told_keeps number f s is = changed_keeps number (λ m. record m { bar = f m.bar }) s (λ m. refl) is
 
-  deed_keeps : (target : Target) (call : Call B C) (now : ℕ) (s : BoardState B) → P s → Comes call s → PreservesIt ((board kind board_id).deed target call now s)
-  deed_keeps target (Insert at entrant) now s is comes = unless_refused s (anchor_turned_away board_id at s) _ is (inserted_keeps s at entrant is comes)
-  deed_keeps target (Remove id) now s is comes = either (not (id.board == board_id)) _ _ is (taken_out_keeps s id.number is)
+  deed_keeps : (target : Target) (call : Call B C) (now : ℕ) (s : BoardState B) → P s → Comes call s → PreservesIt ((board kind mark).deed target call now s)
+  deed_keeps target (Insert at entrant) now s is comes = unless_refused s (anchor_turned_away mark at s) _ is (inserted_keeps s at entrant is comes)
+  deed_keeps target (Remove id) now s is comes = either (not (id.mark == mark)) _ _ is (taken_out_keeps s id.number is)
   deed_keeps target (Drop id) now s is comes =
       let after = told_keeps id.number (kind.left now) s is in
       let laid = laid_keeps target now id.number (bar_changed id.number (kind.left now) s) after in
-      unless_refused s (turned_away board_id id s) _ is
+      unless_refused s (turned_away mark id s) _ is
       (after, laid, written_keeps (laid_out kind target now id.number (bar_changed id.number (kind.left now) s)) laid, laid, left_keeps target id.number, ownerless_keeps id.number)
   deed_keeps target (Log text) now s is comes = only_draws target false Forced now (TextAndFrame (text_lines (logged_lines text))) s s false is is
   deed_keeps target (BarLog id text) now s is comes =
-      unless_refused s (turned_away board_id id s) _ is
+      unless_refused s (turned_away mark id s) _ is
       (only_draws target false Forced now (TextAndFrame (text_lines (logged_lines text))) s (laid_out kind target now id.number s) (layout_takes kind id.number s) is
       (laid_keeps target now id.number s is))
   deed_keeps target Clear now s is comes = only_draws target false Forced now NoFrame s s false is is
@@ -113,7 +113,7 @@ module _ {B C : Type 0} (kind : BoardKind B C) (board_id : ℕ) (Q : List ℕ �
   deed_keeps target (Tell id command) now s is comes =
       let after = bar_changed id.number (λ bar. (kind.bars.after command bar now).0) s in
       let numbers = told_keeps id.number (λ bar. (kind.bars.after command bar now).0) s is in
-      unless_refused s (turned_away board_id id s) _ is
+      unless_refused s (turned_away mark id s) _ is
       (unless_refused s (said_of None (λ bar. kind.bars.refused command bar now) id.number s.members) _ is
       (only_draws target (said_of false (λ bar. kind.bars.takes command bar now) id.number s.members) (said_of No (λ bar. (kind.bars.after command bar now).1) id.number s.members) now Frame after
       (laid_out kind target now id.number after) (layout_takes kind id.number after) numbers (laid_keeps target now id.number after numbers)))
@@ -134,8 +134,8 @@ module _ {B C : Type 0} (kind : BoardKind B C) (board_id : ℕ) (Q : List ℕ �
     comes_of (Align bottom) s is = tt
     comes_of (Tell id command) s is = tt
 
-    order_kept : RunsPreserve (board kind board_id) P
-    order_kept = runs_preserve (board kind board_id) P (λ target call now s is. deed_keeps target call now s is (comes_of call s is))
+    order_kept : RunsPreserve (board kind mark) P
+    order_kept = runs_preserve (board kind mark) P (λ target call now s is. deed_keeps target call now s is (comes_of call s is))
 
 -- ---- each bar stands there once
 
@@ -167,9 +167,9 @@ once_lasts = record {
 pub stands_at_first : {B : Type 0} (limiter : Option Limiter) → StandsOnce {B = B} (opening_board limiter)
 stands_at_first limiter = record { apart = λ n. omega arith; given = λ n new. refl }
 
-pub stands_kept : {B C : Type 0} (kind : BoardKind B C) (board_id : ℕ) → RunsPreserve (board kind board_id) StandsOnce
-stands_kept kind board_id calls answers old s new next run is =
-    let after = order_kept kind board_id Once once_lasts once_comes calls answers old s new next run (record { apart = is.apart; given = is.given }) in
+pub stands_kept : {B C : Type 0} (kind : BoardKind B C) (mark : ℕ) → RunsPreserve (board kind mark) StandsOnce
+stands_kept kind mark calls answers old s new next run is =
+    let after = order_kept kind mark Once once_lasts once_comes calls answers old s new next run (record { apart = is.apart; given = is.given }) in
     record { apart = after.apart; given = after.given }
 
 -- ---- a bar that is gone stays so
@@ -190,16 +190,16 @@ gone_lasts number = record {
   go_first = λ order made count is. record { was_given = is.was_given; is_out = omega (arith, occurrences-cut number count order, is.is_out) };
 }
 
-pub gone_kept : {B C : Type 0} (kind : BoardKind B C) (board_id number : ℕ) → RunsPreserve (board kind board_id) (IsGone number)
-gone_kept kind board_id number calls answers old s new next run is =
-    let after = order_kept kind board_id (Gone number) (gone_lasts number) (gone_comes number) calls answers old s new next run (record { was_given = is.was_given; is_out = is.is_out }) in
+pub gone_kept : {B C : Type 0} (kind : BoardKind B C) (mark number : ℕ) → RunsPreserve (board kind mark) (IsGone number)
+gone_kept kind mark number calls answers old s new next run is =
+    let after = order_kept kind mark (Gone number) (gone_lasts number) (gone_comes number) calls answers old s new next run (record { was_given = is.was_given; is_out = is.is_out }) in
     record { was_given = after.was_given; is_out = after.is_out }
 
 -- ---- numbers are counted up
 
-module _ {B C : Type 0} (kind : BoardKind B C) (board_id : ℕ) where
+module _ {B C : Type 0} (kind : BoardKind B C) (mark : ℕ) where
   abbrev id_in : ℕ → Id
-  id_in number = record { board = board_id; number = number }
+  id_in number = record { mark = mark; number = number }
 
   -- a call took no bar in; or it took one in by the next number
   abbrev CountsUp : Call B C → Answer → BoardState B → BoardState B → Type 0
@@ -212,12 +212,12 @@ module _ {B C : Type 0} (kind : BoardKind B C) (board_id : ℕ) where
   same_lasts made = record { go = λ order k at is. is; go_first = λ order k count is. is }
 
   module _ (target : Target) (now : ℕ) (s next : BoardState B) (answer : Answer) where
-    same_made : (call : Call B C) → Comes kind board_id (λ order k. k ≡ s.made) (same_lasts s.made) call s →
-        Leads (board kind board_id) target s ((board kind board_id).deed target call now s) answer next →
+    same_made : (call : Call B C) → Comes kind mark (λ order k. k ≡ s.made) (same_lasts s.made) call s →
+        Leads (board kind mark) target s ((board kind mark).deed target call now s) answer next →
         next.made ≡ s.made
     same_made call comes leads =
-        leads_preserve (board kind board_id) (λ x. x.made ≡ s.made) target s next ((board kind board_id).deed target call now s) answer
-        (deed_keeps kind board_id (λ order k. k ≡ s.made) (same_lasts s.made) target call now s refl comes) leads refl
+        leads_preserve (board kind mark) (λ x. x.made ≡ s.made) target s next ((board kind mark).deed target call now s) answer
+        (deed_keeps kind mark (λ order k. k ≡ s.made) (same_lasts s.made) target call now s refl comes) leads refl
 
     module _ (at : Location) (bar : B) where
       abbrev CountsNew : Type 0
@@ -226,24 +226,22 @@ module _ {B C : Type 0} (kind : BoardKind B C) (board_id : ℕ) where
       not_new : (e : Refusal) → answer ≡ Refused e → next ≡ s → CountsNew
       not_new e said same = inl ((λ others. ap (λ a. with_new {C = C} (Insert at (New bar)) a others) said), ap (λ x. x.made) same)
 
-      refused_counts : (takes : Bool) (e : Refusal) → Leads (board kind board_id) target s (AtOnce takes (Refused e) s) answer next → CountsNew
+      refused_counts : (takes : Bool) (e : Refusal) → Leads (board kind mark) target s (AtOnce takes (Refused e) s) answer next → CountsNew
       refused_counts takes e (inl made) = not_new e (ap (λ o. o.0) made) (ap (λ o. o.1) made)
-      refused_counts takes e (inr (inl short)) = not_new Memory short.0 short.1.1
-      refused_counts takes e (inr (inr broken)) = absurd broken.2
+      refused_counts takes e (inr short) = not_new Memory short.0 short.2
 
-      given_counts : Leads (board kind board_id) target s (AtOnce true (Given (id_in s.made)) (taken_in at bar s)) answer next → CountsNew
+      given_counts : Leads (board kind mark) target s (AtOnce true (Given (id_in s.made)) (taken_in at bar s)) answer next → CountsNew
       given_counts (inl made) = inr ((λ others. ap (λ o. with_new {C = C} (Insert at (New bar)) o.0 others) made), ap (λ o. o.1.made) made)
-      given_counts (inr (inl short)) = not_new Memory short.0 short.1.1
-      given_counts (inr (inr broken)) = absurd broken.2
+      given_counts (inr short) = not_new Memory short.0 short.2
 
-      new_counts : (refused : Option Refusal) → Leads (board kind board_id) target s (or_refused refused (inserted board_id at (New bar) s) s) answer next → CountsNew
+      new_counts : (refused : Option Refusal) → Leads (board kind mark) target s (or_refused refused (inserted mark at (New bar) s) s) answer next → CountsNew
       new_counts (Some e) leads = refused_counts false e leads
       new_counts None leads =
           cond_both (s.made == 2 ^ 64) (AtOnce true (Refused Memory) s) (AtOnce true (Given (id_in s.made)) (taken_in at bar s))
-          (λ deed. Leads (board kind board_id) target s deed answer next → CountsNew) (λ a. refused_counts true Memory) (λ a. given_counts) leads
+          (λ deed. Leads (board kind mark) target s deed answer next → CountsNew) (λ a. refused_counts true Memory) (λ a. given_counts) leads
 
-    counts : (call : Call B C) → Leads (board kind board_id) target s ((board kind board_id).deed target call now s) answer next → CountsUp call answer s next
-    counts (Insert at (New bar)) leads = new_counts at bar (anchor_turned_away board_id at s) leads
+    counts : (call : Call B C) → Leads (board kind mark) target s ((board kind mark).deed target call now s) answer next → CountsUp call answer s next
+    counts (Insert at (New bar)) leads = new_counts at bar (anchor_turned_away mark at s) leads
     counts (Insert at (Old id)) leads = inl ((λ others. refl), same_made (Insert at (Old id)) tt leads)
     counts (Remove id) leads = inl ((λ others. refl), same_made (Remove id) tt leads)
     counts (Drop id) leads = inl ((λ others. refl), same_made (Drop id) tt leads)
@@ -266,7 +264,7 @@ module _ {B C : Type 0} (kind : BoardKind B C) (board_id : ℕ) where
       let c = subst (λ k. CountedFrom k others next) f counted in
       subst (λ l. CountedFrom made l next) (sym e) (ap (λ l. id_in made ∷ l) c.0, omega (arith, c.1))
 
-  pub numbers_count : NumbersCount kind board_id
+  pub numbers_count : NumbersCount kind mark
   numbers_count [] [] old s new next run = (refl, omega (arith, ap (λ x. x.made) run.1))
   numbers_count (call ∷ calls) (answer ∷ answers) old s new next run =
       let rest = numbers_count calls answers run.0 run.1 new next run.3 in
@@ -294,7 +292,7 @@ module _ {B C : Type 0} (kind : BoardKind B C) (board_id : ℕ) where
     | inr here ↦ omega (arith, occurrences-front n made (range_with_len (made + 1) count), ones_most n made, none_before n (made + 1) count (omega (arith, here)))
   ]
 
-  pub numbers_new : NumbersAreNew kind board_id
+  pub numbers_new : NumbersAreNew kind mark
   numbers_new calls answers old s new next run number =
       let counted = numbers_count calls answers old s new next run in
       let count = length (new_bars calls answers) in

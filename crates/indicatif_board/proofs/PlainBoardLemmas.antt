@@ -40,7 +40,7 @@ taken_all P (suc n) (x ∷ xs) all = (all.0, taken_all P n xs all.1)
 
 -- ---- a board
 
-module _ {B C : Type 0} (kind : BoardKind B C) (board_id : ℕ) (IsBar : B → Type 0) (IsCommand : C → Type 0) (k : KeepsPlain kind.bars IsBar IsCommand)
+module _ {B C : Type 0} (kind : BoardKind B C) (mark : ℕ) (IsBar : B → Type 0) (IsCommand : C → Type 0) (k : KeepsPlain kind.bars IsBar IsCommand)
     (left : (now : ℕ) (bar : B) → IsBar bar → IsBar (kind.left now bar)) where
   abbrev IsMember : Member B → Type 0
   IsMember m = IsBar m.bar × IsTrue (are_plain m.stored)
@@ -100,7 +100,7 @@ module _ {B C : Type 0} (kind : BoardKind B C) (board_id : ℕ) (IsBar : B → T
 
   -- plain lines, and plain states on the way
   abbrev Goes : Deed (BoardState B) Answer → Type 0
-  Goes deed = IsPreserved (board kind board_id) IsState deed × IsTrue (are_plain (lines_by deed))
+  Goes deed = IsPreserved (board kind mark) IsState deed × IsTrue (are_plain (lines_by deed))
 
   unless_refused : (s : BoardState B) (refused : Option Refusal) (deed : Deed (BoardState B) Answer) → IsState s → Goes deed → Goes (or_refused refused deed s)
   unless_refused s None deed all goes = goes
@@ -110,13 +110,13 @@ module _ {B C : Type 0} (kind : BoardKind B C) (board_id : ℕ) (IsBar : B → T
   either true one other a b = a
   either false one other a b = b
 
-  inserted_goes : (s : BoardState B) (at : Location) (entrant : Entrant B) → IsEntrant entrant → IsState s → Goes (inserted board_id at entrant s)
+  inserted_goes : (s : BoardState B) (at : Location) (entrant : Entrant B) → IsEntrant entrant → IsState s → Goes (inserted mark at entrant s)
   inserted_goes s at (New bar) new all =
       let n = index_of at s.members in
       let more : AreMembers (insert s.members n (new_member s.made bar)) =
       both_all IsMember (take n s.members) (new_member s.made bar ∷ drop n s.members) (taken_all IsMember n s.members all) ((new, refl), dropped_all IsMember n s.members all) in
       either (s.made == 2 ^ 64) _ _ (all, refl) (more, refl)
-  inserted_goes s at (Old id) new all = unless_refused s (turned_away board_id id s) _ all (all, refl)
+  inserted_goes s at (Old id) new all = unless_refused s (turned_away mark id s) _ all (all, refl)
 
   taken_out_plain : (s : BoardState B) (number : ℕ) → IsState s → IsState (taken_out number s)
   taken_out_plain s number all =
@@ -135,19 +135,19 @@ module _ {B C : Type 0} (kind : BoardKind B C) (board_id : ℕ) (IsBar : B → T
   only_draws target takes ask now writing after laid lays text all more =
       draw_goes target takes ask now writing after laid lays (λ x. x) (λ x. x) text all more (λ x p. p) (λ x p. p)
 
-  deed_goes : (target : Target) (call : Call B C) (now : ℕ) (s : BoardState B) → IsCall call → IsState s → Goes ((board kind board_id).deed target call now s)
-  deed_goes target (Insert at entrant) now s c all = unless_refused s (anchor_turned_away board_id at s) _ all (inserted_goes s at entrant c all)
-  deed_goes target (Remove id) now s c all = either (not (id.board == board_id)) _ _ (all, refl) (taken_out_plain s id.number all, refl)
+  deed_goes : (target : Target) (call : Call B C) (now : ℕ) (s : BoardState B) → IsCall call → IsState s → Goes ((board kind mark).deed target call now s)
+  deed_goes target (Insert at entrant) now s c all = unless_refused s (anchor_turned_away mark at s) _ all (inserted_goes s at entrant c all)
+  deed_goes target (Remove id) now s c all = either (not (id.mark == mark)) _ _ (all, refl) (taken_out_plain s id.number all, refl)
   deed_goes target (Drop id) now s c all =
       let after = bar_changed id.number (kind.left now) s in
       let told : IsState after = told_plain id.number (kind.left now) s (left now) all in
-      unless_refused s (turned_away board_id id s) _ all
+      unless_refused s (turned_away mark id s) _ all
       (draw_goes target (said_of false (kind.left_takes now) id.number s.members) (said_of No (kind.left_asked now) id.number s.members) now Frame after
       (laid_out kind target now id.number after) (layout_takes kind id.number after) (left_on target id.number) (ownerless_on id.number)
       tt told (laid_plain target now id.number after told) (left_plain target id.number) (ownerless_plain id.number))
   deed_goes target (Log text) now s c all = only_draws target false Forced now (TextAndFrame (text_lines (logged_lines text))) s s false c all all
   deed_goes target (BarLog id text) now s c all =
-      unless_refused s (turned_away board_id id s) _ all
+      unless_refused s (turned_away mark id s) _ all
       (only_draws target false Forced now (TextAndFrame (text_lines (logged_lines text))) s (laid_out kind target now id.number s) (layout_takes kind id.number s) c all
       (laid_plain target now id.number s all))
   deed_goes target Clear now s c all = only_draws target false Forced now NoFrame s s false tt all all
@@ -156,25 +156,25 @@ module _ {B C : Type 0} (kind : BoardKind B C) (board_id : ℕ) (IsBar : B → T
   deed_goes target (Tell id command) now s c all =
       let after = bar_changed id.number (λ bar. (kind.bars.after command bar now).0) s in
       let told : IsState after = told_plain id.number (λ bar. (kind.bars.after command bar now).0) s (λ bar p. k.after command bar now c p) all in
-      unless_refused s (turned_away board_id id s) _ all
+      unless_refused s (turned_away mark id s) _ all
       (unless_refused s (said_of None (λ bar. kind.bars.refused command bar now) id.number s.members) _ all
       (only_draws target (said_of false (λ bar. kind.bars.takes command bar now) id.number s.members) (said_of No (λ bar. (kind.bars.after command bar now).1) id.number s.members) now Frame after
       (laid_out kind target now id.number after) (layout_takes kind id.number after) tt told (laid_plain target now id.number after told)))
 
   pub board_plain : (calls : List (Call B C × ℕ)) (answers : List Answer) (old : Option TermView) (s : BoardState B) (new : Option TermView) (next : BoardState B)
-      (run : Runs (board kind board_id) calls answers old s new next) → IsState s → AllByRecursion (λ call. IsCall call.0) calls →
-      AllPlain (board kind board_id) calls answers old s new next run × IsState next
-  board_plain = runs_plain (board kind board_id) IsState IsCall (λ target call now s c p. (deed_goes target call now s c p).0) (λ target call now s c p. (deed_goes target call now s c p).1)
+      (run : Runs (board kind mark) calls answers old s new next) → IsState s → AllByRecursion (λ call. IsCall call.0) calls →
+      AllPlain (board kind mark) calls answers old s new next run × IsState next
+  board_plain = runs_plain (board kind mark) IsState IsCall (λ target call now s c p. (deed_goes target call now s c p).0) (λ target call now s c p. (deed_goes target call now s c p).1)
 
 -- ---- bars with a style
 
-module _ {K : Type 0} (m : Tracking K) (board_id : ℕ) where
+module _ {K : Type 0} (m : Tracking K) (mark : ℕ) where
   left_plainly : (now : ℕ) (bar : BarRecord K) → IsPlainBar m bar → IsPlainBar m (after_drop bar now).0
   left_plainly now bar h =
       cond_both {A = BarRecord K × Ask} (is_finished bar.progress) (bar, No) (finish bar.on_finish bar now) (λ o. IsPlainBar m o.0) (λ _. h)
       (λ _. finished_plain m bar.on_finish bar now h.on_finish h)
 
-  call_asked : (call : Call (BarRecord K) (Command K)) → IsPlainCall m call → IsCall (board_bars m) board_id (IsPlainBar m) (IsPlainCommand m) (bars_keep_plain m) left_plainly call
+  call_asked : (call : Call (BarRecord K) (Command K)) → IsPlainCall m call → IsCall (board_bars m) mark (IsPlainBar m) (IsPlainCommand m) (bars_keep_plain m) left_plainly call
   call_asked (Insert at (New bar)) c = c
   call_asked (Insert at (Old id)) c = tt
   call_asked (Remove id) c = tt
@@ -187,20 +187,20 @@ module _ {K : Type 0} (m : Tracking K) (board_id : ℕ) where
   call_asked (Tell id command) c = c
 
   calls_asked : (calls : List (Call (BarRecord K) (Command K) × ℕ)) → AllByRecursion (λ call. IsPlainCall m call.0) calls →
-      AllByRecursion (λ call. IsCall (board_bars m) board_id (IsPlainBar m) (IsPlainCommand m) (bars_keep_plain m) left_plainly call.0) calls
+      AllByRecursion (λ call. IsCall (board_bars m) mark (IsPlainBar m) (IsPlainCommand m) (bars_keep_plain m) left_plainly call.0) calls
   calls_asked [] all = tt
   calls_asked (call ∷ calls) all = (call_asked call.0 all.0, calls_asked calls all.1)
 
-  members_asked : (ms : List (Member (BarRecord K))) → AllByRecursion (IsPlainMember m) ms → AreMembers (board_bars m) board_id (IsPlainBar m) (IsPlainCommand m) (bars_keep_plain m) left_plainly ms
+  members_asked : (ms : List (Member (BarRecord K))) → AllByRecursion (IsPlainMember m) ms → AreMembers (board_bars m) mark (IsPlainBar m) (IsPlainCommand m) (bars_keep_plain m) left_plainly ms
   members_asked [] all = tt
   members_asked (x ∷ xs) all = ((all.0.bar, all.0.stored), members_asked xs all.1)
 
-  members_left : (ms : List (Member (BarRecord K))) → AreMembers (board_bars m) board_id (IsPlainBar m) (IsPlainCommand m) (bars_keep_plain m) left_plainly ms → AllByRecursion (IsPlainMember m) ms
+  members_left : (ms : List (Member (BarRecord K))) → AreMembers (board_bars m) mark (IsPlainBar m) (IsPlainCommand m) (bars_keep_plain m) left_plainly ms → AllByRecursion (IsPlainMember m) ms
   members_left [] all = tt
   members_left (x ∷ xs) all = (record { bar = all.0.0; stored = all.0.1 }, members_left xs all.1)
 
 pub board_runs_are_plain : {K : Type 0} (m : Tracking K) → BoardRunsArePlain m
-board_runs_are_plain m board_id calls answers old s new next run h all =
-    let r = board_plain (board_bars m) board_id (IsPlainBar m) (IsPlainCommand m) (bars_keep_plain m) (left_plainly m board_id) calls answers old s new next run
-    (members_asked m board_id s.members (recursion_from_All (IsPlainMember m) s.members h)) (calls_asked m board_id calls (recursion_from_All (λ call. IsPlainCall m call.0) calls all)) in
-    (r.0, All-from_recursion (IsPlainMember m) next.members (members_left m board_id next.members r.1))
+board_runs_are_plain m mark calls answers old s new next run h all =
+    let r = board_plain (board_bars m) mark (IsPlainBar m) (IsPlainCommand m) (bars_keep_plain m) (left_plainly m mark) calls answers old s new next run
+    (members_asked m mark s.members (recursion_from_All (IsPlainMember m) s.members h)) (calls_asked m mark calls (recursion_from_All (λ call. IsPlainCall m call.0) calls all)) in
+    (r.0, All-from_recursion (IsPlainMember m) next.members (members_left m mark next.members r.1))

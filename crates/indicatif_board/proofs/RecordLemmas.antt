@@ -42,6 +42,8 @@ untold_paints v v' w w' broke l l' a b c d none p = record {
   rests = λ fine opening t rest. rw (sym c, sym d) (p.rests fine opening t (rw (a, b) rest));
   over = λ fine opening t rest. rw (sym c, sym d) (p.over fine opening t (rw (a, b) rest));
   added = p.added;
+  calm = p.calm;
+  drawings = p.drawings;
 }
 
 -- a call led a terminal that tells nothing on as it did the one that it was made on
@@ -80,11 +82,11 @@ sized None faults kind = refl
 sized (Some size) faults kind = refl
 
 -- before the first call
-pub run_begins : {K T : Type 0} (m : Tracking K) (board_id : ℕ) (limiter : Option Limiter) (target : Target) (b : Board K T) (steps : List (BoardStep K)) (opened : Option TermView) →
-    steps ≡ [] → target_of opened ≡ target → IsIn board_id b (opening_board limiter) →
-    IsRun m opened (record { board_id = board_id; limiter = limiter; target = target; board = b; steps = steps }) opened
-run_begins m board_id limiter target b [] opened none size holds = record { size = size; state = opening_board limiter; holds = holds; runs = (refl, refl) }
-run_begins m board_id limiter target b (e ∷ steps) opened none size holds = absurd (cc none)
+pub run_begins : {K T : Type 0} (m : Tracking K) (mark : ℕ) (limiter : Option Limiter) (target : Target) (b : Board K T) (steps : List (BoardStep K)) (opened : Option TermView) →
+    steps ≡ [] → target_of opened ≡ target → IsIn mark b (opening_board limiter) →
+    IsRun m opened (record { mark = mark; limiter = limiter; target = target; board = b; steps = steps }) opened
+run_begins m mark limiter target b [] opened none size holds = record { size = size; state = opening_board limiter; holds = holds; runs = (refl, refl) }
+run_begins m mark limiter target b (e ∷ steps) opened none size holds = absurd (cc none)
 
 -- ---- a call more
 
@@ -96,20 +98,20 @@ steps_more before after e call now answer items asked at said =
     let same : step_of e ≡ record { call = call; now = now; answer = answer } = cc (asked, at, said) in
     ap (map step_of) items ∙ map-append step_of before (e ∷ []) ∙ ap (λ x. map step_of before ++ x ∷ []) same
 
-module _ {K T : Type 0} (m : Tracking K) (view : T → TermView) (board_id : ℕ) (limiter : Option Limiter) (target : Target) (old new : Board K T) (steps now_steps : List (BoardStep K))
+module _ {K T : Type 0} (m : Tracking K) (view : T → TermView) (mark : ℕ) (limiter : Option Limiter) (target : Target) (old new : Board K T) (steps now_steps : List (BoardStep K))
     (call : Call (BarRecord K) (Command K)) (now : ℕ) (answer : Answer) (grown : now_steps ≡ steps ++ record { call = call; now = now; answer = answer } ∷ []) where
   -- before and after
   abbrev before : Record K T
-  before = record { board_id = board_id; limiter = limiter; target = target; board = old; steps = steps }
+  before = record { mark = mark; limiter = limiter; target = target; board = old; steps = steps }
 
   abbrev after : Record K T
-  after = record { board_id = board_id; limiter = limiter; target = target; board = new; steps = now_steps }
+  after = record { mark = mark; limiter = limiter; target = target; board = new; steps = now_steps }
 
   -- a run goes on
-  run_more : (opened between last : Option TermView) (run : IsRun m opened before between) (next : BoardState (BarRecord K)) → IsIn board_id new next →
-      CallMade (board (board_bars m) board_id) between last (call, now) run.state answer next → IsRun m opened after last
+  run_more : (opened between last : Option TermView) (run : IsRun m opened before between) (next : BoardState (BarRecord K)) → IsIn mark new next →
+      CallMade (board (board_bars m) mark) between last (call, now) run.state answer next → IsRun m opened after last
   run_more opened between last run next holds made =
-      let machine = board (board_bars m) board_id in
+      let machine = board (board_bars m) mark in
       let e : BoardStep K = record { call = call; now = now; answer = answer } in
       let calls : calls_of now_steps ≡ calls_of steps ++ (call, now) ∷ [] = ap calls_of grown ∙ map-append (λ (x : BoardStep K). (x.call, x.now)) steps (e ∷ []) in
       let answers : answers_of now_steps ≡ answers_of steps ++ answer ∷ [] = ap answers_of grown ∙ map-append (λ (x : BoardStep K). x.answer) steps (e ∷ []) in
@@ -124,15 +126,15 @@ module _ {K T : Type 0} (m : Tracking K) (view : T → TermView) (board_id : ℕ
   -- on its own terminal
   pub run_goes_on : LeadsBy m view old new call now answer → (opened : Option TermView) → IsRun m opened before (known view old) → IsRun m opened after (known view new)
   run_goes_on led opened run =
-      let made = led board_id run.state run.holds in
+      let made = led mark run.state run.holds in
       run_more opened (known view old) (known view new) run made.0 made.1 made.2
 
   -- as of one that tells nothing
   pub run_grows : target_of (known view old) ≡ target → LeadsBy m view old new call now answer → IsOneRun m before → IsOneRun m after
   run_grows size led one =
       let run = one.2 in
-      let machine = board (board_bars m) board_id in
-      let made = led board_id run.state run.holds in
+      let machine = board (board_bars m) mark in
+      let made = led mark run.state run.holds in
       let call_made = untold_call machine (known view old) (known view new) (call, now) run.state made.0 answer one.0 one.1 made.2 in
       let here = subst (λ t. CallMade machine (untold t one.0 one.1) (untold t call_made.0 call_made.1) (call, now) run.state answer made.0) size call_made.2 in
       (call_made.0, call_made.1, run_more (untold target 0 Other) (untold target one.0 one.1) (untold target call_made.0 call_made.1) run made.0 made.1 here)
@@ -140,7 +142,7 @@ module _ {K T : Type 0} (m : Tracking K) (view : T → TermView) (board_id : ℕ
   -- what it adds
   pub grown_so : target_of (known view old) ≡ target → LeadsBy m view old new call now answer → SlotsChange call answer old new → RecordsChange m call now answer old new →
       AddsCall m view before call now answer after
-  grown_so size led slots_go records_go = record { board_id = refl; limiter = refl; target = refl; size = size; steps = grown; leads = led; slots = slots_go; records = records_go }
+  grown_so size led slots_go records_go = record { mark = refl; limiter = refl; target = refl; size = size; steps = grown; leads = led; slots = slots_go; records = records_go }
 
 -- the bar of a removal
 pub removed_is_back : {K : Type 0} (r : Result (Option (BarRecord K)) Refusal) (id : Id) (other : BarRecord K) (members : List (Member (BarRecord K))) →

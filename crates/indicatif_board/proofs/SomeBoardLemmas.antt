@@ -30,7 +30,7 @@ module _ {K : Type 0} where
   frame_again (m ∷ ms) [] e = absurd (omega (arith, e))
   frame_again (m ∷ ms) (s ∷ segments) e = ap (λ xs. bar_lines s ∷ xs) (frame_again ms segments (omega (arith, e)))
 
-pub some_board : {K T : Type 0} (b : Board K T) → (s : BoardState (BarRecord K)) × IsIn b.board_id b s
+pub some_board : {K T : Type 0} (b : Board K T) → (s : BoardState (BarRecord K)) × IsIn b.mark b s
 unfolding IsIn
 some_board b =
     let shown = b.shown in

@@ -93,9 +93,9 @@ plain_bars = record {
 abbrev pub PlainCall : Type 0
 PlainCall = Call PlainBar Word
 
--- a bar of the board with the id 1
+-- a bar of the board with the mark 1
 abbrev pub id : ℕ → Id
-id number = record { board = 1; number = number }
+id number = record { mark = 1; number = number }
 
 -- a bar that finishes hidden where nobody says how, with this text
 abbrev pub plain_bar : List ℕ → PlainBar
@@ -167,7 +167,7 @@ BoardAtTheBottom =
 abbrev pub Ordered : Type 0
 Ordered =
     let p = New (plain_bar (codes "p")) in
-    let foreign : Id = record { board = 2; number = 0 } in
+    let foreign : Id = record { mark = 2; number = 0 } in
     let calls = add (codes "p") ∷ add (codes "p") ∷ add (codes "p") ∷ Insert (Before (id 0)) p ∷ Insert (After (id 3)) p ∷ Insert (After (id 3)) p ∷ Insert (Before (id 1)) p ∷ [] in
     let again = ran_in 5 9 (calls ++ Insert End (Old (id 4)) ∷ Insert (Before foreign) p ∷ drop_it 4 ∷ drop_it 4 ∷ touch 4
     ∷ Insert (Before (id 4)) p ∷ Insert (After (id 3)) (Old foreign) ∷ remove_it 4 ∷ []) in
@@ -216,7 +216,7 @@ TwentyDrawsAtOnce = (ran_on (Some (draw_limiter 20 0)) (terminal_of_size 5 9) (a
 abbrev pub OwnText : Type 0
 OwnText =
     let both = add (codes "a") ∷ add (codes "b") ∷ touch 0 ∷ [] in
-    let foreign : Id = record { board = 2; number = 0 } in
+    let foreign : Id = record { mark = 2; number = 0 } in
     LeavesRows 4 10 (both ++ Log (codes "l") ∷ []) (codes "l" ∷ codes "a" ∷ [])
     × LeavesRows 4 10 (both ++ BarLog (id 1) (codes "l") ∷ []) (codes "l" ∷ codes "a" ∷ codes "b" ∷ [])
     × LeavesRows 4 10 (both ++ touch 1 ∷ finish_it 0 ∷ drop_it 0 ∷ BarLog (id 1) (codes "l") ∷ []) (codes "l" ∷ codes "b" ∷ [])

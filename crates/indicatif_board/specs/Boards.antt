@@ -46,9 +46,9 @@ opening_board limiter = record { members = []; made = 0; bottom = false; limiter
 
 -- ---- calls
 
--- a bar by its board's id and its number there
+-- a bar by its board's mark and its number there
 pub record Id : Type 0 where
-  pub board : ℕ
+  pub mark : ℕ
   pub number : ℕ
 
 -- where a bar is to stand
@@ -109,16 +109,16 @@ drawn_of_said (Err e) = refl
 
 -- why a bar isn't one of this board's, if it isn't
 abbrev pub turned_away : {B : Type 0} → ℕ → Id → BoardState B → Option Refusal
-turned_away board_id id s =
-    if not (id.board == board_id) then Some ForeignBar
+turned_away mark id s =
+    if not (id.mark == mark) then Some ForeignBar
     else if is_member id.number s.members then None
     else Some NotMember
 
 -- the same of a place's anchor
 abbrev pub anchor_turned_away : {B : Type 0} → ℕ → Location → BoardState B → Option Refusal
-anchor_turned_away board_id (Before anchor) s = turned_away board_id anchor s
-anchor_turned_away board_id (After anchor) s = turned_away board_id anchor s
-anchor_turned_away board_id _ s = None
+anchor_turned_away mark (Before anchor) s = turned_away mark anchor s
+anchor_turned_away mark (After anchor) s = turned_away mark anchor s
+anchor_turned_away mark _ s = None
 
 -- refused, with nothing changed; or done
 abbrev pub or_refused : {B : Type 0} → Option Refusal → Deed (BoardState B) Answer → BoardState B → Deed (BoardState B) Answer
@@ -141,10 +141,10 @@ taken_in at bar s = record s { members = insert s.members (index_of at s.members
 
 -- a new bar takes memory and the next number, and numbers end before 2 ^ 64; a bar that is there already stays where it is
 abbrev pub inserted : {B : Type 0} → ℕ → Location → Entrant B → BoardState B → Deed (BoardState B) Answer
-inserted board_id at (New bar) s =
+inserted mark at (New bar) s =
     if s.made == 2 ^ 64 then AtOnce true (Refused Memory) s
-    else AtOnce true (Given (record { board = board_id; number = s.made })) (taken_in at bar s)
-inserted board_id at (Old id) s = or_refused (turned_away board_id id s) (AtOnce false (Given id) s) s
+    else AtOnce true (Given (record { mark = mark; number = s.made })) (taken_in at bar s)
+inserted mark at (Old id) s = or_refused (turned_away mark id s) (AtOnce false (Given id) s) s
 
 -- the board without a bar, if that is there
 abbrev pub taken_out : {B : Type 0} → ℕ → BoardState B → BoardState B
@@ -152,13 +152,9 @@ taken_out number s = if is_member number s.members then record s { members = wit
 
 -- a bar that isn't there is no refusal
 abbrev pub removed : {B : Type 0} → ℕ → Id → BoardState B → Deed (BoardState B) Answer
-removed board_id id s = if not (id.board == board_id) then AtOnce false (Refused ForeignBar) s else AtOnce false Done (taken_out id.number s)
+removed mark id s = if not (id.mark == mark) then AtOnce false (Refused ForeignBar) s else AtOnce false Done (taken_out id.number s)
 
 -- ---- the steps of a draw
-
--- the rows are forgotten; no bar leaves the order
-abbrev pub forgotten : {B : Type 0} → BoardState B → BoardState B
-forgotten s = record s { lists = forgotten_lists }
 
 -- the terminal is written, and the dropped members at the head leave
 abbrev pub once_written : {B : Type 0} → Target → Writing → BoardState B → BoardState B
@@ -167,7 +163,8 @@ once_written target writing s = record s {
   members = followers s.members;
 }
 
--- a draw, from a state whose numbers have changed and the same with its lines laid out, which takes memory or not
+-- a draw, from a state whose numbers have changed and the same with its lines laid out, which takes memory or not; where the terminal
+-- fails, the rows are forgotten, and no bar leaves the order
 abbrev pub draw_of : {B : Type 0} → Target → Bool → Ask → ℕ → Writing → BoardState B → BoardState B → Bool → Draw (BoardState B)
 draw_of target takes ask now writing s laid lays =
     let asked = asked_of ask now laid.limiter in
@@ -182,7 +179,7 @@ draw_of target takes ask now writing s laid lays =
       allowed = asked.0;
       lines = lines_to_write writing (leaders ready.members) (frame_of ready.members);
       written = once_written target writing ready;
-      broken = forgotten ready;
+      broken = record ready { lists = forgotten_lists };
     }
 
 -- a draw that nothing follows
@@ -240,20 +237,20 @@ module _ {B C : Type 0} (kind : BoardKind B C) where
   abbrev pub log_of : Target → List ℕ → ℕ → BoardState B → BoardState B → Bool → Draw (BoardState B)
   log_of target text now s laid lays = draw_of target false Forced now (TextAndFrame (text_lines (logged_lines text))) s laid lays
 
-  -- what a call at a moment is about to do on the board of an id
+  -- what a call at a moment is about to do on the board of a mark
   abbrev pub deed_of : ℕ → Target → Call B C → ℕ → BoardState B → Deed (BoardState B) Answer
-  deed_of board_id target (Insert at entrant) now s = or_refused (anchor_turned_away board_id at s) (inserted board_id at entrant s) s
-  deed_of board_id target (Remove id) now s = removed board_id id s
-  deed_of board_id target (Drop id) now s =
-      or_refused (turned_away board_id id s) (Draws (last_draw target id.number now s) (left_on target id.number) (ownerless_on id.number)) s
-  deed_of board_id target (Log text) now s = draws (log_of target text now s s false)
-  deed_of board_id target (BarLog id text) now s = or_refused (turned_away board_id id s) (draws (log_of target text now s (laid_out target now id.number s) (layout_takes id.number s))) s
-  deed_of board_id target Clear now s = draws (draw_of target false Forced now NoFrame s s false)
-  deed_of board_id target Redraw now s = draws (draw_of target false Forced now Frame s s false)
-  deed_of board_id target (Align bottom) now s = AtOnce false Done (record s { bottom = bottom })
-  deed_of board_id target (Tell id command) now s =
-      or_refused (turned_away board_id id s) (or_refused (said_of None (λ bar. kind.bars.refused command bar now) id.number s.members) (draws (draw_of_command target id.number command now s)) s) s
+  deed_of mark target (Insert at entrant) now s = or_refused (anchor_turned_away mark at s) (inserted mark at entrant s) s
+  deed_of mark target (Remove id) now s = removed mark id s
+  deed_of mark target (Drop id) now s =
+      or_refused (turned_away mark id s) (Draws (last_draw target id.number now s) (left_on target id.number) (ownerless_on id.number)) s
+  deed_of mark target (Log text) now s = draws (log_of target text now s s false)
+  deed_of mark target (BarLog id text) now s = or_refused (turned_away mark id s) (draws (log_of target text now s (laid_out target now id.number s) (layout_takes id.number s))) s
+  deed_of mark target Clear now s = draws (draw_of target false Forced now NoFrame s s false)
+  deed_of mark target Redraw now s = draws (draw_of target false Forced now Frame s s false)
+  deed_of mark target (Align bottom) now s = AtOnce false Done (record s { bottom = bottom })
+  deed_of mark target (Tell id command) now s =
+      or_refused (turned_away mark id s) (or_refused (said_of None (λ bar. kind.bars.refused command bar now) id.number s.members) (draws (draw_of_command target id.number command now s)) s) s
 
-  -- the board of this id
+  -- the board of this mark
   abbrev pub board : ℕ → Machine (BoardState B) (Call B C) Answer
-  board board_id = record { lists = λ s. s.lists; deed = deed_of board_id; says = says; tells = drawn_of; tells_said = drawn_of_said }
+  board mark = record { lists = λ s. s.lists; deed = deed_of mark; says = says; tells = drawn_of; tells_said = drawn_of_said }

@@ -3,7 +3,7 @@ use Rattle.std.specs.Prelude.{◌≡◌, ◌≢◌, ◌==◌, ◌&&◌, ℕ, Boo
 use Rattle.indicatif_text.specs.declared.refusal.Refusal.{Refusal}
 use Rattle.indicatif_text.specs.declared.refusal.Refusal.TheVariants.{ForeignBar}
 use Rattle.indicatif_bar.specs.Tabs.{is_some_text}
-use Rattle.indicatif_bar.specs.Commands.{BarRecord, Command, command_of, copy_takes_memory}
+use Rattle.indicatif_bar.specs.Commands.{BarRecord, Command, command_as, copy_takes_memory}
 use Rattle.indicatif_term.specs.DrawTargets.{is_bottom}
 use Rattle.indicatif_board.specs.Boards.{Entrant, New, Old, Location, End, Index, FromBack, Before, After, Id, Call, Insert, Remove, Drop, Log, BarLog, Clear, Redraw, Align, Tell, Answer, Given, Done, Drew, Refused}
 use Rattle.indicatif_board.specs.BoardValues.{id_of}
@@ -53,7 +53,7 @@ call_of (call.BarLog id text) = BarLog (id_of id) (string_bytes text)
 call_of call.Clear = Clear
 call_of call.Redraw = Redraw
 call_of (call.Align alignment) = Align (is_bottom alignment)
-call_of (call.Bar id command) = Tell (id_of id) (command_of command)
+call_of (call.Bar id command) = Tell (id_of id) (command_as string_bytes command)
 
 -- the same with its moment
 abbrev pub timed : {K : Type 0} → CallValue K × ℕ → Call (BarRecord K) (Command K) × ℕ
@@ -81,40 +81,40 @@ answer_of (answer.Refused refusal) = Refused refusal
 
 -- ---- who is meant
 
--- this is the bar of the number on the board of the id
+-- this is the bar of the number on the board of the mark
 abbrev pub is_bar : ℕ → ℕ → Id → Bool
-is_bar board_id number id = id.board == board_id && id.number == number
+is_bar mark number id = id.mark == mark && id.number == number
 
 module _ {K : Type 0} where
   -- another board's bar is to be taken in
   abbrev pub IsForeign : ℕ → Entrant (BarRecord K) → Type 0
-  IsForeign board_id (New bar) = ⊥
-  IsForeign board_id (Old id) = id.board ≢ board_id
+  IsForeign mark (New bar) = ⊥
+  IsForeign mark (Old id) = id.mark ≢ mark
 
-  -- a call of the board of this id names another board's bar; where one is to stand beside an anchor, the anchor is meant, which
+  -- a call of the board of this mark names another board's bar; where one is to stand beside an anchor, the anchor is meant, which
   -- is looked for first
   abbrev pub NamesForeign : ℕ → Call (BarRecord K) (Command K) → Type 0
-  NamesForeign board_id (Insert (Before anchor) entrant) = anchor.board ≢ board_id
-  NamesForeign board_id (Insert (After anchor) entrant) = anchor.board ≢ board_id
-  NamesForeign board_id (Insert at entrant) = IsForeign board_id entrant
-  NamesForeign board_id (Remove id) = id.board ≢ board_id
-  NamesForeign board_id (Drop id) = id.board ≢ board_id
-  NamesForeign board_id (BarLog id text) = id.board ≢ board_id
-  NamesForeign board_id (Tell id command) = id.board ≢ board_id
-  NamesForeign board_id _ = ⊥
+  NamesForeign mark (Insert (Before anchor) entrant) = anchor.mark ≢ mark
+  NamesForeign mark (Insert (After anchor) entrant) = anchor.mark ≢ mark
+  NamesForeign mark (Insert at entrant) = IsForeign mark entrant
+  NamesForeign mark (Remove id) = id.mark ≢ mark
+  NamesForeign mark (Drop id) = id.mark ≢ mark
+  NamesForeign mark (BarLog id text) = id.mark ≢ mark
+  NamesForeign mark (Tell id command) = id.mark ≢ mark
+  NamesForeign mark _ = ⊥
 
   -- of calls with these answers each that names another board's bar is answered so
   abbrev pub AreTurnedAway : ℕ → List (Call (BarRecord K) (Command K) × ℕ) → List Answer → Type 0
-  AreTurnedAway board_id [] [] = Unit {0}
-  AreTurnedAway board_id (call ∷ calls) (answer ∷ answers) = (NamesForeign board_id call.0 → answer ≡ Refused ForeignBar) × AreTurnedAway board_id calls answers
-  AreTurnedAway board_id _ _ = ⊥
+  AreTurnedAway mark [] [] = Unit {0}
+  AreTurnedAway mark (call ∷ calls) (answer ∷ answers) = (NamesForeign mark call.0 → answer ≡ Refused ForeignBar) × AreTurnedAway mark calls answers
+  AreTurnedAway mark _ _ = ⊥
 
-  -- a call of the board of this id takes its bar of this number out, drops it or tells it something
+  -- a call of the board of this mark takes its bar of this number out, drops it or tells it something
   abbrev pub acts_on : ℕ → ℕ → Call (BarRecord K) (Command K) → Bool
-  acts_on board_id number (Remove id) = is_bar board_id number id
-  acts_on board_id number (Drop id) = is_bar board_id number id
-  acts_on board_id number (Tell id command) = is_bar board_id number id
-  acts_on board_id number _ = false
+  acts_on mark number (Remove id) = is_bar mark number id
+  acts_on mark number (Drop id) = is_bar mark number id
+  acts_on mark number (Tell id command) = is_bar mark number id
+  acts_on mark number _ = false
 
 -- an answer gives the bar of this number
 abbrev pub gives : ℕ → Answer → Bool

@@ -6,7 +6,7 @@ use Rattle.indicatif_text.specs.declared.refusal.Drawn.TheVariants.{Yes}
 use Rattle.indicatif_term.specs.Calls.{TermView}
 use Rattle.indicatif_term.specs.Engines.{is_failure}
 use Rattle.indicatif_term.specs.Frames.{text_lines, logged_lines}
-use Rattle.indicatif_term.specs.Limiters.{draw_limiter}
+use Rattle.indicatif_term.specs.Limiters.{burst, draw_limiter}
 use Rattle.indicatif_term.specs.Lists.{opening_lists, all_rows}
 use Rattle.indicatif_term.specs.Screen.{Screen}
 use Rattle.indicatif_bar.specs.Bounds.{unforced_draws}
@@ -40,15 +40,15 @@ module _ {K : Type 0} (T : Type 0) (m : Tracking K) where
   abbrev pub FollowsFromItsCalls : Type 0
   FollowsFromItsCalls =
       (opened : Option TermView) (r : Record K T) (last : Option TermView) (run : IsRun m opened r last) → All (λ answer. is_undisturbed (drawn_of answer) ≡ true) (answers_of r.steps) →
-      outcomes (board (board_bars m) r.board_id) r.target (calls_of r.steps) (opening_board r.limiter) ≡ (answers_of r.steps, run.state)
+      outcomes (board (board_bars m) r.mark) r.target (calls_of r.steps) (opening_board r.limiter) ≡ (answers_of r.steps, run.state)
 
   -- a board that began with a rate's limiter, as it is made, has made at most 20 unforced draws, and one more for each interval from
   -- the making to the last of them
   abbrev pub HasBoundedDraws : Type 0
   HasBoundedDraws =
       (opened : Option TermView) (r : Record K T) (last : Option TermView) (run : IsRun m opened r last) (rate making : ℕ) → 0 < rate → rate < 256 → r.limiter ≡ Some (draw_limiter rate making) →
-      let moments = unforced_draws (board (board_bars m) r.board_id) (calls_of r.steps) (answers_of r.steps) opened (opening_board r.limiter) last run.state run.runs in
-      (final : ℕ) → last_or None moments ≡ Some final → length moments ≤ 20 + (final - making) / (draw_limiter rate making).interval
+      let moments = unforced_draws (board (board_bars m) r.mark) (calls_of r.steps) (answers_of r.steps) opened (opening_board r.limiter) last run.state run.runs in
+      (final : ℕ) → last_or None moments ≡ Some final → length moments ≤ burst + (final - making) / (draw_limiter rate making).interval
 
   -- an entry that logs a text, answered `Yes`, and behind which the terminal broke none off: the text's rows are above
   abbrev pub LoggedRowsStand : Type 0

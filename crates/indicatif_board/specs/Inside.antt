@@ -2,5 +2,6 @@
 pub mod Named
 pub mod Parting
 pub mod Standing
+pub mod Anchors
 pub mod Calls
 pub mod InWindow

@@ -9,6 +9,7 @@ pub mod BoardValues
 pub mod Calls
 pub mod ShownBars
 pub mod Multi
+pub mod Insertions
 pub mod OrderLaws
 pub mod LimitLaws
 pub mod LoneLaws

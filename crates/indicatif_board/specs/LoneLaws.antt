@@ -11,7 +11,7 @@ use Rattle.indicatif_board.specs.Boards.{BoardKind, BoardState, Id, End, New, Ca
 
 -- the first bar of a board
 abbrev pub first_bar : ℕ → Id
-first_bar board_id = record { board = board_id; number = 0 }
+first_bar mark = record { mark = mark; number = 0 }
 
 -- a board with one bar in the state of a lone one, and these lines stored of it
 abbrev pub with_one : {B : Type 0} → List (List ℕ) → LoneState B → BoardState B
@@ -25,22 +25,22 @@ with_one stored s = record {
 
 -- a lone bar's call, as one of that board: a log is the bar's own
 abbrev pub call_on_board : {B C : Type 0} → ℕ → LoneCall C → Call B C
-call_on_board board_id (Obey command) = Tell (first_bar board_id) command
-call_on_board board_id (Log text) = BarLog (first_bar board_id) text
-call_on_board board_id ClearLone = Clear
+call_on_board mark (Obey command) = Tell (first_bar mark) command
+call_on_board mark (Log text) = BarLog (first_bar mark) text
+call_on_board mark ClearLone = Clear
 
 -- the same with its moment
 abbrev pub on_board : {B C : Type 0} → ℕ → LoneCall C × ℕ → Call B C × ℕ
-on_board board_id call = (call_on_board board_id call.0, call.1)
+on_board mark call = (call_on_board mark call.0, call.1)
 
 -- a bar that is taken in first makes such a board, as a lone bar begins
 abbrev pub OneIsTakenIn : Type 0 → Type 0
-OneIsTakenIn B = (board_id : ℕ) (bar : B) (limiter : Option Limiter) →
-    inserted board_id End (New bar) (opening_board limiter) ≡ AtOnce true (Given (first_bar board_id)) (with_one [] (opening_state bar limiter))
+OneIsTakenIn B = (mark : ℕ) (bar : B) (limiter : Option Limiter) →
+    inserted mark End (New bar) (opening_board limiter) ≡ AtOnce true (Given (first_bar mark)) (with_one [] (opening_state bar limiter))
 
 -- from then on every run of a lone bar is one of the board: same answers, same bytes, same lists, so the same picture
 abbrev pub LoneRunsAreBoardRuns : {B C : Type 0} → BoardKind B C → Type 0
 LoneRunsAreBoardRuns {B} {C} kind =
-    (board_id : ℕ) (calls : List (LoneCall C × ℕ)) (answers : List (Result Drawn Refusal)) (old : Option TermView) (s : LoneState B) (new : Option TermView) (next : LoneState B)
+    (mark : ℕ) (calls : List (LoneCall C × ℕ)) (answers : List (Result Drawn Refusal)) (old : Option TermView) (s : LoneState B) (new : Option TermView) (next : LoneState B)
     (stored : List (List ℕ)) → Runs (lone kind.bars) calls answers old s new next →
-    (stored_then : List (List ℕ)) × Runs (board kind board_id) (map (on_board board_id) calls) (map says answers) old (with_one stored s) new (with_one stored_then next)
+    (stored_then : List (List ℕ)) × Runs (board kind mark) (map (on_board mark) calls) (map says answers) old (with_one stored s) new (with_one stored_then next)

@@ -1,5 +1,5 @@
 -- What contracts see of a board: its terminal, whether it is in a given state, and what a call leads to.
-use Rattle.std.specs.Prelude.{◌≡◌, ◌≢◌, ◌⊎◌, ℕ, ◌+◌, ◌-◌, min, length, ◌==◌, Bool, IsTrue, List, [], ◌∷◌, Option, Some, None, MatchOption, option_map, Result, Err, refl}
+use Rattle.std.specs.Prelude.{◌≡◌, ◌≢◌, ◌⊎◌, ℕ, ◌+◌, ◌-◌, min, length, ◌==◌, Bool, IsTrue, IsFalse, List, [], ◌∷◌, Option, Some, None, MatchOption, option_map, Result, Err, refl}
 use Rattle.std.specs.List.{list_any, position_or_len}
 use Rattle.indicatif_text.specs.declared.refusal.Refusal.{Refusal}
 use Rattle.indicatif_text.specs.declared.refusal.Drawn.{Drawn}
@@ -43,10 +43,10 @@ module _ {K T : Type 0} where
   abbrev pub slots_of : Board K T → SlotTable
   slots_of b = b.shown.table
 
-  -- the board of this id may be in this state; on a hidden target it has no rows. Of the rows only the numbers are kept, so many
+  -- the board of this mark may be in this state; on a hidden target it has no rows. Of the rows only the numbers are kept, so many
   -- states fit one board; what is claimed holds of each
   unfoldable pub IsIn : ℕ → Board K T → BoardState (BarRecord K) → Type 0
-  IsIn board_id b s = (b.board_id ≡ board_id) × AreShownAs b.shown s × IsStaged b.stage s.limiter s.lists
+  IsIn mark b s = (b.mark ≡ mark) × AreShownAs b.shown s × IsStaged b.stage s.limiter s.lists
 
   -- what is known of its terminal
   abbrev pub known : (T → TermView) → Board K T → Option TermView
@@ -56,9 +56,14 @@ module _ {K T : Type 0} where
   abbrev pub IsNowhere : (T → TermView) → Board K T → Type 0
   IsNowhere view b = (target_of (known view b)).columns ≡ 0
 
-  -- the id that its bars have
-  abbrev pub board_id_of : Board K T → ℕ
-  board_id_of b = b.board_id
+  -- the mark that its bars have
+  abbrev pub mark_of : Board K T → ℕ
+  mark_of b = b.mark
+
+  -- its mark and how its draws go are as before; where it was not written, its terminal is, too; and it was not, where there is nothing to draw on
+  abbrev pub Keeps : (T → TermView) → Bool → Board K T → Board K T → Type 0
+  Keeps view written old new =
+      (mark_of new ≡ mark_of old) × (moves_of new ≡ moves_of old) × (IsFalse written → terminal_of new ≡ terminal_of old) × (IsNowhere view old → IsFalse written)
 
   -- the record of its bar of a number; none where no call may name that: it was removed, dropped or never given
   abbrev pub record_at : ℕ → Board K T → Option (BarRecord K)
@@ -66,7 +71,7 @@ module _ {K T : Type 0} where
 
   -- a bar of this board that no call may name: it was removed, dropped or never given
   abbrev pub IsAbsent : Board K T → Id → Type 0
-  IsAbsent b id = (id.board ≡ b.board_id) × (record_at id.number b ≡ None)
+  IsAbsent b id = (id.mark ≡ b.mark) × (record_at id.number b ≡ None)
 
   -- such a bar is to be taken in
   abbrev pub EntersAbsent : Board K T → Entrant (BarRecord K) → Type 0
@@ -80,10 +85,6 @@ module _ {K T : Type 0} where
   -- every bar's record is as before
   abbrev pub RecordsStay : Board K T → Board K T → Type 0
   RecordsStay old new = (number : ℕ) → record_at number new ≡ record_at number old
-
-  -- the terminal, how draws go to it, the slots and all records are as before
-  abbrev pub AllStays : Board K T → Board K T → Type 0
-  AllStays old new = (terminal_of new ≡ terminal_of old) × (moves_of new ≡ moves_of old) × (slots_of new ≡ slots_of old) × RecordsStay old new
 
   -- every bar's is, but for that of this number
   abbrev pub OtherRecordsStay : ℕ → Board K T → Board K T → Type 0
@@ -99,7 +100,7 @@ module _ {K T : Type 0} where
   -- already, all stay
   abbrev pub RecordsTake : Entrant (BarRecord K) → Answer → Board K T → Board K T → Type 0
   RecordsTake (New bar) (Given id) old new =
-      (id.board ≡ old.board_id) × (record_at id.number old ≡ None) × (record_at id.number new ≡ Some bar) × OtherRecordsStay id.number old new
+      (id.mark ≡ old.mark) × (record_at id.number old ≡ None) × (record_at id.number new ≡ Some bar) × OtherRecordsStay id.number old new
   RecordsTake _ _ old new = RecordsStay old new
 
   -- one was to be taken in there: a new bar stands there, and has the slot that was freed last, or where none was free the first
@@ -135,7 +136,7 @@ module _ {K T : Type 0} where
 
   -- a call named a bar: of a bar of this board it made what is said, and others stay; of another board's, all stay
   abbrev pub NamedGoes : Id → Type 0 → Board K T → Board K T → Type 0
-  NamedGoes id goes old new = (id.board ≡ old.board_id → goes) × (id.board ≢ old.board_id → RecordsStay old new) × OtherRecordsStay id.number old new
+  NamedGoes id goes old new = (id.mark ≡ old.mark → goes) × (id.mark ≢ old.mark → RecordsStay old new) × OtherRecordsStay id.number old new
 
   -- what a call with this answer made of the records
   abbrev pub RecordsChange : Tracking K → Call (BarRecord K) (Command K) → ℕ → Answer → Board K T → Board K T → Type 0
@@ -154,17 +155,17 @@ module _ {K T : Type 0} where
   -- this answer
   abbrev pub LeadsBy : Tracking K → (T → TermView) → Board K T → Board K T → Call (BarRecord K) (Command K) → ℕ → Answer → Type 0
   LeadsBy m view old new call now answer =
-      (board_id : ℕ) (s : BoardState (BarRecord K)) → IsIn board_id old s →
-      (next : BoardState (BarRecord K)) × IsIn board_id new next × CallMade (board (board_bars m) board_id) (known view old) (known view new) (call, now) s answer next
+      (mark : ℕ) (s : BoardState (BarRecord K)) → IsIn mark old s →
+      (next : BoardState (BarRecord K)) × IsIn mark new next × CallMade (board (board_bars m) mark) (known view old) (known view new) (call, now) s answer next
 
   -- the same of a board that was suspended: it was cleared and drawn again; or the clear was refused, and nothing drawn
   abbrev pub Suspends : Tracking K → (T → TermView) → Board K T → Board K T → ℕ → Result Drawn Refusal → Type 0
   Suspends m view old new now answer =
-      (board_id : ℕ) (s : BoardState (BarRecord K)) → IsIn board_id old s → let machine = board (board_bars m) board_id in
-      (next : BoardState (BarRecord K)) × IsIn board_id new next
+      (mark : ℕ) (s : BoardState (BarRecord K)) → IsIn mark old s → let machine = board (board_bars m) mark in
+      (next : BoardState (BarRecord K)) × IsIn mark new next
       × (((cleared : Drawn) × Runs machine ((Clear, now) ∷ (Redraw, now) ∷ []) (Drew cleared ∷ says answer ∷ []) (known view old) s (known view new) next)
       ⊎ ((e : Refusal) × (answer ≡ Err e) × Runs machine ((Clear, now) ∷ []) (Refused e ∷ []) (known view old) s (known view new) next))
 
 -- a board with other rows, as its terminal gets another size
-abbrev pub board_sizing : {K : Type 0} → (m : Tracking K) (board_id : ℕ) → Sizing (board (board_bars m) board_id)
-board_sizing m board_id = record { put = λ l s. record s { lists = l }; lists_are = λ l s. refl }
+abbrev pub board_sizing : {K : Type 0} → (m : Tracking K) (mark : ℕ) → Sizing (board (board_bars m) mark)
+board_sizing m mark = record { put = λ l s. record s { lists = l }; lists_are = λ l s. refl }

@@ -44,17 +44,17 @@ module _ {B C : Type 0} where
   abbrev pub new_numbers : List (Call B C × ℕ) → List Answer → List ℕ
   new_numbers calls answers = map (λ id. id.number) (new_bars calls answers)
 
-  -- a run counts them up from the next number on, all of the board's id
+  -- a run counts them up from the next number on, all of the board's mark
   abbrev pub NumbersCount : BoardKind B C → ℕ → Type 0
-  NumbersCount kind board_id =
+  NumbersCount kind mark =
       (calls : List (Call B C × ℕ)) (answers : List Answer) (old : Option TermView) (s : BoardState B) (new : Option TermView) (next : BoardState B) →
-      Runs (board kind board_id) calls answers old s new next →
+      Runs (board kind mark) calls answers old s new next →
       let count = length (new_bars calls answers) in
-      (new_bars calls answers ≡ map (λ n. record { board = board_id; number = n }) (range_with_len s.made count)) × (next.made ≡ s.made + count)
+      (new_bars calls answers ≡ map (λ n. record { mark = mark; number = n }) (range_with_len s.made count)) × (next.made ≡ s.made + count)
 
   -- so they are all different, and none is a number that was given before
   abbrev pub NumbersAreNew : BoardKind B C → ℕ → Type 0
-  NumbersAreNew kind board_id =
+  NumbersAreNew kind mark =
       (calls : List (Call B C × ℕ)) (answers : List Answer) (old : Option TermView) (s : BoardState B) (new : Option TermView) (next : BoardState B) →
-      Runs (board kind board_id) calls answers old s new next →
+      Runs (board kind mark) calls answers old s new next →
       (number : ℕ) → (occurrences number (new_numbers calls answers) ≤ 1) × (number < s.made → occurrences number (new_numbers calls answers) ≡ 0)

@@ -37,7 +37,7 @@ module _ {K : Type 0} (m : Tracking K) where
 -- where all these texts are plain, so is every run, and the headline holds of it; and the board's texts are plain at its end, so that
 -- what comes after it is plain too
 abbrev pub BoardRunsArePlain : {K : Type 0} → Tracking K → Type 0
-BoardRunsArePlain {K} m = (board_id : ℕ) (calls : List (Call (BarRecord K) (Command K) × ℕ)) (answers : List Answer) (old : Option TermView)
+BoardRunsArePlain {K} m = (mark : ℕ) (calls : List (Call (BarRecord K) (Command K) × ℕ)) (answers : List Answer) (old : Option TermView)
     (s : BoardState (BarRecord K)) (new : Option TermView) (next : BoardState (BarRecord K))
-    (run : Runs (board (board_bars m) board_id) calls answers old s new next) →
-    IsPlainBoard m s → All (λ call. IsPlainCall m call.0) calls → AllPlain (board (board_bars m) board_id) calls answers old s new next run × IsPlainBoard m next
+    (run : Runs (board (board_bars m) mark) calls answers old s new next) →
+    IsPlainBoard m s → All (λ call. IsPlainCall m call.0) calls → AllPlain (board (board_bars m) mark) calls answers old s new next run × IsPlainBoard m next

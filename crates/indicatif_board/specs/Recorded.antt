@@ -47,9 +47,9 @@ BoardStep K = CallStep (Call (BarRecord K) (Command K)) Answer
 abbrev pub step_of : {K : Type 0} → Entry K → BoardStep K
 step_of e = record { call = call_of e.call; now = e.now; answer = answer_of e.answer }
 
--- a board, the id, the limiter and the target that it began with, and the steps that it has made since
+-- a board, the mark, the limiter and the target that it began with, and the steps that it has made since
 pub record Record (K T : Type 0) : Type 0 where
-  pub board_id : ℕ
+  pub mark : ℕ
   pub limiter : Option Limiter
   pub target : Target
   pub board : Board K T
@@ -66,8 +66,8 @@ module _ {K T : Type 0} where
   pub record IsRun (m : Tracking K) (opened : Option TermView) (r : Record K T) (last : Option TermView) : Type 0 where
     pub size : target_of opened ≡ r.target
     pub state : BoardState (BarRecord K)
-    pub holds : IsIn r.board_id r.board state
-    pub runs : Runs (board (board_bars m) r.board_id) (calls_of r.steps) (answers_of r.steps) opened (opening_board r.limiter) last state
+    pub holds : IsIn r.mark r.board state
+    pub runs : Runs (board (board_bars m) r.mark) (calls_of r.steps) (answers_of r.steps) opened (opening_board r.limiter) last state
 
   -- they are one run, whatever the terminal tells: what is claimed of a terminal of this size that tells nothing holds of it
   abbrev pub IsOneRun : Tracking K → Record K T → Type 0
@@ -75,7 +75,7 @@ module _ {K T : Type 0} where
 
   -- the board made this call, with this answer, and exactly that was added
   pub record AddsCall (m : Tracking K) (view : T → TermView) (old : Record K T) (call : Call (BarRecord K) (Command K)) (now : ℕ) (answer : Answer) (new : Record K T) : Type 0 where
-    pub board_id : new.board_id ≡ old.board_id
+    pub mark : new.mark ≡ old.mark
     pub limiter : new.limiter ≡ old.limiter
     pub target : new.target ≡ old.target
     -- the terminal had the opening's size

@@ -1,15 +1,15 @@
 //! Bars by their numbers.
 
-/// A bar by its board and its number there. Boards are told apart by their ids alone, and numbers are never used again.
+/// A bar by its board's mark and its number there. Boards are told apart by their marks alone, and numbers are never used again.
 ///
 /// ```
-/// let elsewhere = BarId { board: 0, number: 1 };
+/// let elsewhere = BarId { mark: 0, number: 1 };
 /// assert!(matches!(board.remove(elsewhere), Err(Refusal::ForeignBar)));
 /// ```
 #[derive(Clone, Copy, Debug, Drop, PartialEq, Eq)]
 pub struct BarId {
-    /// The board's id.
-    pub board: u64,
+    /// The board's mark: a number that its maker chose.
+    pub mark: u64,
     /// The bar's number, counted from 0 as bars were taken in.
     pub number: u64,
 }

@@ -3,7 +3,7 @@ ghost use Rattle.std.specs.Prelude.{◌≡◌, ◌⊎◌, ◌++◌, ◌+◌, ◌
 ghost use Rattle.indicatif_bar.specs.Runs.{wrote};
 ghost use Rattle.indicatif_board.specs.Boards.{Log, says};
 ghost use Rattle.indicatif_board.specs.Bridge.{bridge_bytes, level_column};
-ghost use Rattle.indicatif_board.specs.Multi.{LeadsBy, RecordsStay, IsNowhere, board_id_of, terminal_of};
+ghost use Rattle.indicatif_board.specs.Multi.{LeadsBy, RecordsStay, IsNowhere, mark_of, terminal_of};
 
 use crate::multi::Board;
 use indicatif_bar::style::Tracks;
@@ -51,7 +51,7 @@ pub fn emit<K: Tracks, T: TermLike + Drop>(
 ) -> Result<Drawn, Refusal>
     ensures silent { IsFalse (wrote result) → terminal_of board.new ≡ terminal_of board.old }
     ensures nowhere { IsNowhere T.view board.old → IsFalse (wrote result) }
-    ensures board_id { board_id_of board.new ≡ board_id_of board.old }
+    ensures mark { mark_of board.new ≡ mark_of board.old }
     ensures logged { LeadsBy K.means T.view board.old board.new (Log (bridge_bytes level text.now)) now (says result)
         ⊎ ((result ≡ Err Refusal.Memory) × (board.new ≡ board.old)) }
     ensures records { RecordsStay board.old board.new }

@@ -1,38 +1,39 @@
 //! The bars of a board for which its terminal may have rows.
-ghost use Rattle.std.specs.Prelude.{◌≡◌, ◌⊎◌, ◌≤◌, map, take, length};
+ghost use Rattle.std.specs.Prelude.{◌≡◌, ◌⊎◌, ◌≤◌, Bool, Result, map, min, take, length};
 ghost use Rattle.indicatif_term.specs.Frames.{all_lines, bar_lines};
-ghost use Rattle.indicatif_term.specs.DrawTargets.{is_bottom};
+ghost use Rattle.indicatif_term.specs.declared.engine.Engine.{Engine};
 ghost use Rattle.indicatif_bar.specs.Shown.{PutsFrame};
 ghost use Rattle.indicatif_bar.specs.Stages.{writing_as};
 ghost use Rattle.indicatif_board.specs.Inside.InWindow.{drawn_from};
+ghost use Rattle.indicatif_text.specs.declared.refusal.Refusal.{Refusal};
 
-use indicatif_bar::stage::{Writing, put};
-use indicatif_term::draw_target::{Engine, MultiProgressAlignment, Segment};
+use indicatif_bar::stage::Writing;
+use indicatif_term::draw_target::{Engine, Segment};
 use indicatif_term::term_like::TermLike;
-use indicatif_text::columns::Refusal;
 
 /// No character takes more columns than these. So on a terminal that has as many, no line is too wide.
 const WIDEST: u16 = 3;
 
-/// Writes on an engine's terminal, where the first `gone` bars are those that are gone. Bars below the terminal's last row aren't looked at,
-/// unless one of their lines may be too wide: each line takes a row at least.
-pub fn put_in_window<T: TermLike + Drop>(
-    engine: &mut Engine<T>,
+/// How many bars from the front are looked at, of a frame whose first `gone` bars are those that are gone: what is put of these is put of all.
+/// Bars below the terminal's last row aren't, unless one of their lines may be too wide: each line takes a row at least.
+pub fn bars_in_window<T: TermLike + Drop>(
+    engine: &Engine<T>,
     frame: &[Segment],
     gone: usize,
-    alignment: MultiProgressAlignment,
-    writing: Writing<'_>,
-) -> Result<(), Refusal>
+    writing: &Writing<'_>,
+) -> usize
     requires { gone ≤ length frame.now }
-    ensures { PutsFrame T.view (writing_as writing.entry) (is_bottom alignment) gone (map bar_lines frame.now) engine.old engine.new result }
+    ensures within { result ≤ length frame.now }
+    ensures sees { (bottom : Bool) (new : Engine T) (answer : Result Unit Refusal) →
+        PutsFrame T.view (writing_as writing.now) bottom (min gone result) (map bar_lines (take result frame.now)) engine.now new answer →
+        PutsFrame T.view (writing_as writing.now) bottom gone (map bar_lines frame.now) engine.now new answer }
 {
     if engine.term().width() < WIDEST {
-        return put(engine, frame, gone, alignment, writing);
+        return frame.len();
     }
     let rows = engine.term().height() as usize;
-    let first = drawn_from(&writing, gone);
-    let end = first + bars_with_lines(&frame[first..], rows);
-    put(engine, &frame[..end], gone.min(end), alignment, writing)
+    let first = drawn_from(writing, gone);
+    first + bars_with_lines(&frame[first..], rows)
 }
 
 /// The place of the first bar that is drawn: below a text those that are gone are left out.

@@ -33,34 +33,34 @@ pub fn halves_join_again()
 /// lists of its start to one at rest with the lists of its end, whose rows are the untouched ones, the rows above, the kept rows
 /// and the live frame, all else blank, and rows above are only added.
 pub fn what_a_run_leaves<B, C>()
-    ensures { (kind : BoardKind B C) (board_id : ℕ) → RunsPaint (board kind board_id) }
+    ensures { (kind : BoardKind B C) (mark : ℕ) → RunsPaint (board kind mark) }
 {}
 
 /// Rows that were logged, or drawn above the bars, by any call of a board's run stand from its exit to the run's end, after each
 /// byte, whichever of the run's calls the terminal breaks off, before that call or after it.
 pub fn what_lasts_throughout<B, C>()
-    ensures { (kind : BoardKind B C) (board_id : ℕ) → RowsAboveLast (board kind board_id) }
+    ensures { (kind : BoardKind B C) (mark : ℕ) → RowsAboveLast (board kind mark) }
 {}
 
 /// Of any terminal that shows the lists of a board's run at its start and is given the run's bytes: after each byte, whatever fails
 /// in the run, the picture begins with the untouched rows' texts and those of the rows above at its start; and where nothing
 /// failed the terminal shows the lists at its end, so that the rest of a run starts there.
 pub fn what_is_read_throughout<B, C>()
-    ensures { (kind : BoardKind B C) (board_id : ℕ) → RunsReadFromBytes (board kind board_id) }
+    ensures { (kind : BoardKind B C) (mark : ℕ) → RunsReadFromBytes (board kind mark) }
 {}
 
 /// The same as it is read: after a run that the terminal did not break off, on a terminal that tells its state and shows the
 /// lists of the run's start, the picture is the untouched rows' texts, then those of the lists' rows, then empty ones.
 pub fn what_a_run_reads<B, C>()
-    ensures { (kind : BoardKind B C) (board_id : ℕ) → RunsAreRead (board kind board_id) }
+    ensures { (kind : BoardKind B C) (mark : ℕ) → RunsAreRead (board kind mark) }
 {}
 
 /// The same from a terminal that shows the lists of the run's start, whatever the calls are: a board's rows are forgotten only
 /// where the terminal failed.
 pub fn what_a_board_run_reads<K: Tracks>()
-    ensures { (board_id : ℕ) (calls : List (Call (BarRecord K) (Command K) × ℕ)) (answers : List Answer) (v : TermView)
+    ensures { (mark : ℕ) (calls : List (Call (BarRecord K) (Command K) × ℕ)) (answers : List Answer) (v : TermView)
         (s : BoardState (BarRecord K)) (new : Option TermView) (next : BoardState (BarRecord K)) →
-        IsFalse s.lists.failed → ReadsAfter (board (board_bars K.means) board_id) calls answers v s new next }
+        IsFalse s.lists.failed → ReadsAfter (board (board_bars K.means) mark) calls answers v s new next }
 {}
 
 /// Where the texts of bars, commands and logs consist of characters with a width and colour sequences, every run of a board is
@@ -73,12 +73,12 @@ pub fn plain_texts_give_plain_runs<K: Tracks>()
 /// Where the terminal never failed and memory was never refused, a board's run has one outcome: its answers and its last
 /// state follow from its calls alone.
 pub fn one_outcome<B, C>()
-    ensures { (kind : BoardKind B C) (board_id : ℕ) → OneOutcome (board kind board_id) }
+    ensures { (kind : BoardKind B C) (mark : ℕ) → OneOutcome (board kind mark) }
 {}
 
 /// Rows above are only added by a board's run of which the terminal broke no call off, whatever its texts are.
 pub fn rows_above_are_only_added<B, C>()
-    ensures { (kind : BoardKind B C) (board_id : ℕ) → AboveOnlyGrows (board kind board_id) }
+    ensures { (kind : BoardKind B C) (mark : ℕ) → AboveOnlyGrows (board kind mark) }
 {}
 
 /// What the history of a board says of it (`Recorded`), also of one that threads share. It is one run from the opening on, so where
@@ -94,12 +94,12 @@ pub fn what_a_history_says<K: Tracks, T>()
 
 /// When a call of a board gives which answer.
 pub fn what_an_answer_says<B, C>()
-    ensures { (kind : BoardKind B C) (board_id : ℕ) → EachSays (board kind board_id) }
+    ensures { (kind : BoardKind B C) (mark : ℕ) → EachSays (board kind mark) }
 {}
 
 /// The same of a board whose bars have these trackers, for whoever is lent one.
 pub fn what_a_board_answers<K: Tracks>()
-    ensures { (board_id : ℕ) → EachSays (board (board_bars K.means) board_id) }
+    ensures { (mark : ℕ) → EachSays (board (board_bars K.means) mark) }
 {}
 
 /// A lone bar is a board with one bar, which lays itself out at each draw and keeps no rows: every run of it is one of that board,
@@ -114,35 +114,35 @@ pub fn a_lone_bar_is_a_board_of_one<K: Tracks>()
 /// limiter on as many as it has in hand, and one for each interval from its moment on; and what two runs spend, one after the other,
 /// adds up (`how_often_a_run_draws`). Without a limiter each draw is allowed.
 pub fn a_board_is_limited<B, C>()
-    ensures asks { (kind : BoardKind B C) (board_id : ℕ) → IsLimited (board kind board_id) (λ s. s.limiter) }
-    ensures bounded { (kind : BoardKind B C) (board_id : ℕ) → RunsAreBounded (board kind board_id) (λ s. s.limiter) }
-    ensures from_any { (kind : BoardKind B C) (board_id : ℕ) → RunsAreBoundedFrom (board kind board_id) (λ s. s.limiter) }
-    ensures spends { (kind : BoardKind B C) (board_id : ℕ) → RunsSpend (board kind board_id) (λ s. s.limiter) }
-    ensures free { (kind : BoardKind B C) (board_id : ℕ) (target : Target) (call : Call B C) (now : ℕ) (s : BoardState B) → s.limiter ≡ None →
-        IsAllowed ((board kind board_id).deed target call now s) }
+    ensures asks { (kind : BoardKind B C) (mark : ℕ) → IsLimited (board kind mark) (λ s. s.limiter) }
+    ensures bounded { (kind : BoardKind B C) (mark : ℕ) → RunsAreBounded (board kind mark) (λ s. s.limiter) }
+    ensures from_any { (kind : BoardKind B C) (mark : ℕ) → RunsAreBoundedFrom (board kind mark) (λ s. s.limiter) }
+    ensures spends { (kind : BoardKind B C) (mark : ℕ) → RunsSpend (board kind mark) (λ s. s.limiter) }
+    ensures free { (kind : BoardKind B C) (mark : ℕ) (target : Target) (call : Call B C) (now : ℕ) (s : BoardState B) → s.limiter ≡ None →
+        IsAllowed ((board kind mark).deed target call now s) }
 {}
 
 /// Scripts of a board, that is runs with sizes between them: where the terminal broke no call off, they are read, whenever the sizes
 /// come; and sizes count for nothing in how often it draws. What else is said of scripts holds of any that draws by calls.
 pub fn scripts_of_a_board<K: Tracks>()
-    ensures read { (board_id : ℕ) → UnbrokenScriptsAreRead (board (board_bars K.means) board_id) (board_sizing K.means board_id) }
-    ensures bounded { (board_id : ℕ) → ScriptsAreBounded (board (board_bars K.means) board_id) (board_sizing K.means board_id) (λ s. s.limiter) }
-    ensures from_any { (board_id : ℕ) → ScriptsAreBoundedFrom (board (board_bars K.means) board_id) (board_sizing K.means board_id) (λ s. s.limiter) }
-    ensures spends { (board_id : ℕ) → ScriptsSpend (board (board_bars K.means) board_id) (board_sizing K.means board_id) (λ s. s.limiter) }
+    ensures read { (mark : ℕ) → UnbrokenScriptsAreRead (board (board_bars K.means) mark) (board_sizing K.means mark) }
+    ensures bounded { (mark : ℕ) → ScriptsAreBounded (board (board_bars K.means) mark) (board_sizing K.means mark) (λ s. s.limiter) }
+    ensures from_any { (mark : ℕ) → ScriptsAreBoundedFrom (board (board_bars K.means) mark) (board_sizing K.means mark) (λ s. s.limiter) }
+    ensures spends { (mark : ℕ) → ScriptsSpend (board (board_bars K.means) mark) (board_sizing K.means mark) (λ s. s.limiter) }
 {}
 
 /// No bar stands in a board's order twice, and none that was not taken in: so it is at first, and after each call of any run.
 pub fn each_bar_stands_once<B, C>()
     ensures first { (limiter : Option Limiter) → StandsOnce {B = B} (opening_board limiter) }
-    ensures kept { (kind : BoardKind B C) (board_id : ℕ) → RunsPreserve (board kind board_id) StandsOnce }
+    ensures kept { (kind : BoardKind B C) (mark : ℕ) → RunsPreserve (board kind mark) StandsOnce }
 {}
 
 /// A board counts the bars that it takes in: in any run they get the next numbers one after another, so that no two have the
 /// same, and none has one that was given before. A bar that left the order never comes back.
 pub fn numbers_are_never_used_again<B, C>()
-    ensures counted { (kind : BoardKind B C) (board_id : ℕ) → NumbersCount kind board_id }
-    ensures new { (kind : BoardKind B C) (board_id : ℕ) → NumbersAreNew kind board_id }
-    ensures gone { (kind : BoardKind B C) (board_id number : ℕ) → RunsPreserve (board kind board_id) (IsGone number) }
+    ensures counted { (kind : BoardKind B C) (mark : ℕ) → NumbersCount kind mark }
+    ensures new { (kind : BoardKind B C) (mark : ℕ) → NumbersAreNew kind mark }
+    ensures gone { (kind : BoardKind B C) (mark number : ℕ) → RunsPreserve (board kind mark) (IsGone number) }
 {}
 
 /// A bar has a slot exactly where it stands in the order, and no two bars have the same.

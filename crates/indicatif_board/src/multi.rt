@@ -45,7 +45,7 @@ use std::alloc::Global;
 /// the bars. Nobody else writes to the terminal while the board lives, and the bars' lines hold printable characters and colour
 /// sequences alone.
 ///
-/// A call that names a bar is refused with `ForeignBar` where the bar has another board's id, and with `NotMember` where it was
+/// A call that names a bar is refused with `ForeignBar` where the bar has another board's mark, and with `NotMember` where it was
 /// removed, dropped or never given; nothing has changed then. (`remove` answers `None` in place of `NotMember`, and `slot` in place
 /// of both.) Else a call that draws goes the steps that `LoneBar` lists, with the
 /// stored lines of all bars in their order in the place of its own; of the bars only the one that is named is laid out anew, and that
@@ -57,7 +57,7 @@ use std::alloc::Global;
 /// board.println("a.txt", now)?; // stands above the bars from now on
 /// ```
 pub struct Board<K, T: Drop> {
-    board_id: u64,
+    mark: u64,
     shown: ShownBars<K>,
     stage: Stage<T>,
 }
@@ -65,7 +65,7 @@ pub struct Board<K, T: Drop> {
 impl<K: Drop, T: Drop> Drop for Board<K, T> {
     fn drop(self) {
         let Board {
-            board_id: _,
+            mark: _,
             shown: _,
             stage: _,
         } = self;
@@ -73,19 +73,19 @@ impl<K: Drop, T: Drop> Drop for Board<K, T> {
 }
 
 impl<K: Tracks, T: TermLike + Drop> Board<K, T> {
-    ghost use Rattle.indicatif_board.specs.Multi.{IsIn, IsNowhere, AllStays, board_id_of, record_at, RecordsStay, OtherRecordsStay, RecordObeys};
+    ghost use Rattle.indicatif_board.specs.Multi.{IsIn, IsNowhere, Keeps, mark_of, record_at, RecordsStay, OtherRecordsStay, RecordObeys};
     ghost use Rattle.indicatif_board.specs.Multi.{SlotsLeft, HeadHasRecord, LeadsBy, Suspends, known, moves_of, slots_of, terminal_of};
 
-    /// A board without bars on this target, of this id. It takes no memory and writes nothing.
-    pub fn new(alloc: Global, target: ProgressDrawTarget<T>, board_id: u64) -> Self
-        ensures state { IsIn board_id result (opening_board (limiter_of target)) }
-        ensures board_id { board_id_of result ≡ board_id }
+    /// A board without bars on this target, of this mark. It takes no memory and writes nothing.
+    pub fn new(alloc: Global, target: ProgressDrawTarget<T>, mark: u64) -> Self
+        ensures state { IsIn mark result (opening_board (limiter_of target)) }
+        ensures mark { mark_of result ≡ mark }
         ensures records { (number : ℕ) → record_at number result ≡ None }
         ensures terminal { terminal_of result ≡ term_of target }
         ensures moves { IfSome (moves_of result) (λ moves. moves ≡ false) }
     {
         Board {
-            board_id,
+            mark,
             shown: ShownBars::new(alloc),
             stage: Stage::new(alloc, target),
         }
@@ -109,12 +109,12 @@ impl<K: Tracks, T: TermLike + Drop> Board<K, T> {
     ///
     /// Refused: `ForeignBar` or `NotMember`, as `Board` says.
     pub fn bar(&self, id: BarId) -> Result<&BarState<K>, Refusal>
-        ensures foreign { id.board ≢ board_id_of self.now → result ≡ Err Refusal.ForeignBar }
-        ensures turned { (board_id : ℕ) (s : BoardState (BarRecord K)) → IsIn board_id self.now s →
-            MatchResult result (λ bar. turned_away board_id (id_of id) s ≡ None) (λ e. turned_away board_id (id_of id) s ≡ Some e) }
-        ensures bar { (board_id : ℕ) (s : BoardState (BarRecord K)) (other : BarRecord K) → IsIn board_id self.now s →
+        ensures foreign { id.mark ≢ mark_of self.now → result ≡ Err Refusal.ForeignBar }
+        ensures turned { (mark : ℕ) (s : BoardState (BarRecord K)) → IsIn mark self.now s →
+            MatchResult result (λ bar. turned_away mark (id_of id) s ≡ None) (λ e. turned_away mark (id_of id) s ≡ Some e) }
+        ensures bar { (mark : ℕ) (s : BoardState (BarRecord K)) (other : BarRecord K) → IsIn mark self.now s →
             IfOk result (λ bar. bar.now ≡ said_of other (λ b. b) id.number s.members) }
-        ensures record { id.board ≡ board_id_of self.now →
+        ensures record { id.mark ≡ mark_of self.now →
             MatchResult result (λ bar. record_at id.number self.now ≡ Some bar.now) (λ e. (e ≡ Refusal.NotMember) × (record_at id.number self.now ≡ None)) }
     {
         let at = self.find(id)?;
@@ -124,8 +124,8 @@ impl<K: Tracks, T: TermLike + Drop> Board<K, T> {
     /// The bars' numbers in their order, from the top. A bar that was dropped stands there until it leaves. The board is in some
     /// state: of that, and of each other that it may be in, hold the claims of its calls.
     pub fn order(&self) -> &[u64]
-        ensures some { (s : BoardState (BarRecord K)) × IsIn (board_id_of self.now) self.now s }
-        ensures order { (board_id : ℕ) (s : BoardState (BarRecord K)) → IsIn board_id self.now s → result.now ≡ order_of s.members }
+        ensures some { (s : BoardState (BarRecord K)) × IsIn (mark_of self.now) self.now s }
+        ensures order { (mark : ℕ) (s : BoardState (BarRecord K)) → IsIn mark self.now s → result.now ≡ order_of s.members }
         ensures slots { result.now ≡ (slots_of self.now).order }
         ensures seated { IsSeated (slots_of self.now) }
         ensures absent { (number : ℕ) → occurrences number result.now ≡ 0 → record_at number self.now ≡ None }
@@ -133,13 +133,13 @@ impl<K: Tracks, T: TermLike + Drop> Board<K, T> {
         self.shown.table.order()
     }
 
-    /// A bar's slot; `None` where it isn't in the order, or has another board's id. No two bars in the order have the same, and
+    /// A bar's slot; `None` where it isn't in the order, or has another board's mark. No two bars in the order have the same, and
     /// a bar keeps its own as long as it stands there (law `each_bar_stays_in_its_slot`). A new bar gets the one that was freed last, or
     /// the first that was never used.
     pub fn slot(&self, id: BarId) -> Option<usize>
-        ensures { result ≡ (if id.board == board_id_of self.now then slot_of id.number (slots_of self.now) else None) }
+        ensures { result ≡ (if id.mark == mark_of self.now then slot_of id.number (slots_of self.now) else None) }
     {
-        if id.board != self.board_id {
+        if id.mark != self.mark {
             return None;
         }
         self.shown.table.slot(id.number)
@@ -149,14 +149,14 @@ impl<K: Tracks, T: TermLike + Drop> Board<K, T> {
     /// bars begin anew, with their next draw.
     pub fn set_draw_target(&mut self, target: ProgressDrawTarget<T>) -> ProgressDrawTarget<T>
         ensures old { term_of result ≡ terminal_of self.old }
-        ensures old_limiter { (board_id : ℕ) (s : BoardState (BarRecord K)) → IsIn board_id self.old s → IfSome result (λ t. t.1 ≡ s.limiter) }
+        ensures old_limiter { (mark : ℕ) (s : BoardState (BarRecord K)) → IsIn mark self.old s → IfSome result (λ t. t.1 ≡ s.limiter) }
         ensures new { terminal_of self.new ≡ term_of target }
         ensures moves { IfSome (moves_of self.new) (λ moves. moves ≡ false) }
-        ensures board_id { board_id_of self.new ≡ board_id_of self.old }
+        ensures mark { mark_of self.new ≡ mark_of self.old }
         ensures slots { slots_of self.new ≡ slots_of self.old }
         ensures records { RecordsStay self.old self.new }
-        ensures state { (board_id : ℕ) (s : BoardState (BarRecord K)) → IsIn board_id self.old s →
-            IsIn board_id self.new (record s { limiter = limiter_of target; lists = opening_lists }) }
+        ensures state { (mark : ℕ) (s : BoardState (BarRecord K)) → IsIn mark self.old s →
+            IsIn mark self.new (record s { limiter = limiter_of target; lists = opening_lists }) }
     {
         let alloc = self.shown.alloc;
         self.stage.set_draw_target(alloc, target)
@@ -172,19 +172,17 @@ impl<K: Tracks, T: TermLike + Drop> Board<K, T> {
     pub fn set_move_cursor(&mut self, on: bool)
         ensures terminal { terminal_of self.new ≡ terminal_of self.old }
         ensures moves { IfSome (moves_of self.new) (λ moves. moves ≡ on) }
-        ensures board_id { board_id_of self.new ≡ board_id_of self.old }
+        ensures mark { mark_of self.new ≡ mark_of self.old }
         ensures slots { slots_of self.new ≡ slots_of self.old }
         ensures records { RecordsStay self.old self.new }
-        ensures state { (board_id : ℕ) (s : BoardState (BarRecord K)) → IsIn board_id self.old s → IsIn board_id self.new s }
+        ensures state { (mark : ℕ) (s : BoardState (BarRecord K)) → IsIn mark self.old s → IsIn mark self.new s }
     {
         self.stage.set_move_cursor(on);
     }
 
     /// Whether bars stand at the top of what is taken back, or at its bottom, from the next draw on.
     pub fn set_alignment(&mut self, alignment: MultiProgressAlignment)
-        ensures terminal { terminal_of self.new ≡ terminal_of self.old }
-        ensures board_id { board_id_of self.new ≡ board_id_of self.old }
-        ensures moves { moves_of self.new ≡ moves_of self.old }
+        ensures keeps { Keeps T.view false self.old self.new }
         ensures leads { (now : ℕ) → LeadsBy K.means T.view self.old self.new (Align (is_bottom alignment)) now Done }
         ensures slots { slots_of self.new ≡ slots_of self.old }
         ensures records { RecordsStay self.old self.new }
@@ -206,18 +204,15 @@ impl<K: Tracks, T: TermLike + Drop> Board<K, T> {
         command: BarCommand<K, S>,
         now: Moment,
     ) -> Result<Drawn, Refusal>
-        ensures silent { IsFalse (wrote result) → terminal_of self.new ≡ terminal_of self.old }
-        ensures nowhere { IsNowhere T.view self.old → IsFalse (wrote result) }
-        ensures board_id { board_id_of self.new ≡ board_id_of self.old }
-        ensures moves { moves_of self.new ≡ moves_of self.old }
+        ensures keeps { Keeps T.view (wrote result) self.old self.new }
         ensures leads { LeadsBy K.means T.view self.old self.new (Tell (id_of id) (command_as S.bytes command)) now (says result) }
-        ensures foreign { id.board ≢ board_id_of self.old → (result ≡ Err Refusal.ForeignBar) × (self.new ≡ self.old) }
-        ensures not_member { id.board ≡ board_id_of self.old → (result ≡ Err Refusal.NotMember) ↔ (record_at id.number self.old ≡ None) }
-        ensures beyond { id.board ≡ board_id_of self.old → IsTrue (is_some (record_at id.number self.old)) →
+        ensures foreign { id.mark ≢ mark_of self.old → (result ≡ Err Refusal.ForeignBar) × (self.new ≡ self.old) }
+        ensures not_member { id.mark ≡ mark_of self.old → (result ≡ Err Refusal.NotMember) ↔ (record_at id.number self.old ≡ None) }
+        ensures beyond { id.mark ≡ mark_of self.old → IsTrue (is_some (record_at id.number self.old)) →
             (result ≡ Err Refusal.ElapsedBeyondClock) ↔ IsTrue (is_beyond_clock (command_as S.bytes command) now) }
         ensures unchanged { result ≡ Err Refusal.NotMember → self.new ≡ self.old }
-        ensures untouched { result ≡ Err Refusal.ElapsedBeyondClock → AllStays self.old self.new }
-        ensures record { id.board ≡ board_id_of self.old → RecordObeys K.means id.number (command_as S.bytes command) now result self.old self.new }
+        ensures untouched { result ≡ Err Refusal.ElapsedBeyondClock → RecordsStay self.old self.new }
+        ensures record { id.mark ≡ mark_of self.old → RecordObeys K.means id.number (command_as S.bytes command) now result self.old self.new }
         ensures slots { SlotsLeft self.old self.new }
         ensures head { result ≡ Ok Drawn.Yes → HeadHasRecord self.new }
         ensures stay { result ≢ Ok Drawn.Yes → slots_of self.new ≡ slots_of self.old }
@@ -238,18 +233,15 @@ impl<K: Tracks, T: TermLike + Drop> Board<K, T> {
         command: BarCommand<K>,
         now: Moment,
     ) -> Result<Drawn, Refusal>
-        ensures silent { IsFalse (wrote result) → terminal_of self.new ≡ terminal_of self.old }
-        ensures nowhere { IsNowhere T.view self.old → IsFalse (wrote result) }
-        ensures board_id { board_id_of self.new ≡ board_id_of self.old }
-        ensures moves { moves_of self.new ≡ moves_of self.old }
+        ensures keeps { Keeps T.view (wrote result) self.old self.new }
         ensures leads { LeadsBy K.means T.view self.old self.new (Tell (id_of id) (command_of command)) now (says result) }
-        ensures foreign { id.board ≢ board_id_of self.old → (result ≡ Err Refusal.ForeignBar) × (self.new ≡ self.old) }
-        ensures not_member { id.board ≡ board_id_of self.old → (result ≡ Err Refusal.NotMember) ↔ (record_at id.number self.old ≡ None) }
-        ensures beyond { id.board ≡ board_id_of self.old → IsTrue (is_some (record_at id.number self.old)) →
+        ensures foreign { id.mark ≢ mark_of self.old → (result ≡ Err Refusal.ForeignBar) × (self.new ≡ self.old) }
+        ensures not_member { id.mark ≡ mark_of self.old → (result ≡ Err Refusal.NotMember) ↔ (record_at id.number self.old ≡ None) }
+        ensures beyond { id.mark ≡ mark_of self.old → IsTrue (is_some (record_at id.number self.old)) →
             (result ≡ Err Refusal.ElapsedBeyondClock) ↔ IsTrue (is_beyond_clock (command_of command) now) }
         ensures unchanged { result ≡ Err Refusal.NotMember → self.new ≡ self.old }
-        ensures untouched { result ≡ Err Refusal.ElapsedBeyondClock → AllStays self.old self.new }
-        ensures record { id.board ≡ board_id_of self.old → RecordObeys K.means id.number (command_of command) now result self.old self.new }
+        ensures untouched { result ≡ Err Refusal.ElapsedBeyondClock → RecordsStay self.old self.new }
+        ensures record { id.mark ≡ mark_of self.old → RecordObeys K.means id.number (command_of command) now result self.old self.new }
         ensures slots { SlotsLeft self.old self.new }
         ensures head { result ≡ Ok Drawn.Yes → HeadHasRecord self.new }
         ensures stay { result ≢ Ok Drawn.Yes → slots_of self.new ≡ slots_of self.old }
@@ -263,10 +255,7 @@ impl<K: Tracks, T: TermLike + Drop> Board<K, T> {
     ///
     /// Refused: `NoColumns`, `TooWide`, `Terminal` or `Memory`, as `Board` says; nothing of the text is kept.
     pub fn println(&mut self, text: &str, now: Moment) -> Result<Drawn, Refusal>
-        ensures silent { IsFalse (wrote result) → terminal_of self.new ≡ terminal_of self.old }
-        ensures nowhere { IsNowhere T.view self.old → IsFalse (wrote result) }
-        ensures board_id { board_id_of self.new ≡ board_id_of self.old }
-        ensures moves { moves_of self.new ≡ moves_of self.old }
+        ensures keeps { Keeps T.view (wrote result) self.old self.new }
         ensures leads { LeadsBy K.means T.view self.old self.new (Log text.now) now (says result) }
         ensures slots { SlotsLeft self.old self.new }
         ensures head { result ≡ Ok Drawn.Yes → HeadHasRecord self.new }
@@ -280,13 +269,10 @@ impl<K: Tracks, T: TermLike + Drop> Board<K, T> {
     ///
     /// Refused: `ForeignBar`, `NotMember`, `NoColumns`, `TooWide`, `Terminal` or `Memory`, as `Board` says.
     pub fn bar_println(&mut self, id: BarId, text: &str, now: Moment) -> Result<Drawn, Refusal>
-        ensures silent { IsFalse (wrote result) → terminal_of self.new ≡ terminal_of self.old }
-        ensures nowhere { IsNowhere T.view self.old → IsFalse (wrote result) }
-        ensures board_id { board_id_of self.new ≡ board_id_of self.old }
-        ensures moves { moves_of self.new ≡ moves_of self.old }
+        ensures keeps { Keeps T.view (wrote result) self.old self.new }
         ensures leads { LeadsBy K.means T.view self.old self.new (BarLog (id_of id) text.now) now (says result) }
-        ensures foreign { id.board ≢ board_id_of self.old → (result ≡ Err Refusal.ForeignBar) × (self.new ≡ self.old) }
-        ensures not_member { id.board ≡ board_id_of self.old → (result ≡ Err Refusal.NotMember) ↔ (record_at id.number self.old ≡ None) }
+        ensures foreign { id.mark ≢ mark_of self.old → (result ≡ Err Refusal.ForeignBar) × (self.new ≡ self.old) }
+        ensures not_member { id.mark ≡ mark_of self.old → (result ≡ Err Refusal.NotMember) ↔ (record_at id.number self.old ≡ None) }
         ensures unchanged { result ≡ Err Refusal.NotMember → self.new ≡ self.old }
         ensures slots { SlotsLeft self.old self.new }
         ensures head { result ≡ Ok Drawn.Yes → HeadHasRecord self.new }
@@ -302,10 +288,7 @@ impl<K: Tracks, T: TermLike + Drop> Board<K, T> {
     ///
     /// Refused: `NoColumns` or `Terminal`, as `Board` says.
     pub fn clear(&mut self, now: Moment) -> Result<Drawn, Refusal>
-        ensures silent { IsFalse (wrote result) → terminal_of self.new ≡ terminal_of self.old }
-        ensures nowhere { IsNowhere T.view self.old → IsFalse (wrote result) }
-        ensures board_id { board_id_of self.new ≡ board_id_of self.old }
-        ensures moves { moves_of self.new ≡ moves_of self.old }
+        ensures keeps { Keeps T.view (wrote result) self.old self.new }
         ensures leads { LeadsBy K.means T.view self.old self.new Clear now (says result) }
         ensures slots { SlotsLeft self.old self.new }
         ensures head { result ≡ Ok Drawn.Yes → HeadHasRecord self.new }
@@ -319,10 +302,7 @@ impl<K: Tracks, T: TermLike + Drop> Board<K, T> {
     ///
     /// Refused: `NoColumns`, `TooWide`, `Terminal` or `Memory`, as `Board` says.
     pub fn redraw(&mut self, now: Moment) -> Result<Drawn, Refusal>
-        ensures silent { IsFalse (wrote result) → terminal_of self.new ≡ terminal_of self.old }
-        ensures nowhere { IsNowhere T.view self.old → IsFalse (wrote result) }
-        ensures board_id { board_id_of self.new ≡ board_id_of self.old }
-        ensures moves { moves_of self.new ≡ moves_of self.old }
+        ensures keeps { Keeps T.view (wrote result) self.old self.new }
         ensures leads { LeadsBy K.means T.view self.old self.new Redraw now (says result) }
         ensures slots { SlotsLeft self.old self.new }
         ensures head { result ≡ Ok Drawn.Yes → HeadHasRecord self.new }
@@ -339,9 +319,7 @@ impl<K: Tracks, T: TermLike + Drop> Board<K, T> {
         requires { F.pre f }
         ensures value { F.post f result.0 }
         ensures nowhere { IsNowhere T.view self.old → IsFalse (wrote result.1) }
-        ensures stays { IsNowhere T.view self.old → terminal_of self.new ≡ terminal_of self.old }
-        ensures board_id { board_id_of self.new ≡ board_id_of self.old }
-        ensures moves { moves_of self.new ≡ moves_of self.old }
+        ensures keeps { (written : Bool) × Keeps T.view written self.old self.new }
         ensures leads { Suspends K.means T.view self.old self.new now result.1 }
         ensures slots { SlotsLeft self.old self.new }
         ensures head { result.1 ≡ Ok Drawn.Yes → HeadHasRecord self.new }
@@ -360,15 +338,16 @@ impl<K: Tracks, T: TermLike + Drop> Board<K, T> {
 
     /// A bar's place in the order.
     fn find(&self, id: BarId) -> Result<usize, Refusal>
-        ensures foreign { id.board ≢ board_id_of self.now → result ≡ Err Refusal.ForeignBar }
-        ensures found { (board_id : ℕ) (s : BoardState (BarRecord K)) → IsIn board_id self.now s →
-            MatchResult result (λ p. (turned_away board_id (id_of id) s ≡ None) × HasPlace (Some id.number) (Some p) s.members) (λ e. turned_away board_id (id_of id) s ≡ Some e) }
+        ensures foreign { id.mark ≢ mark_of self.now → result ≡ Err Refusal.ForeignBar }
+        ensures found { (mark : ℕ) (s : BoardState (BarRecord K)) → IsIn mark self.now s →
+            MatchResult result (λ p. (turned_away mark (id_of id) s ≡ None) × HasPlace (Some id.number) (Some p) s.members) (λ e. turned_away mark (id_of id) s ≡ Some e) }
         ensures within { IfOk result (λ p. p < deque_len self.now.shown.members) }
         ensures quiet { IfErr result (λ e. IsFalse (wrote (Err e))) }
         ensures own { IfOk result (λ p. StandsAt id.number p self.now.shown) }
-        ensures absent { id.board ≡ board_id_of self.now → IfErr result (λ e. (e ≡ Refusal.NotMember) × (record_at id.number self.now ≡ None)) }
+        ensures mine { IfOk result (λ _. id.mark ≡ mark_of self.now) }
+        ensures absent { id.mark ≡ mark_of self.now → IfErr result (λ e. (e ≡ Refusal.NotMember) × (record_at id.number self.now ≡ None)) }
     {
-        if id.board != self.board_id {
+        if id.mark != self.mark {
             return Err(Refusal::ForeignBar);
         }
         let at = self.shown.place(id.number);
@@ -381,7 +360,7 @@ impl<K: Tracks, T: TermLike + Drop> Board<K, T> {
         Ok(at)
     }
 
-    /// Lays a bar out anew, if one is named, and writes, if asked.
+    /// Lays a bar out anew, if one is named, and writes, if asked, where the target isn't hidden and has columns and its limiter allows it.
     fn draw(
         &mut self,
         ask: Ask,
@@ -390,18 +369,15 @@ impl<K: Tracks, T: TermLike + Drop> Board<K, T> {
         now: Moment,
     ) -> Result<Drawn, Refusal>
         requires placed { IfSome bar (λ at. at < deque_len self.old.shown.members) }
-        ensures silent { IsFalse (wrote result) → terminal_of self.new ≡ terminal_of self.old }
-        ensures nowhere { IsNowhere T.view self.old → IsFalse (wrote result) }
-        ensures board_id { board_id_of self.new ≡ board_id_of self.old }
-        ensures moves { moves_of self.new ≡ moves_of self.old }
+        ensures keeps { Keeps T.view (wrote result) self.old self.new }
         ensures slots { SlotsLeft self.old self.new }
         ensures head { result ≡ Ok Drawn.Yes → HeadHasRecord self.new }
         ensures stay { result ≢ Ok Drawn.Yes → slots_of self.new ≡ slots_of self.old }
         ensures records { RecordsStay self.old self.new }
         ensures refusal { IfErr result (λ e. IsTrue (is_of_draw e)) }
-        ensures drew { (board_id : ℕ) (takes : Bool) (s : BoardState (BarRecord K)) (number : Option ℕ) → IsIn board_id self.old s → HasPlace number bar s.members →
+        ensures drew { (mark : ℕ) (takes : Bool) (s : BoardState (BarRecord K)) (number : Option ℕ) → IsIn mark self.old s → HasPlace number bar s.members →
             let old = known T.view self.old in
-            (next : BoardState (BarRecord K)) × IsIn board_id self.new next × DrewOn (board (board_bars K.means) board_id) old (known T.view self.new)
+            (next : BoardState (BarRecord K)) × IsIn mark self.new next × DrewOn (board (board_bars K.means) mark) old (known T.view self.new)
             (draw_of (target_of old) takes ask now (writing_as writing.entry) s (named_laid_out K.means (target_of old) now number s)
             (named_layout_takes K.means number s)) s.lists result next }
     {
@@ -409,14 +385,25 @@ impl<K: Tracks, T: TermLike + Drop> Board<K, T> {
         if ask.is_no() {
             return Ok(Drawn::Limited);
         }
-        self.shown.draw_on(&mut self.stage, ask, bar, writing, now)
+        let Some(engine) = &mut self.stage.engine else {
+            return Ok(Drawn::Hidden);
+        };
+        let width = engine.term().width();
+        if width == 0 {
+            return Err(Refusal::NoColumns);
+        }
+        self.shown.lay_out(bar, width, now)?;
+        if !ask.allows(&mut self.stage.limiter, now) {
+            return Ok(Drawn::Limited);
+        }
+        self.shown.write(engine, writing)
     }
 }
 
 impl<K: Tracks, T: Resize + Drop> Board<K, T> {
     ghost use Rattle.indicatif_bar.specs.Scripts.{IsAnotherSize, Size as NewSize, SizedOn, sized, Plays};
     ghost use Rattle.indicatif_term.specs.Resizes.{SizeTakes};
-    ghost use Rattle.indicatif_board.specs.Multi.{IsIn, RecordsStay, board_sizing, known, board_id_of, moves_of, slots_of, terminal_of};
+    ghost use Rattle.indicatif_board.specs.Multi.{IsIn, RecordsStay, board_sizing, known, mark_of, moves_of, slots_of, terminal_of};
 
     /// The terminal gets `rows` rows and `cols` columns, and what stands there is cut anew: each row by itself, never joined with
     /// another. Nothing is written now; the next draw takes back the bars' rows as they are then. On a hidden target this does nothing.
@@ -431,13 +418,13 @@ impl<K: Tracks, T: Resize + Drop> Board<K, T> {
     /// has. All is unchanged then. On a terminal that takes no memory for a size, such as a `Term`, it comes only where kept rows or rows of
     /// the bars stand: not before the first draw, nor behind a clear or a failure. A terminal in memory may be refused it at any other size.
     pub fn resize(&mut self, rows: u16, cols: u16) -> Result<(), Refusal>
-        ensures plays { (board_id : ℕ) (s : BoardState (BarRecord K)) → IsIn board_id self.old s →
-            let machine = board (board_bars K.means) board_id in
-            let next = sized machine (board_sizing K.means board_id) cols rows (target_of (known T.view self.old)) s in
-            IfOk result (λ _. IsIn board_id self.new next
-            × Plays machine (board_sizing K.means board_id) (NewSize cols rows ∷ []) (known T.view self.old) s (known T.view self.new) next) }
+        ensures plays { (mark : ℕ) (s : BoardState (BarRecord K)) → IsIn mark self.old s →
+            let machine = board (board_bars K.means) mark in
+            let next = sized machine (board_sizing K.means mark) cols rows (target_of (known T.view self.old)) s in
+            IfOk result (λ _. IsIn mark self.new next
+            × Plays machine (board_sizing K.means mark) (NewSize cols rows ∷ []) (known T.view self.old) s (known T.view self.new) next) }
         ensures sized { IfOk result (λ _. SizedOn cols rows (known T.view self.old) (known T.view self.new)) }
-        ensures board_id { board_id_of self.new ≡ board_id_of self.old }
+        ensures mark { mark_of self.new ≡ mark_of self.old }
         ensures records { RecordsStay self.old self.new }
         ensures slots { slots_of self.new ≡ slots_of self.old }
         ensures moves { moves_of self.new ≡ moves_of self.old }
@@ -446,7 +433,7 @@ impl<K: Tracks, T: Resize + Drop> Board<K, T> {
         ensures zero_size { (result ≡ Err Refusal.ZeroSize) ↔ ((rows ≡ 0) ⊎ (cols ≡ 0)) }
         ensures no_other { IfErr result (λ e. (e ≡ Refusal.ZeroSize) ⊎ (e ≡ Refusal.Memory)) }
         ensures memory { result ≡ Err Refusal.Memory → IsAnotherSize cols rows (known T.view self.old) }
-        ensures takes { result ≡ Err Refusal.Memory → (board_id : ℕ) (s : BoardState (BarRecord K)) → IsIn board_id self.old s → SizeTakes T.takes_memory s.lists }
+        ensures takes { result ≡ Err Refusal.Memory → (mark : ℕ) (s : BoardState (BarRecord K)) → IsIn mark self.old s → SizeTakes T.takes_memory s.lists }
     {
         self.stage.resize(rows, cols)
     }

@@ -57,12 +57,12 @@ pub struct Entry<K> {
 /// ```
 /// let target = ProgressDrawTarget::term_like_with_hz(term, 20, 0)?;
 /// let record: Recorded<NoTracker, _> = Recorded::new(alloc, target, 7);
-/// let opening = record.opening(); // its id is 7, and its limiter has 20 draws in hand, whatever the board has drawn since
+/// let opening = record.opening(); // its mark is 7, and its limiter has 20 draws in hand, whatever the board has drawn since
 /// ```
 #[derive(Drop)]
 pub struct Opening {
-    /// Its id.
-    pub board_id: u64,
+    /// Its mark.
+    pub mark: u64,
     /// How often it may be drawn, as the target came; `None` where that has no limit, or is hidden.
     pub limiter: Option<RateLimiter>,
     /// How large the terminal is, from then on; `None` where the target is hidden.
@@ -97,35 +97,35 @@ impl<K: Tracks, T: Drop> Drop for Recorded<K, T> {
     }
 }
 
-/// Contracts see the id, the limiter and the target of the opening, the board, and its steps.
+/// Contracts see the mark, the limiter and the target of the opening, the board, and its steps.
 impl<K: Tracks, T: Drop> Model for Recorded<K, T> {
     ghost use Rattle.std.specs.Prelude.{map};
     ghost use Rattle.indicatif_board.specs.Recorded.{Record, IsOneRun, step_of, target_by};
 
     ghost Value = { Record K T };
 
-    ghost view = { λ r. record { board_id = r.opening.board_id; limiter = r.opening.limiter; target = target_by r.opening.size; board = r.board; steps = map step_of r.entries.items } };
+    ghost view = { λ r. record { mark = r.opening.mark; limiter = r.opening.limiter; target = target_by r.opening.size; board = r.board; steps = map step_of r.entries.items } };
 
     ghost invariant = { λ r. IsOneRun K.means
-        (record { board_id = r.opening.board_id; limiter = r.opening.limiter; target = target_by r.opening.size; board = r.board; steps = map step_of r.entries.items }) };
+        (record { mark = r.opening.mark; limiter = r.opening.limiter; target = target_by r.opening.size; board = r.board; steps = map step_of r.entries.items }) };
 }
 
 impl<K: Tracks, T: TermLike + Drop> Recorded<K, T> {
-    /// A board without bars on this target, of this id, that has made no call. It takes no memory and writes nothing.
-    pub fn new(alloc: Global, target: ProgressDrawTarget<T>, board_id: u64) -> Self
-        ensures opening { (result.board_id ≡ board_id) × (result.limiter ≡ limiter_of target) }
+    /// A board without bars on this target, of this mark, that has made no call. It takes no memory and writes nothing.
+    pub fn new(alloc: Global, target: ProgressDrawTarget<T>, mark: u64) -> Self
+        ensures opening { (result.mark ≡ mark) × (result.limiter ≡ limiter_of target) }
         ensures target { result.target ≡ target_of (option_map T.view (term_of target)) }
         ensures steps { result.steps ≡ [] }
         ensures terminal { terminal_of result.board ≡ term_of target }
         ensures run { IsRun K.means (option_map T.view (term_of target)) result (known T.view result.board) }
     {
         let (target, limiter) = with_limiter(target);
-        let board = Board::new(alloc, target, board_id);
+        let board = Board::new(alloc, target, mark);
         let size = size_of(&board);
         Recorded {
             alloc,
             opening: Opening {
-                board_id,
+                mark,
                 limiter,
                 size,
             },
@@ -143,7 +143,7 @@ impl<K: Tracks, T: TermLike + Drop> Recorded<K, T> {
     pub fn apply(&mut self, call: Call<K>, now: Moment) -> (Answer, Option<BarState<K>>)
         ensures grows { AddsCall K.means T.view self.old (call_of call) now (answer_of result.0) self.new
             ⊎ ((self.new ≡ self.old) × (result.0 ≡ Answer.Refused Refusal.Memory)) }
-        ensures back { (s : BoardState (BarRecord K)) (other : BarRecord K) → IsIn self.old.board_id self.old.board s →
+        ensures back { (s : BoardState (BarRecord K)) (other : BarRecord K) → IsIn self.old.mark self.old.board s →
             result.1 ≡ handed_back (call_of call) (answer_of result.0) other s.members }
         ensures goes_on { (opened : Option TermView) → IsRun K.means opened self.old (known T.view self.old.board) → IsRun K.means opened self.new (known T.view self.new.board) }
     {
@@ -167,7 +167,7 @@ impl<K: Tracks, T: TermLike + Drop> Recorded<K, T> {
 
     /// What it began with.
     pub fn opening(&self) -> &Opening
-        ensures began { (result.now.board_id ≡ self.now.board_id) × (result.now.limiter ≡ self.now.limiter) }
+        ensures began { (result.now.mark ≡ self.now.mark) × (result.now.limiter ≡ self.now.limiter) }
         ensures target { target_by result.now.size ≡ self.now.target }
     {
         &self.opening

@@ -9,18 +9,18 @@ ghost use Rattle.indicatif_bar.specs.Commands.{BarRecord};
 ghost use Rattle.indicatif_bar.specs.Machines.{Target, is_no, target_of};
 ghost use Rattle.indicatif_bar.specs.Kinds.{asked_of};
 ghost use Rattle.indicatif_bar.specs.Runs.{wrote};
-ghost use Rattle.indicatif_bar.specs.Shown.{DrewBy, DrewOn};
-ghost use Rattle.indicatif_bar.specs.Stages.{stage_terminal, stage_known, stage_moves, IsStaged, writing_as};
+ghost use Rattle.indicatif_bar.specs.Shown.{DrewBy};
+ghost use Rattle.indicatif_bar.specs.Stages.{writing_as};
 ghost use Rattle.indicatif_board.specs.BoardBars.{board_bars};
 ghost use Rattle.indicatif_board.specs.Boards.{BoardState, Location, opening_board, draw_of, index_of, taken_in, ownerless_on, board};
 ghost use Rattle.indicatif_board.specs.Members.{place_of, without, is_head, said_of};
 ghost use Rattle.indicatif_board.specs.Slots.{LeavesHead, next_slot, seated, slot_of, unseated};
 ghost use Rattle.indicatif_board.specs.Inside.Named.{HasPlace, named_laid_out, named_layout_takes};
 
-use crate::in_window::put_in_window;
+use crate::in_window::bars_in_window;
 use crate::members::{Seated, leading, queue_at, take_at, take_front};
 use crate::slots::MultiState;
-use indicatif_bar::stage::{Stage, Writing};
+use indicatif_bar::stage::{Writing, put};
 use indicatif_bar::state::{Ask, BarState, SpareLines};
 use indicatif_bar::style::Tracks;
 use indicatif_term::draw_target::{Engine, LineType, MultiProgressAlignment, Segment};
@@ -170,49 +170,8 @@ impl<K: Tracks> ShownBars<K> {
         }
     }
 
-    /// Lays a bar out anew, if one is named, and draws on the stage, where its target isn't hidden and has columns and its limiter
-    /// allows it.
-    pub fn draw_on<T: TermLike + Drop>(
-        &mut self,
-        stage: &mut Stage<T>,
-        ask: Ask,
-        bar: Option<usize>,
-        writing: Writing<'_>,
-        now: Moment,
-    ) -> Result<Drawn, Refusal>
-        requires placed { IfSome bar (λ at. at < deque_len self.old.members) }
-        ensures silent { IsFalse (wrote result) → stage_terminal stage.new ≡ stage_terminal stage.old }
-        ensures nowhere { (target_of (stage_known T.view stage.old)).columns ≡ 0 → IsFalse (wrote result) }
-        ensures moves { stage_moves stage.new ≡ stage_moves stage.old }
-        ensures slots { LeavesHead self.old.table self.new.table }
-        ensures head { result ≡ Ok Drawn.Yes → HeadIsOwned self.new }
-        ensures stay { result ≢ Ok Drawn.Yes → self.new.table ≡ self.old.table }
-        ensures records { AllStay self.old self.new }
-        ensures refusal { IfErr result (λ e. IsTrue (is_of_draw e)) }
-        ensures drew { (board_id : ℕ) (takes : Bool) (s : BoardState (BarRecord K)) (number : Option ℕ) → is_no ask ≡ false →
-            AreShownAs self.old s → HasPlace number bar s.members → IsStaged stage.old s.limiter s.lists →
-            let old = stage_known T.view stage.old in let target = target_of old in
-            (next : BoardState (BarRecord K)) × AreShownAs self.new next × IsStaged stage.new next.limiter next.lists
-            × DrewOn (board (board_bars K.means) board_id) old (stage_known T.view stage.new)
-            (draw_of target takes ask now (writing_as writing.entry) s (named_laid_out K.means target now number s) (named_layout_takes K.means number s))
-            s.lists result next }
-    {
-        let Some(engine) = &mut stage.engine else {
-            return Ok(Drawn::Hidden);
-        };
-        let width = engine.term().width();
-        if width == 0 {
-            return Err(Refusal::NoColumns);
-        }
-        self.lay_out(bar, width, now)?;
-        if !ask.allows(&mut stage.limiter, now) {
-            return Ok(Drawn::Limited);
-        }
-        self.write(engine, writing)
-    }
-
     /// Lays a bar's lines out and stores them, if one is named, in the room of those before.
-    fn lay_out(&mut self, bar: Option<usize>, width: u16, now: Moment) -> Result<(), Refusal>
+    pub fn lay_out(&mut self, bar: Option<usize>, width: u16, now: Moment) -> Result<(), Refusal>
         requires placed { IfSome bar (λ at. at < deque_len self.old.members) }
         ensures memory { IfErr result (λ e. (e ≡ Refusal.Memory) × ((s : BoardState (BarRecord K)) (number : Option ℕ) →
             HasPlace number bar s.members → AreShownAs self.old s → IsTrue (named_layout_takes K.means number s))) }
@@ -233,7 +192,7 @@ impl<K: Tracks> ShownBars<K> {
     }
 
     /// Writes on a terminal with columns; the dropped bars at the head leave.
-    fn write<T: TermLike + Drop>(
+    pub fn write<T: TermLike + Drop>(
         &mut self,
         engine: &mut Engine<T>,
         writing: Writing<'_>,
@@ -245,15 +204,22 @@ impl<K: Tracks> ShownBars<K> {
         ensures stay { result ≢ Ok Drawn.Yes → self.new.table ≡ self.old.table }
         ensures records { AllStay self.old self.new }
         ensures refusal { IfErr result (λ e. IsTrue (is_of_draw e)) }
-        ensures drew { (board_id now : ℕ) (takes lays : Bool) (ask : Ask) (limiter : Option Limiter) (s laid : BoardState (BarRecord K)) → is_no ask ≡ false →
+        ensures drew { (mark now : ℕ) (takes lays : Bool) (ask : Ask) (limiter : Option Limiter) (s laid : BoardState (BarRecord K)) → is_no ask ≡ false →
             0 < (T.view (engine_term engine.old)).columns → asked_of ask now laid.limiter ≡ (true, limiter) →
             AreShownAs self.old laid → laid.lists ≡ s.lists → Fits engine.old s.lists →
-            DrewBy (board (board_bars K.means) board_id) (λ next. AreShownAs self.new next × (limiter ≡ next.limiter)) T.view engine.old engine.new
+            DrewBy (board (board_bars K.means) mark) (λ next. AreShownAs self.new next × (limiter ≡ next.limiter)) T.view engine.old engine.new
             (draw_of (target_of (Some (T.view (engine_term engine.old)))) takes ask now (writing_as writing.entry) s laid lays) s.lists result }
     {
         let gone = leading(&self.members);
-        let frame = self.frame.make_contiguous();
-        put_in_window(engine, frame, gone, self.alignment, writing)?;
+        let frame: &[Segment] = self.frame.make_contiguous();
+        let end = bars_in_window(engine, frame, gone, &writing);
+        put(
+            engine,
+            &frame[..end],
+            gone.min(end),
+            self.alignment,
+            writing,
+        )?;
         take_front(&mut self.frame, gone);
         take_front(&mut self.members, gone);
         self.table.remove_first(gone);

@@ -217,23 +217,23 @@ one_ready ys i x b h r =
     subst AreReady (sym (take_more_set ys i y h))
     (all_append (λ l. IsReady l.step (string_bytes l.before) (string_bytes l.text)) (take i ys) (y ∷ []) r (noted_ready b (string_bytes x.before) (string_bytes x.text), tt))
 
-module _ (w : ℕ) (on : List StandingLine) (skipped : ℕ) (ys : List StandingLine) (i start : ℕ) (x : StandingLine) (b : Bool) (before at : Place)
-    (h : i < length ys) (e : get_or ys i x ≡ x) (m : AreNoted w on skipped (take i ys) start before) (is : IsAt w on at) (line : IsLine w x)
+module _ (w : ℕ) (on : List StandingLine) (ys : List StandingLine) (i start : ℕ) (x : StandingLine) (b : Bool) (before at : Place)
+    (h : i < length ys) (e : get_or ys i x ≡ x) (m : AreNoted w on (take i ys) start before) (is : IsAt w on at) (line : IsLine w x)
     (there : IsTrue b → IsThere w on start x) where
   abbrev y : StandingLine
   y = record x { step = whole_or_left b }
 
-  pub one_noted : (start' : ℕ) → start' ≡ min (start + x.rows) (2 ^ 64 - 1) → AreNoted w on skipped (take (i + 1) (slice_set ys i y)) start' at
+  pub one_noted : (start' : ℕ) → start' ≡ min (start + x.rows) (2 ^ 64 - 1) → AreNoted w on (take (i + 1) (slice_set ys i y)) start' at
   one_noted start' s =
       let rows = standing_rows w on in
       let ps = placed (take i ys) in
-      let one : Sits w (drop (placed_height ps) (looks_of (drop skipped rows))) (placed_of y) = record {
+      let one : Sits w (drop (placed_height ps) (looks_of rows)) (placed_of y) = record {
         rows_are = line.rows_are;
         last_is = line.last_is;
-        becomes = noted_becomes w b (string_bytes x.before) (string_bytes x.text) (take x.rows (drop (placed_height ps) (looks_of (drop skipped rows)))) (λ stays.
+        becomes = noted_becomes w b (string_bytes x.before) (string_bytes x.text) (take x.rows (drop (placed_height ps) (looks_of rows))) (λ stays.
             let c = there stays in
-            let exact : start ≡ skipped + placed_height ps = m.start_is c.0 in
-            ap (take x.rows) (drop-map (map look) (placed_height ps) (drop skipped rows) ∙ ap looks_of (drop-drop (placed_height ps) skipped rows ∙ ap (λ n. drop n rows) (sym exact)))
+            let exact : start ≡ placed_height ps = m.start_is c.0 in
+            ap (take x.rows) (drop-map (map look) (placed_height ps) rows ∙ ap (λ n. looks_of (drop n rows)) (sym exact))
             ∙ take-map (map look) x.rows (drop start rows) ∙ ap looks_of c.1);
         waiting = noted_waits w b (string_bytes x.before) (string_bytes x.text);
       } in
@@ -241,9 +241,9 @@ module _ (w : ℕ) (on : List StandingLine) (skipped : ℕ) (ys : List StandingL
       let split : placed (take (i + 1) (slice_set ys i y)) ≡ ps ++ placed_of y ∷ [] = ap placed more ∙ map-append placed_of (take i ys) (y ∷ []) in
       let height : placed_height (placed (take (i + 1) (slice_set ys i y))) ≡ placed_height ps + x.rows = ap placed_height split ∙ height-append ps (placed_of y ∷ []) ∙ omega arith in
       record {
-        sits = subst (AreSitting w (looks_of (drop skipped rows))) (sym split) (sitting_both w ps (placed_of y ∷ []) (looks_of (drop skipped rows)) m.sits (one, tt));
+        sits = subst (AreSitting w (looks_of rows)) (sym split) (sitting_both w ps (placed_of y ∷ []) (looks_of rows) m.sits (one, tt));
         is_at = is;
-        start_is = λ small. let exact : start ≡ skipped + placed_height ps = m.start_is (omega arith) in omega (arith, height);
+        start_is = λ small. let exact : start ≡ placed_height ps = m.start_is (omega arith) in omega (arith, height);
       }
 
 -- the line at an index, however it was come by
@@ -260,8 +260,8 @@ still_like on ys xs i x h e d like =
     rest.0
 
 -- before the first
-pub none_noted : (w : ℕ) (on : List StandingLine) (skipped : ℕ) → AreNoted w on skipped [] skipped (record { index = 0; row = 0 })
-none_noted w on skipped = record { sits = tt; is_at = λ small. refl; start_is = λ small. omega arith }
+pub none_noted : (w : ℕ) (on : List StandingLine) → AreNoted w on [] 0 (record { index = 0; row = 0 })
+none_noted w on = record { sits = tt; is_at = λ small. refl; start_is = λ small. refl }
 
 -- the texts, and what follows, stay
 pub texts_noted : (ys : List StandingLine) (i : ℕ) (x : StandingLine) (s : Step) → get_or ys i x ≡ x → texts (slice_set ys i (record x { step = s })) ≡ texts ys

@@ -1,6 +1,6 @@
 -- What the bytes of each call ask of a screen, and what the terminal is after them.
-use Rattle.std.proofs.Common.{◌≡◌, ℕ, ◌+◌, ◌-◌, ◌*◌, ◌/◌, ◌%◌, ◌^◌, ◌<◌, ◌≤◌, min, true, false, List, [], ◌∷◌, ◌++◌, length, refl, ◌∙◌, ap, subst, arith, map, eqb, Option, Some}
-use Rattle.std.specs.Prelude.{decimal}
+use Rattle.std.proofs.Common.{◌≡◌, ℕ, ◌+◌, ◌-◌, ◌*◌, ◌/◌, ◌%◌, ◌^◌, ◌<◌, ◌≤◌, min, true, false, List, [], ◌∷◌, ◌++◌, length, refl, ◌∙◌, ap, subst, arith, map, eqb, Option, Some, None}
+use Rattle.std.specs.Prelude.{option_to_list, decimal}
 use Rattle.std.specs.List.{AllByRecursion}
 use Rattle.std.proofs.Math.Utf8.{low_scalar, scalars, encode, encodes}
 use Rattle.std.proofs.lemmas.List.{length-map}
@@ -9,12 +9,15 @@ use Rattle.std.proofs.lemmas.Bool.{ne_eqb, le-leb}
 use Rattle.std.proofs.lemmas.Fmt.{decimal_by_steps}
 use Rattle.std.proofs.lemmas.Str.{encode_ascii}
 use Rattle.indicatif_text.specs.Columns.{Cell, visible, glyphs_of, pieces_of, row_of, rows_of, blank_row, is_parameter, columns_of_last}
-use Rattle.indicatif_term.specs.Screen.{Screen, Op, Put, Return, LineFeed, Up, EmptyRow, performed, performed_all, with_row}
-use Rattle.indicatif_term.specs.Terminal.{OutsideSequence, Sequence, Reader, idle, ops_of, reader_after, after, is_digit, number_with, GREATEST, sequence_ops}
+use Rattle.indicatif_term.specs.Screen.{Screen, Op, Put, Return, LineFeed, Up, EmptyRow, performed, with_row}
+use Rattle.indicatif_term.specs.Terminal.{OutsideSequence, Sequence, Reader, idle, after, is_digit, number_with, GREATEST, sequence_op}
+use Rattle.indicatif_term.specs.Inside.Reading.{performed_all, reader_after}
+use Rattle.indicatif_term.specs.Feeding.{ops_of}
 use Rattle.indicatif_term.specs.Calls.{clear_bytes, move_bytes}
 use Rattle.indicatif_term.specs.Shows.{resting}
 use Rattle.indicatif_term.proofs.CursorRowLemmas.{screen_after, resting_below, IsShowable, IsText}
-use Rattle.indicatif_term.proofs.ReaderLemmas.{chars_read, char_list_ops, place_after}
+use Rattle.indicatif_term.proofs.FeedLemmas.{after_is, same_terminal}
+use Rattle.indicatif_term.proofs.ReaderLemmas.{first_ops, first_place, parameter_step, chars_read, char_list_ops, place_after}
 use Rattle.indicatif_term.proofs.TextLemmas.{IsShown, AsksToPut, reads}
 use Rattle.indicatif_term.proofs.WrittenLineLemmas.{text_put}
 
@@ -93,14 +96,18 @@ digits_encodes [] all = refl
 digits_encodes (d ∷ ds) all = rw (encode_ascii d (omega (arith, all.0))) (ap (λ xs. d ∷ xs) (digits_encodes ds all.1))
 
 record IsMove (number : Option ℕ) (ds : List ℕ) : Type 0 where
-  ops : char_list_ops (Sequence number) (ds ++ 0x41 ∷ []) ≡ sequence_ops (number_after number ds) 0x41 ++ []
+  ops : char_list_ops (Sequence number) (ds ++ 0x41 ∷ []) ≡ option_to_list (sequence_op (number_after number ds) 0x41) ++ []
   place : place_after (Sequence number) (ds ++ 0x41 ∷ []) ≡ OutsideSequence
 
 digits_read : (number : Option ℕ) (ds : List ℕ) → AllByRecursion IsDigit ds → IsMove number ds
 digits_read number [] all = record { ops = refl; place = refl }
 digits_read number (d ∷ ds) all =
     let rest : IsMove (number_with number d) ds = digits_read (number_with number d) ds all.1 in
-    record { ops = rw (is_parameter_at d all.0) rest.ops; place = rw (is_parameter_at d all.0, place_after) rest.place }
+    let step = parameter_step number d (is_parameter_at d all.0) in
+    record {
+      ops = first_ops (Sequence number) d (ds ++ 0x41 ∷ []) None (Sequence (number_with number d)) step ∙ rest.ops;
+      place = first_place (Sequence number) d (ds ++ 0x41 ∷ []) None (Sequence (number_with number d)) step ∙ rest.place;
+    }
 
 pub up_asks : (k : ℕ) → 0 < k → k < 2 ^ 64 → Asks (move_bytes 0x41 k) (Up (min k GREATEST) ∷ [])
 unfolding encode
@@ -116,8 +123,7 @@ up_asks k some small =
 -- ---- after a call
 
 pub after_asks : (s s' : Screen) (bytes : List ℕ) (ops : List Op) → Asks bytes ops → performed_all ops s ≡ s' → after (resting s) bytes ≡ resting s'
-unfolding after
-after_asks s s' bytes ops asks e = cc (asks.asked, asks.reader)
+after_asks s s' bytes ops asks e = after_is (resting s) bytes ∙ same_terminal _ _ _ _ (ap (λ ops. performed_all ops s) asks.asked ∙ e) asks.reader
 
 -- a text from the front of a blank row
 pub text_written : (w h : ℕ) (above : List (List Cell)) (n : ℕ) (line : List ℕ) → IsText w line →

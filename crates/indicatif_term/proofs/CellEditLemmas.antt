@@ -6,7 +6,8 @@ use Rattle.std.proofs.lemmas.List.{set_at, get_or_at, take_at, drop_at}
 use Rattle.std.proofs.lemmas.Bool.{le-ltb, le-leb, ne_eqb}
 use Rattle.unicode_width.specs.Width.{char_width}
 use Rattle.indicatif_text.specs.Columns.{Cell, Blank, Written, Continued, width_of, glyph_cells}
-use Rattle.indicatif_term.specs.Screen.{Op, Put, Right, performed, performed_all, put_sized, written_at, emptied_front, cursor_row}
+use Rattle.indicatif_term.specs.Screen.{Op, Put, Right, performed, put_sized, written_at, emptied_front, cursor_row}
+use Rattle.indicatif_term.specs.Inside.Reading.{performed_all}
 use Rattle.indicatif_term.specs.Terminal.{GREATEST}
 use Rattle.indicatif_term.proofs.ScreenRowLemmas.{made, same_screen}
 use Rattle.indicatif_term.proofs.GlyphLemmas.{some_width}

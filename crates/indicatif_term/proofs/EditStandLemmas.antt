@@ -2,7 +2,8 @@
 use Rattle.std.proofs.Common.{◌≡◌, ℕ, ◌+◌, ◌-◌, ◌≤◌, Bool, false, List, [], ◌∷◌, ◌++◌, length, take, drop, replicate, refl, sym, ◌∙◌, ap, subst, arith, length-append, append_assoc, take-append-drop}
 use Rattle.std.proofs.lemmas.List.{length-take-le, length-drop}
 use Rattle.indicatif_text.specs.Columns.{Cell, blank_row}
-use Rattle.indicatif_term.specs.Screen.{Screen, Return, performed_all}
+use Rattle.indicatif_term.specs.Screen.{Screen, Return}
+use Rattle.indicatif_term.specs.Inside.Reading.{performed_all}
 use Rattle.indicatif_term.specs.Terminal.{Terminal, GREATEST, after}
 use Rattle.indicatif_term.specs.Shows.{resting}
 use Rattle.indicatif_term.proofs.CursorRowLemmas.{Stands, IsBelow}

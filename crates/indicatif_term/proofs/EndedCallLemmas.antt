@@ -13,10 +13,11 @@ use Rattle.indicatif_text.specs.Pieces.{Colour}
 use Rattle.indicatif_text.proofs.ColourSequenceLemmas.{hidden, visible_none}
 use Rattle.indicatif_text.proofs.PieceLawLemmas.{Parameters, Ended, Further, Sequence as ColourSequence, Opened, sequence_from}
 use Rattle.indicatif_term.specs.Screen.{Screen, Op, Put, Return, LineFeed, Up, Down, Right, Left, EmptyRow, performed}
-use Rattle.indicatif_term.specs.Terminal.{OutsideSequence, Reader, GREATEST, idle, reader_after, after}
+use Rattle.indicatif_term.specs.Terminal.{OutsideSequence, Reader, GREATEST, idle, after}
 use Rattle.indicatif_term.specs.Calls.{TermView, Writes, move_bytes, clear_bytes}
 use Rattle.indicatif_term.specs.Shows.{resting}
-use Rattle.indicatif_term.specs.Modes.{ModeTerminal, mode_after, all_with, performed_with, is_own, HasNoOwn}
+use Rattle.indicatif_term.specs.Modes.{ModeTerminal, mode_after, performed_with, is_own, HasNoOwn}
+use Rattle.indicatif_term.specs.Inside.Reading.{reader_after, all_with}
 use Rattle.indicatif_term.specs.Inside.Ending.{StayAlong, Held, Within, WithinTo, WithinIf, Carries, Falls, at_column, next_front, rows_moved, front_emptied, all_put, AreShown}
 use Rattle.indicatif_term.specs.declared.ended_rows.EndedRows.{EndedRows}
 use Rattle.indicatif_term.proofs.ReaderLemmas.{Spells, char_read, chars_read, char_list_ops, place_after}

@@ -7,7 +7,8 @@ use Rattle.std.specs.declared.io.Error.{Error}
 use Rattle.std.proofs.lemmas.Bool.{false≢true}
 use Rattle.std.proofs.lemmas.List.{length-replicate}
 use Rattle.indicatif_text.specs.Columns.{is_plain, visible, blank_row}
-use Rattle.indicatif_term.specs.Screen.{Screen, Op, Put, LineFeed, Up, performed, performed_all, blank_screen}
+use Rattle.indicatif_term.specs.Screen.{Screen, Op, Put, LineFeed, Up, performed, blank_screen}
+use Rattle.indicatif_term.specs.Inside.Reading.{performed_all}
 use Rattle.indicatif_term.specs.Terminal.{GREATEST, after}
 use Rattle.indicatif_term.specs.Calls.{TermView, move_bytes, line_bytes, clear_bytes}
 use Rattle.indicatif_term.specs.Shows.{resting}

@@ -11,7 +11,8 @@ use Rattle.indicatif_text.specs.Columns.{Cell, blank_row, width_of}
 use Rattle.indicatif_term.specs.Screen.{Screen, Op, Put, Right, performed, put_sized, put_mark, put_wide, put_here, with_row, line_feed}
 use Rattle.indicatif_term.specs.Terminal.{idle}
 use Rattle.indicatif_term.specs.Calls.{TermView, Writes}
-use Rattle.indicatif_term.specs.Modes.{ModeTerminal, mode_resting, mode_after, all_with, performed_with, put_over, within_row, HasNoOwn}
+use Rattle.indicatif_term.specs.Modes.{ModeTerminal, mode_resting, mode_after, performed_with, put_over, within_row, HasNoOwn}
+use Rattle.indicatif_term.specs.Inside.Reading.{all_with}
 use Rattle.indicatif_term.specs.EndedRows.{is_between, SameRows}
 use Rattle.indicatif_term.specs.Inside.Ending.{StayAlong, Meets, Held, Within, at_column, next_front, front_emptied, with_room, all_put, AreShown, WithinRoom, Falls, moved_place, opening_bytes, closing_bytes}
 use Rattle.indicatif_term.specs.declared.ended_rows.EndedRows.{EndedRows}

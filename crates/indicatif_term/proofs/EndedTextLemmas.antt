@@ -15,7 +15,8 @@ use Rattle.indicatif_text.specs.Columns.{columns_of, visible, is_plain, width_of
 use Rattle.indicatif_text.specs.Pieces.{Colour, Run, shown}
 use Rattle.indicatif_text.specs.declared.pieces.Piece.{Piece}
 use Rattle.indicatif_text.specs.PieceLaws.{IsExact, run_text}
-use Rattle.indicatif_term.specs.Screen.{Screen, Put, Left, Right, performed, performed_all}
+use Rattle.indicatif_term.specs.Screen.{Screen, Put, Left, Right, performed}
+use Rattle.indicatif_term.specs.Inside.Reading.{performed_all}
 use Rattle.indicatif_term.specs.Terminal.{OutsideSequence, GREATEST, after}
 use Rattle.indicatif_term.specs.Calls.{TermView, Writes, move_bytes, line_bytes, clear_bytes}
 use Rattle.indicatif_term.specs.Shows.{resting}
@@ -106,10 +107,13 @@ right_none : (columns column : ℕ) → column ≤ columns → columns ≤ GREAT
 right_none columns column within small = cond_both (nat_lt (columns - 1) column) column (min (min (column + 0) (2 ^ 64 - 1)) (columns - 1)) (λ c. c ≡ column)
     (λ _. refl) (λ h. omega (arith, ltb-false (columns - 1) column h))
 
+pub none_after : (s : Screen) → s ≡ (after (resting s) []).screen
+unfolding after
+none_after s = refl
+
 pub right_after : (n : ℕ) (s : Screen) → n < 2 ^ 64 → s.column ≤ s.columns → s.columns ≤ GREATEST →
     at_column (right_column s.columns s.column n) s ≡ (after (resting s) (move_bytes 0x43 n)).screen
-unfolding after
-right_after zero s low within small = ap (λ c. at_column c s) (right_none s.columns s.column within small)
+right_after zero s low within small = ap (λ c. at_column c s) (right_none s.columns s.column within small) ∙ none_after s
 right_after (suc n) s low within small =
     let k = min (suc n) GREATEST in
     let is = right_is s.columns s.column (suc n) within (omega arith) small in
@@ -123,8 +127,7 @@ left_asks : (k : ℕ) → 0 < k → k < 2 ^ 64 → Asks (move_bytes 0x44 k) (Lef
 left_asks k some low = subst (Asks (move_bytes 0x44 k)) (rw (some_move k some) refl) (move_asks 0x44 refl (omega arith) k some low)
 
 pub left_after : (n : ℕ) (s : Screen) → n < 2 ^ 64 → s.column ≤ GREATEST → at_column (s.column - n) s ≡ (after (resting s) (move_bytes 0x44 n)).screen
-unfolding after
-left_after zero s low small = ap (λ c. at_column c s) (let e : s.column - 0 ≡ s.column = omega arith in e)
+left_after zero s low small = ap (λ c. at_column c s) (let e : s.column - 0 ≡ s.column = omega arith in e) ∙ none_after s
 left_after (suc n) s low small =
     let k = min (suc n) GREATEST in
     ap (λ c. at_column c s) (let e : s.column - suc n ≡ s.column - k = omega arith in e)
@@ -185,10 +188,6 @@ module _ {T : Type 0} (view : T → TermView) where
   pub char_fits : (c : ℕ) {own : EndedRows T} {s : Screen} {m : ModeTerminal} {wide : ℕ} → wide ≡ width_of c → wide ≤ (view own.term).columns → WithinRoom view wide own s m →
       (wide ≡ sum_by width_of (c ∷ [])) × (s.column + wide ≤ s.columns)
   char_fits c e fits x = (e ∙ sym (sum_by-cons width_of c [] ∙ (let z : width_of c + 0 ≡ width_of c = omega arith in z)), x.1 (omega (arith, fits, x.0.0.columns)))
-
-pub none_after : (s : Screen) → s ≡ (after (resting s) []).screen
-unfolding after
-none_after s = refl
 
 pub scalars_one : (c : ℕ) → scalar c ≡ true → scalars (c ∷ []) ≡ true
 scalars_one c e = rw e refl

@@ -1,13 +1,14 @@
 -- What an engine remembers is right for the lists of the new size.
-use Rattle.std.proofs.Common.{◌≡◌, ℕ, zero, suc, ◌+◌, ◌-◌, ◌<◌, ◌≤◌, Bool, true, false, ◌&&◌, List, [], ◌∷◌, ◌++◌, map, length, drop, refl, sym, ◌∙◌, ap, subst, arith, append_assoc, length-append}
+use Rattle.std.proofs.Common.{◌≡◌, ℕ, zero, suc, ◌+◌, ◌-◌, ◌<◌, ◌≤◌, Bool, true, false, ◌&&◌, List, [], ◌∷◌, ◌++◌, map, length, drop, refl, sym, ◌∙◌, ap, subst, arith, append_assoc, append-nil, length-append}
 use Rattle.std.specs.Prelude.{◌==◌, Result, Ok, Err, IfOk}
 use Rattle.std.proofs.lemmas.Bool.{false≢true}
-use Rattle.std.proofs.lemmas.List.{length-map, map-append}
+use Rattle.std.proofs.lemmas.List.{length-map}
 use Rattle.std.proofs.lemmas.List.Concat.{flat_map-append}
 use Rattle.indicatif_text.specs.Columns.{Cell}
 use Rattle.indicatif_term.specs.Counts.{CountsOf}
 use Rattle.indicatif_term.specs.Lists.{Lists, all_rows, live_rows, forgotten_lists}
-use Rattle.indicatif_term.specs.Remembered.{Suits, known_lines}
+use Rattle.indicatif_term.specs.Remembered.{AreStanding, Suits}
+use Rattle.indicatif_term.specs.Inside.Remembering.{IsMarked}
 use Rattle.indicatif_term.specs.Standing.{texts, standing_rows, AreLines}
 use Rattle.indicatif_term.specs.Resizes.{recut, recut_all, recut_lists, settled_whole, resized_lists}
 use Rattle.indicatif_term.specs.Inside.Recutting.{row_heights, IsShownCut, HasMore, cut_lines, shown_lines}
@@ -18,60 +19,32 @@ use Rattle.indicatif_term.specs.declared.remembered.Remembered.{Remembered}
 use Rattle.indicatif_term.specs.declared.recutting.CutLines.{CutLines}
 use Rattle.indicatif_term.proofs.CountLemmas.{length-live, live_of}
 use Rattle.indicatif_term.proofs.CutLineLemmas.{cut_rows, cut_right, cut_heights, lines_of_pieces}
-use Rattle.indicatif_term.proofs.RememberedLemmas.{rows-append}
+use Rattle.indicatif_term.proofs.RememberedLemmas.{whole_shown, remembered_by}
 use Rattle.indicatif_term.proofs.ResizeLemmas.{whole-rows, forgotten_stay}
 
 -- ---- what is remembered, cut anew
 
-pub unknown_cut : (w w' : ℕ) (old new : Remembered) (heights : List ℕ) → heights ≡ [] → new.width ≡ 0 → IsShownCut w w' old new heights
-unknown_cut w w' old new heights e z = record {
+pub unknown_cut : (w w' : ℕ) (old : Remembered) (cut : CutLines) → cut.heights.items ≡ [] → cut.lines.items ≡ [] → IsShownCut w w' old cut
+unknown_cut w w' old cut e z = record {
   rows = [];
-  known = λ l a. (all_rows w l, end_nil (all_rows w l));
+  known = λ l a. (all_rows w l, append-nil (all_rows w l));
   heights_are = e;
-  remembered = λ some. absurd (omega (arith, some, z));
+  lines_are = ap (standing_rows w') z;
+  right = subst (AreLines w') (sym z) tt;
 }
-  where
-    end_nil : (xs : List (List Cell)) → xs ++ [] ≡ xs
-    end_nil [] = refl
-    end_nil (x ∷ xs) = ap (λ ys. x ∷ ys) (end_nil xs)
 
-module _ (w w' : ℕ) (old new : Remembered) (a b c d : CutLines) (known : old.width ≡ w) (some : 0 < w) (none : a.lines.items ≡ []) (flat : a.heights.items ≡ [])
-    (first : HasMore a b (cut_lines w w' (texts old.kept.items))) (again : c.lines.items ≡ []) (same : c.heights.items ≡ b.heights.items)
-    (second : HasMore c d (cut_lines w w' (texts old.lines.items))) where
-  first_lines : shown_lines b.lines.items ≡ lines_of_pieces (cut_lines w w' (texts old.kept.items))
-  first_lines = first.lines_are ∙ ap (λ xs. shown_lines xs ++ lines_of_pieces (cut_lines w w' (texts old.kept.items))) none
+module _ (w w' : ℕ) (old : Remembered) (a d : CutLines) (known : old.width ≡ w) (some : 0 < w) (none : a.lines.items ≡ []) (flat : a.heights.items ≡ [])
+    (more : HasMore a d (cut_lines w w' (texts old.lines))) where
+  lines : shown_lines d.lines.items ≡ lines_of_pieces (cut_lines w w' (texts old.lines))
+  lines = more.lines_are ∙ ap (λ xs. shown_lines xs ++ lines_of_pieces (cut_lines w w' (texts old.lines))) none
 
-  second_lines : shown_lines d.lines.items ≡ lines_of_pieces (cut_lines w w' (texts old.lines.items))
-  second_lines = second.lines_are ∙ ap (λ xs. shown_lines xs ++ lines_of_pieces (cut_lines w w' (texts old.lines.items))) again
-
-  pub kept_cut_right : AreLines w' b.lines.items
-  kept_cut_right = cut_right w w' old.kept.items b.lines.items first_lines
-
-  pub lines_cut_right : AreLines w' d.lines.items
-  lines_cut_right = cut_right w w' old.lines.items d.lines.items second_lines
-
-  all_heights : d.heights.items ≡ row_heights w' (standing_rows w old.kept.items ++ standing_rows w old.lines.items)
-  all_heights =
-      second.heights_are ∙ ap (λ xs. xs ++ map length (cut_lines w w' (texts old.lines.items))) (same ∙ first.heights_are ∙ ap (λ xs. xs ++ map length (cut_lines w w' (texts old.kept.items))) flat)
-      ∙ ap (λ xs. xs ++ map length (cut_lines w w' (texts old.lines.items))) (cut_heights w w' old.kept.items)
-      ∙ ap (λ xs. row_heights w' (standing_rows w old.kept.items) ++ xs) (cut_heights w w' old.lines.items)
-      ∙ sym (map-append (λ row. length (recut w' row)) (standing_rows w old.kept.items) (standing_rows w old.lines.items))
-
-  pub known_cut : new.width ≡ w' → new.kept.items ≡ b.lines.items → new.lines.items ≡ d.lines.items → IsShownCut w w' old new d.heights.items
-  known_cut e f g = record {
-    rows = standing_rows w old.kept.items ++ standing_rows w old.lines.items;
-    known = λ l r. (
-        let x = subst (λ n. 0 < n → (front : List (List Cell)) × (front ++ standing_rows n (known_lines old) ≡ all_rows n l)) known r some in
-        (x.0, ap (λ rows. x.0 ++ rows) (sym (rows-append w old.kept.items old.lines.items)) ∙ x.1));
-    heights_are = all_heights;
-    remembered = λ p. (
-      e,
-      rows-append w' new.kept.items new.lines.items
-          ∙ ap (λ ls. standing_rows w' ls ++ standing_rows w' new.lines.items) f ∙ ap (λ ls. standing_rows w' b.lines.items ++ standing_rows w' ls) g
-          ∙ ap (λ rows. rows ++ standing_rows w' d.lines.items) (cut_rows w w' old.kept.items b.lines.items first_lines)
-          ∙ ap (λ rows. recut_all w' (standing_rows w old.kept.items) ++ rows) (cut_rows w w' old.lines.items d.lines.items second_lines)
-          ∙ sym (flat_map-append (recut w') (standing_rows w old.kept.items) (standing_rows w old.lines.items)),
-    );
+  pub known_cut : IsShownCut w w' old d
+  known_cut = record {
+    rows = standing_rows w old.lines;
+    known = λ l r. whole_shown w old l (subst (λ n. 0 < n → AreStanding n old l) known r some);
+    heights_are = more.heights_are ∙ ap (λ xs. xs ++ map length (cut_lines w w' (texts old.lines))) flat ∙ cut_heights w w' old.lines;
+    lines_are = cut_rows w w' old.lines d.lines.items lines;
+    right = cut_right w w' old.lines d.lines.items lines;
   }
 
 -- ---- the last rows
@@ -97,8 +70,11 @@ map_drop w (suc n) (r ∷ rows) = map_drop w n rows
 
 -- ---- the lists
 
-module _ (w w' h : ℕ) (l : Lists) (counts counts' : Counts) (failed : Bool) (old new : Remembered) (heights : List ℕ) (s : Suits counts failed old l) (sound : failed ≡ false) (some : 0 < h)
-    (x : IsShownCut w w' old new heights) (enough : counts.kept + counts.live ≤ length heights) where
+module _ (w w' h : ℕ) (l : Lists) (counts counts' : Counts) (failed : Bool) (old new : Remembered) (cut : CutLines) (s : Suits counts failed old l) (sound : failed ≡ false) (some : 0 < h)
+    (x : IsShownCut w w' old cut) (enough : counts.kept + counts.live ≤ length cut.heights.items) where
+  abbrev heights : List ℕ
+  heights = cut.heights.items
+
   abbrev low : List (List Cell)
   low = l.kept ++ live_rows w l.live
 
@@ -113,19 +89,19 @@ module _ (w w' h : ℕ) (l : Lists) (counts counts' : Counts) (failed : Bool) (o
       ap (λ k. drop k heights) at ∙ ap (drop (length x.rows - length low)) x.heights_are ∙ map_drop w' (length x.rows - length low) x.rows
       ∙ ap (row_heights w') (same_behind f.0 x.rows l.above low (f.1 ∙ append_assoc l.above l.kept (live_rows w l.live)) (omega (arith, enough, n, low_height)))
 
-  pub resized_suits : CountsOf counts' (settled_whole w' h (recut_lists w' l)) → Suits counts' false new (settled_whole w' h (recut_lists w' l))
-  resized_suits counted = record {
-    counted = counted;
-    failed_is = sym sound ∙ s.failed_is;
-    forgets = λ broke. absurd (false≢true (sym sound ∙ s.failed_is ∙ broke));
-    remembered = λ p. (
-        let r = x.remembered p in
-        let f = x.known l s.remembered in (
-          recut_all w' f.0,
-          subst (λ n. recut_all w' f.0 ++ standing_rows n (known_lines new) ≡ all_rows n (settled_whole w' h (recut_lists w' l))) (sym r.0)
-              (ap (λ rows. recut_all w' f.0 ++ rows) r.1 ∙ sym (flat_map-append (recut w') f.0 x.rows) ∙ ap (recut_all w') f.1 ∙ sym (whole-rows w' h l some w)),
-        ));
-  }
+  pub resized_suits : CountsOf counts' (settled_whole w' h (recut_lists w' l)) → new.lines ≡ cut.lines.items → (0 < new.width → IsMarked w' counts'.live new) →
+      Suits counts' false new (settled_whole w' h (recut_lists w' l))
+  resized_suits counted lines marked =
+      let f = x.known l s.remembered in
+      record {
+        counted = counted;
+        failed_is = sym sound ∙ s.failed_is;
+        forgets = λ broke. absurd (false≢true (sym sound ∙ s.failed_is ∙ broke));
+        remembered = remembered_by w' counts'.live new (settled_whole w' h (recut_lists w' l)) (recut_all w' f.0) marked
+            (ap (λ ls. recut_all w' f.0 ++ standing_rows w' ls) lines ∙ ap (λ rows. recut_all w' f.0 ++ rows) x.lines_are ∙ sym (flat_map-append (recut w') f.0 x.rows) ∙ ap (recut_all w') f.1
+            ∙ sym (whole-rows w' h l some w))
+            (live_of counts' (settled_whole w' h (recut_lists w' l)) counted);
+      }
 
 -- ---- what lists become
 

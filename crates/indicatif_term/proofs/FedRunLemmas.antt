@@ -13,7 +13,8 @@ use Rattle.std.proofs.lemmas.List.Elements.{All-weaker, All-take, All-replicate,
 use Rattle.unicode_width.specs.Width.{char_width}
 use Rattle.indicatif_text.proofs.WidthLemmas.{plain_width}
 use Rattle.indicatif_text.proofs.ColourSequenceLemmas.{some_sequence}
-use Rattle.indicatif_term.specs.Screen.{Screen, performed_all}
+use Rattle.indicatif_term.specs.Screen.{Screen}
+use Rattle.indicatif_term.specs.Inside.Reading.{performed_all}
 use Rattle.indicatif_term.specs.Terminal.{Terminal, idle, after}
 use Rattle.indicatif_term.specs.Inside.Runs.{TakesOneColumn, puts}
 use Rattle.indicatif_term.specs.Inside.Scanners.{IsWholeChar}

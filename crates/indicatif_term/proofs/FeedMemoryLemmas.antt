@@ -1,14 +1,15 @@
 -- That what stands at the front of bytes tells whether they may take memory.
 use Rattle.std.proofs.Common.{◌≡◌, ℕ, zero, suc, ◌-◌, ◌<◌, ◌≤◌, true, false, List, [], ◌∷◌, ◌++◌, length, get_or, take, drop, Option, refl, sym, ◌∙◌, ap, subst, arith, length-drop}
-use Rattle.std.specs.Prelude.{All, IsTrue}
+use Rattle.std.specs.Prelude.{option_to_list, All, IsTrue}
 use Rattle.std.specs.Int.{IsInRange}
 use Rattle.std.proofs.Math.Utf8.{scalar, encode}
 use Rattle.std.proofs.lemmas.Bool.{and_parts}
 use Rattle.std.proofs.lemmas.List.{take-append-drop, take_all}
 use Rattle.std.proofs.lemmas.List.Elements.{recursion_from_All}
 use Rattle.indicatif_term.specs.Screen.{Screen, Op, Put}
-use Rattle.indicatif_term.specs.Terminal.{Terminal, idle, sequence_ops, byte_ops, byte_reader, ops_of, reader_after}
-use Rattle.indicatif_term.specs.Feeding.{first_takes_memory, feeding_takes_memory}
+use Rattle.indicatif_term.specs.Terminal.{Terminal, idle, sequence_op}
+use Rattle.indicatif_term.specs.Inside.Reading.{byte_reader, byte_ops, reader_after}
+use Rattle.indicatif_term.specs.Feeding.{first_takes_memory, feeding_takes_memory, ops_of}
 use Rattle.indicatif_term.specs.Inside.Scanners.{IsWholeChar, IsWholeSequence}
 use Rattle.indicatif_term.proofs.FeedLemmas.{ops_of-append}
 use Rattle.indicatif_term.proofs.ReaderLemmas.{Spells, char_read}
@@ -37,7 +38,7 @@ module _ (t : Terminal) (bytes : List ℕ) where
       front_takes n (Put c ∷ []) (ap (λ r. ops_of r (take n bytes)) rests ∙ ap (ops_of idle) is.spelled ∙ spells.ops ∙ (asked c is.printable).0) refl
 
   -- a whole sequence
-  pub sequence_takes : (number : Option ℕ) (last len : ℕ) (ops : List Op) → IsWholeSequence bytes number last len → t.reader ≡ idle → ops ≡ sequence_ops number last
+  pub sequence_takes : (number : Option ℕ) (last len : ℕ) (ops : List Op) → IsWholeSequence bytes number last len → t.reader ≡ idle → ops ≡ option_to_list (sequence_op number last)
       → IsTrue (first_takes_memory ops t.screen) → IsTrue (feeding_takes_memory t bytes)
   sequence_takes number last len ops is rests e = front_takes len ops (ap (λ r. ops_of r (take len bytes)) rests ∙ is.asks ∙ sym e)
 

@@ -121,10 +121,14 @@ module _ (w h : ℕ) (opening : Screen) (above : List (List Cell)) where
       (after-append t' next_row clear_bytes)) whole in
       alike_fewer (opening.row + suc (suc row)) (suc u.screen.row) _ _ (omega (arith, at.0)) both
 
+  none_learn : (m : ℕ) (t t' : Terminal) → Alike m t.screen t'.screen → Alike m (after t []).screen (after t' []).screen
+  unfolding after
+  none_learn m t t' a = a
+
   more_learn : (n : ℕ) (more : List (List Cell)) (row : ℕ) (t t' : Terminal) → suc row ≡ length above + length more → Stands w h opening (above ++ more) row (suc row) true t →
       t'.reader ≡ t.reader → Alike (opening.row + suc row) t.screen t'.screen → Alike (opening.row + (suc row + n)) (after t (rows_down n)).screen (after t' (rows_down n)).screen
-  unfolding after
-  more_learn zero more row t t' e s r a = alike_fewer (opening.row + (suc row + 0)) (opening.row + suc row) t.screen t'.screen (omega arith) a
+  more_learn zero more row t t' e s r a =
+      none_learn (opening.row + (suc row + 0)) t t' (alike_fewer (opening.row + (suc row + 0)) (opening.row + suc row) t.screen t'.screen (omega arith) a)
   more_learn (suc n) more row t t' e s r a =
       let step = next_row ++ clear_bytes in
       let first = one w h opening above more row true t e s in
@@ -149,8 +153,8 @@ module _ (w h : ℕ) (opening : Screen) (above : List (List Cell)) where
   pub reach_learns : (down n row reach : ℕ) (front : Bool) (t t' : Terminal) → length above ≤ suc row → length above ≤ reach → (0 < n → row + down + 1 ≡ reach) → down + n ≤ GREATEST →
       Stands w h opening (above ++ []) row reach front t → t'.reader ≡ t.reader → Alike (opening.row + reach) t.screen t'.screen →
       Alike (opening.row + (reach + n)) (after t (reach_bytes down n)).screen (after t' (reach_bytes down n)).screen
-  unfolding after
-  reach_learns down zero row reach front t t' low within last few s r a = alike_fewer (opening.row + (reach + 0)) (opening.row + reach) t.screen t'.screen (omega arith) a
+  reach_learns down zero row reach front t t' low within last few s r a =
+      none_learn (opening.row + (reach + 0)) t t' (alike_fewer (opening.row + (reach + 0)) (opening.row + reach) t.screen t'.screen (omega arith) a)
   reach_learns down (suc n) row reach front t t' low within last few s r a =
       let k = reach - length above in
       let here = row + down in

@@ -3,13 +3,15 @@ use Rattle.std.proofs.Common.{◌≡◌, ℕ, ◌+◌, ◌%◌, ◌^◌, Bool, t
 use Rattle.std.specs.Prelude.{Result, Ok, Err, OnOk, OnErr, if◌then◌else◌, ◌==◌, nat_lt, nat_le}
 use Rattle.std.proofs.lemmas.List.{take-append-drop}
 use Rattle.unicode_width.specs.Width.{char_width}
-use Rattle.indicatif_term.specs.Screen.{Screen, Op, Put, Return, LineFeed, Up, Down, Right, Left, EmptyRow, performed, performed_all, put_sized, put_wide, put_mark, put_here, line_feed}
-use Rattle.indicatif_term.specs.Terminal.{Terminal, after, ops_of}
+use Rattle.indicatif_term.specs.Screen.{Screen, Op, Put, Return, LineFeed, Up, Down, Right, Left, EmptyRow, performed, put_sized, put_wide, put_mark, put_here, line_feed}
+use Rattle.indicatif_term.specs.Terminal.{Terminal, after}
+use Rattle.indicatif_term.specs.Inside.Reading.{performed_all}
+use Rattle.indicatif_term.specs.Feeding.{ops_of}
 use Rattle.std.specs.declared.io.ErrorKind.TheVariants.{OutOfMemory}
 use Rattle.indicatif_term.specs.Calls.{LeadsOn, BreaksOff, State, move_bytes}
 use Rattle.indicatif_term.specs.Memory.{MemoryTerm, view_of}
 use Rattle.indicatif_term.specs.Inside.Feeding.{ReadsBeginning}
-use Rattle.indicatif_term.proofs.FeedLemmas.{after-append, after-nil}
+use Rattle.indicatif_term.proofs.FeedLemmas.{after_screen, after-append, after-nil}
 
 -- ---- the size stays
 
@@ -53,8 +55,7 @@ all_size (op ∷ ops) s =
     record { columns = rest.columns ∙ first.columns; height = rest.height ∙ first.height }
 
 after_size : (t : Terminal) (bytes : List ℕ) → SameSize (after t bytes).screen t.screen
-unfolding after
-after_size t bytes = all_size (ops_of t.reader bytes) t.screen
+after_size t bytes = rw (after_screen t bytes) (all_size (ops_of t.reader bytes) t.screen)
 
 -- ---- a beginning of bytes
 

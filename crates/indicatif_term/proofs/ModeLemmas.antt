@@ -1,16 +1,20 @@
 -- What a terminal does whose wrap can be turned off, byte by byte.
 use Rattle.std.proofs.Common.{◌≡◌, ℕ, zero, suc, ◌-◌, ◌<◌, ◌≤◌, Bool, true, false, List, [], ◌∷◌, ◌++◌, length, take, refl, sym, ◌∙◌, ap, subst, arith, eqb, Option, Some, None, append-nil, inl, inr}
-use Rattle.std.specs.Prelude.{nat_lt, ◌||◌, min, codes}
+use Rattle.std.specs.Option.{option_map_or}
+use Rattle.std.specs.Prelude.{option_to_list, nat_lt, ◌||◌, min, codes}
 use Rattle.std.specs.List.{AllByRecursion}
 use Rattle.std.proofs.Math.Utf8.{encode}
 use Rattle.std.proofs.lemmas.Bool.{cond_both, cases_Bool, false≢true, eqb-true}
 use Rattle.std.proofs.lemmas.List.{take-set-le}
 use Rattle.unicode_width.specs.Width.{char_width}
-use Rattle.indicatif_term.specs.Screen.{Screen, Op, Put, Return, LineFeed, Up, Down, Right, Left, EmptyRow, performed, performed_all, put_mark}
-use Rattle.indicatif_term.specs.Terminal.{Terminal, SequencePlace, OutsideSequence, Escaped, Sequence, Reader, idle, is_leading, byte_ops, byte_reader, ops_of, reader_after, char_ops, char_place, after}
-use Rattle.indicatif_term.specs.Modes.{put_over, put_unwrapped, performed_with, all_with, ModeTerminal, mode_resting, is_own, end_emptied, step_by, mode_after, ModeRowsStay, HasNoOwn}
+use Rattle.indicatif_term.specs.Screen.{Screen, Op, Put, Return, LineFeed, Up, Down, Right, Left, EmptyRow, performed, put_mark}
+use Rattle.indicatif_term.specs.Terminal.{Terminal, SequencePlace, OutsideSequence, Escaped, Sequence, Reader, idle, is_leading, byte_step, after}
+use Rattle.indicatif_term.specs.Modes.{put_over, put_unwrapped, performed_with, ModeTerminal, mode_resting, is_own, end_emptied, step_by, mode_after, ModeRowsStay, HasNoOwn}
+use Rattle.indicatif_term.specs.Inside.Reading.{byte_reader, performed_all, byte_ops, reader_after, char_ops, char_place, all_with}
+use Rattle.indicatif_term.specs.Feeding.{ops_of}
 use Rattle.indicatif_term.specs.Inside.Ending.{StayAlong}
 use Rattle.indicatif_term.proofs.CursorRowLemmas.{IsBelow}
+use Rattle.indicatif_term.proofs.FeedLemmas.{after_is}
 use Rattle.indicatif_term.proofs.ReaderLemmas.{HasShape, shape, Spells}
 use Rattle.indicatif_term.proofs.CallLemmas.{Asks}
 use Rattle.indicatif_term.proofs.WholeSequenceLemmas.{ascii_read}
@@ -46,9 +50,13 @@ pub all_with-append : (wraps : Bool) (xs ys : List Op) (s : Screen) → all_with
 all_with-append wraps [] ys s = refl
 all_with-append wraps (x ∷ xs) ys s = all_with-append wraps xs ys (performed_with wraps x s)
 
+one_asked : (wraps : Bool) (o : Option Op) (s : Screen) → option_map_or (λ op. performed_with wraps op s) o s ≡ all_with wraps (option_to_list o) s
+one_asked wraps None s = refl
+one_asked wraps (Some op) s = refl
+
 one_read : (wraps : Bool) (s : Screen) (r : Reader) (b : ℕ) → is_own r.place b ≡ false →
     step_by None (reading wraps s r) b ≡ reading wraps (all_with wraps (byte_ops r b) s) (byte_reader r b)
-one_read wraps s r b h = rw h refl
+one_read wraps s r b h = rw h (ap (λ x. reading wraps x (byte_reader r b)) (one_asked wraps (byte_step r b).0 s))
 
 pub all_read : (wraps : Bool) (s : Screen) (r : Reader) (bytes : List ℕ) → HasNoOwn r bytes →
     mode_after (reading wraps s r) bytes ≡ reading wraps (all_with wraps (ops_of r bytes) s) (reader_after r bytes)
@@ -166,8 +174,9 @@ on_performed (op ∷ ops) s = on_performed ops (performed op s)
 
 pub on_after : (t : Terminal) (bytes : List ℕ) → HasNoOwn t.reader bytes →
     mode_after (record { terminal = t; wraps = true; private_number = None }) bytes ≡ record { terminal = after t bytes; wraps = true; private_number = None }
-unfolding after
-on_after t bytes h = all_read true t.screen t.reader bytes h ∙ ap (λ s. reading true s (reader_after t.reader bytes)) (on_performed (ops_of t.reader bytes) t.screen)
+on_after t bytes h =
+    all_read true t.screen t.reader bytes h ∙ ap (λ s. reading true s (reader_after t.reader bytes)) (on_performed (ops_of t.reader bytes) t.screen)
+    ∙ ap (λ u. let m : ModeTerminal = record { terminal = u; wraps = true; private_number = None } in m) (sym (after_is t bytes))
 
 -- what leads up no row leaves the cursor where it is, or below
 pub level_row : (wraps : Bool) (ops : List Op) (s : Screen) → AllByRecursion IsLevel ops → s.row < length s.rows → 0 < s.height → s.row ≤ (all_with wraps ops s).row

@@ -12,11 +12,10 @@ use Rattle.indicatif_term.specs.Counts.{CountsOf}
 use Rattle.indicatif_term.specs.Inside.Plans.{frame_lines, IsPlan}
 use Rattle.indicatif_term.specs.Inside.Changes.{placed_height}
 use Rattle.indicatif_term.specs.Inside.Moves.{run_bytes, moved_bytes, AreEven}
-use Rattle.indicatif_term.specs.Standing.{placed, texts, standing_rows, AreLines}
+use Rattle.indicatif_term.specs.Standing.{placed, texts, AreLines}
 use Rattle.indicatif_term.specs.declared.remembered.StandingLine.{StandingLine}
 use Rattle.indicatif_term.specs.declared.remembered.Remembered.{Remembered}
-use Rattle.indicatif_term.specs.Remembered.{AreRemembered}
-use Rattle.indicatif_term.specs.Inside.Remembering.{AreKnown}
+use Rattle.indicatif_term.specs.Remembered.{AreRemembered, AreStanding, live_lines}
 use Rattle.indicatif_term.specs.declared.counts.Counts.{Counts}
 use Rattle.indicatif_term.specs.declared.layout.Plan.{Plan}
 use Rattle.indicatif_term.specs.declared.lines.Segment.{Segment}
@@ -28,10 +27,9 @@ use Rattle.indicatif_term.proofs.CountLemmas.{length-live, live_of}
 use Rattle.indicatif_term.proofs.PaintingLemmas.{AreDrawable}
 use Rattle.indicatif_term.proofs.DrawingLemmas.{Replaces, drawn_goes}
 use Rattle.indicatif_term.proofs.EngineLemmas.{Redraws, frame_drawable}
-use Rattle.indicatif_term.proofs.SkippingLemmas.{lines_height, standing_live}
-use Rattle.indicatif_term.proofs.RememberedLemmas.{lines_right}
+use Rattle.indicatif_term.proofs.RememberedLemmas.{lines_height, live_right}
 use Rattle.indicatif_term.proofs.OverLemmas.{AreWide}
-use Rattle.indicatif_term.proofs.OverLineLemmas.{solid_line, standing_wide, wide_behind}
+use Rattle.indicatif_term.proofs.OverLineLemmas.{solid_line, standing_wide}
 use Rattle.indicatif_term.proofs.OverDrawingLemmas.{AreSolid, joined_lines, over_redraws}
 
 -- lines filled up to the ends of their rows
@@ -111,13 +109,12 @@ draw_moves w h l c next pass blanks bottom frame plan ls p1 p2 p3 o q o' b there
     (λ x y. rw plain (drawn_goes w h pass bottom (map bar_lines frame) l lines x y rows))))
 
 -- rows of lines that are remembered have their cells
-pub live_wide : (v w : ℕ) (r : Remembered) (l : Lists) (c : Counts) → v ≡ w → 0 < v → AreRemembered r l → CountsOf c l → (0 < c.live → AreKnown r c.live v) → AreWide w (live_rows w l.live)
+pub live_wide : (v w : ℕ) (r : Remembered) (l : Lists) (c : Counts) → v ≡ w → 0 < v → AreRemembered r l → CountsOf c l → (0 < c.live → r.width ≡ v) → AreWide w (live_rows w l.live)
 live_wide v w r l c same pos a o known = subst (λ n. AreWide n (live_rows n l.live)) same (by c.live refl) where
   by : (n : ℕ) → c.live ≡ n → AreWide v (live_rows v l.live)
   by zero e = let none : live_rows v l.live ≡ [] = nil_from_length (live_rows v l.live) (length-live v l.live ∙ sym (live_of c l o) ∙ e) in subst (AreWide v) (sym none) tt
   by (suc n) e =
-      let k : AreKnown r c.live v = known (omega (arith, e)) in
-      let count : length (live_rows v l.live) ≡ c.live = length-live v l.live ∙ sym (live_of c l o) in
-      let width : r.width ≡ v = k.same_width in
-      let right : AreLines v r.lines.items = subst (λ n. AreLines n r.lines.items) width (lines_right r (omega arith)) in
-      subst (AreWide v) (standing_live v c.live r l pos width a count k.known k.few) (wide_behind v _ (standing_rows v r.lines.items) (standing_wide v r.lines.items right))
+      let width : r.width ≡ v = known (omega (arith, e)) in
+      let some : 0 < r.width = omega (arith, width, pos) in
+      let x = subst (λ n. AreStanding n r l) width (a some) in
+      subst (AreWide v) x.live_is (standing_wide v (live_lines r) (subst (λ n. AreLines n (live_lines r)) width (live_right r some)))

@@ -5,7 +5,8 @@ use Rattle.std.specs.List.{AllByRecursion}
 use Rattle.std.proofs.lemmas.Str.{encodes-chars}
 use Rattle.std.proofs.lemmas.List.{length-map, length-replicate, drop-map, drop_at, drop-drop, drop-replicate}
 use Rattle.indicatif_text.specs.Columns.{Cell, blank_row, visible, rows_of}
-use Rattle.indicatif_term.specs.Screen.{Screen, Op, Put, Return, performed_all}
+use Rattle.indicatif_term.specs.Screen.{Screen, Op, Put, Return}
+use Rattle.indicatif_term.specs.Inside.Reading.{performed_all}
 use Rattle.indicatif_term.specs.Terminal.{Terminal, GREATEST, after}
 use Rattle.indicatif_term.specs.Calls.{move_bytes}
 use Rattle.indicatif_term.specs.Shows.{Shows, IsOpening, resting, look, looks_of, resting_row}
@@ -19,7 +20,8 @@ use Rattle.indicatif_term.proofs.RowsAboveLemmas.{Keeps, keeps, kept_level, IsLe
 use Rattle.indicatif_term.proofs.ShownRowLemmas.{lines_rows}
 use Rattle.indicatif_term.proofs.FilledLineLemmas.{looks-append}
 use Rattle.indicatif_term.proofs.TerminalStepLemmas.{StandsAfter, over, screen_of, over_length, leads_from, total, window, is_text, rows_some}
-use Rattle.indicatif_term.proofs.PaintingLemmas.{restand, leads_then, rises}
+use Rattle.indicatif_term.proofs.PaintingLemmas.{AreDrawable, restand, leads_then, rises}
+use Rattle.indicatif_term.proofs.CalmLemmas.{calm_append, up_calm, return_calm, joined_calm}
 use Rattle.indicatif_term.proofs.DrawingLemmas.{Replaces, all-height, keeps_fewer, looks_split, stands_from, shows_from, low_row}
 use Rattle.indicatif_term.proofs.EngineLemmas.{Redraws, none_learns}
 use Rattle.indicatif_term.proofs.OverLemmas.{AreWide, Fills, texts_cells, texts_over, waiting}
@@ -238,6 +240,10 @@ module _ (w h : ℕ) (l l' : Lists) (kept gone : List (List Cell)) (line : List 
   pub over_stays : Keeps (opening.row + length l.above) t (move_bytes 0x41 (length gone - 1) ++ text)
   over_stays = subst (λ n. Keeps (opening.row + length l.above) t (move_bytes 0x41 (n - 1) ++ text)) parts.1 keeps_all
 
+solid_drawable : (w : ℕ) (lines : List (List ℕ)) → AreSolid w lines → AreDrawable w lines
+solid_drawable w [] solid = tt
+solid_drawable w (line ∷ lines) solid = (solid.0.drawable, solid_drawable w lines solid.1)
+
 -- lines that fill their rows, over at most as many: from the last of these rows, or from the front of a row below all
 pub over_redraws : (w h : ℕ) (l l' : Lists) (kept gone : List (List Cell)) (line : List ℕ) (lines plain : List (List ℕ)) → 0 < w → AreSolid w (line ∷ lines) → AreWide w gone →
     length gone ≤ length (lines_rows w (line ∷ lines)) → length gone ≤ GREATEST → looks_of (lines_rows w (line ∷ lines)) ≡ looks_of (lines_rows w plain) →
@@ -248,4 +254,6 @@ over_redraws w h l l' kept gone line lines plain pos solid wide few small same a
   shows = λ opening t s. over_shows w h l l' kept gone line lines plain pos solid wide few small same at on' opening t s (goes s.reached s.movable);
   keeps = λ opening t s. over_stays w h l l' kept gone line lines plain pos solid wide few small same at on' opening t s (goes s.reached s.movable);
   learns = none_learns w h l l' kept gone plain _ no_more goes;
+  calm = calm_append (move_bytes 0x41 (length gone - 1)) ((0x0D ∷ []) ++ joined_lines (line ∷ lines)) (up_calm (length gone - 1))
+      (calm_append (0x0D ∷ []) (joined_lines (line ∷ lines)) return_calm (joined_calm w (line ∷ lines) (solid_drawable w (line ∷ lines) solid)));
 }

@@ -1,5 +1,5 @@
 -- A line whose rows but the last are full fills its rows with the spaces behind it; and rows of lines have their cells.
-use Rattle.std.proofs.Common.{◌≡◌, ℕ, zero, suc, ◌+◌, ◌-◌, ◌*◌, ◌<◌, ◌≤◌, false, List, [], ◌∷◌, ◌++◌, length, drop, replicate, map, chars, refl, sym, ◌∙◌, ap, arith, eqb, length-append, inl, inr}
+use Rattle.std.proofs.Common.{◌≡◌, ℕ, zero, suc, ◌+◌, ◌-◌, ◌*◌, ◌<◌, ◌≤◌, false, List, [], ◌∷◌, ◌++◌, length, replicate, map, chars, refl, sym, ◌∙◌, ap, arith, eqb, length-append, inl, inr}
 use Rattle.std.specs.Prelude.{flat_map, nat_le, nat_lt, sum_by, IsFalse}
 use Rattle.std.specs.List.{AllByRecursion, list_any}
 use Rattle.std.proofs.Math.Nat.{suc-mul}
@@ -180,11 +180,6 @@ wide_both w (r ∷ a) b p q = (p.0, wide_both w a b p.1 q)
 pub standing_wide : (w : ℕ) (ls : List StandingLine) → AreLines w ls → AreWide w (standing_rows w ls)
 standing_wide w [] all = tt
 standing_wide w (l ∷ ls) all = wide_both w _ _ (rows_wide w _ all.0.narrow) (standing_wide w ls all.1)
-
-pub wide_behind : (w k : ℕ) (b : List (List Cell)) → AreWide w b → AreWide w (drop k b)
-wide_behind w zero b all = all
-wide_behind w (suc k) [] all = tt
-wide_behind w (suc k) (r ∷ b) all = wide_behind w k b all.1
 
 -- rows that look like these have as many cells
 pub wide_looks : (w : ℕ) (a b : List (List Cell)) → looks_of a ≡ looks_of b → AreWide w b → AreWide w a

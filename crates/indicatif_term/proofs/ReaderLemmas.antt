@@ -1,13 +1,16 @@
 -- What the bytes of characters ask of a terminal is what the characters ask.
-use Rattle.std.proofs.Common.{◌≡◌, ℕ, ◌+◌, ◌/◌, ◌<◌, ◌≤◌, true, false, List, [], ◌∷◌, ◌++◌, length, get_or, refl, sym, ◌∙◌, ap, subst, append_assoc, append-nil, arith, length-append, ltb}
-use Rattle.std.specs.Prelude.{if◌then◌else◌, chars, IsUtf8}
+use Rattle.std.proofs.Common.{◌≡◌, ℕ, ◌+◌, ◌/◌, ◌<◌, ◌≤◌, true, false, List, [], ◌∷◌, ◌++◌, length, get_or, refl, sym, ◌∙◌, ap, subst, append_assoc, append-nil, arith, length-append, ltb, Option, None}
+use Rattle.std.specs.Prelude.{if◌then◌else◌, chars, IsUtf8, option_to_list}
 use Rattle.std.specs.Str.{is_utf8}
 use Rattle.std.specs.List.{AllByRecursion}
 use Rattle.std.proofs.Math.Utf8.{scalar, scalars, encode, encodes, next}
 use Rattle.std.proofs.lemmas.Bool.{and_parts, cond_both, le-ltb, lt-ltb, le-leb, lt-leb, false_from_ne_true}
 use Rattle.std.proofs.lemmas.Str.{encode_same, length-encode, len_utf8_bounds, chars-encodes, IsUtf8-from_is_utf8, is_utf8-from_IsUtf8}
+use Rattle.indicatif_text.specs.Columns.{is_parameter}
 use Rattle.indicatif_term.specs.Screen.{Op}
-use Rattle.indicatif_term.specs.Terminal.{SequencePlace, Reader, is_leading, spelling_with, first_char, char_ops, char_place, ops_of, reader_after}
+use Rattle.indicatif_term.specs.Terminal.{SequencePlace, OutsideSequence, Sequence, Reader, number_with, sequence_op, char_step, byte_step, is_leading, spelling_with, first_char}
+use Rattle.indicatif_term.specs.Inside.Reading.{char_ops, char_place, reader_after}
+use Rattle.indicatif_term.specs.Feeding.{ops_of}
 use Rattle.indicatif_term.proofs.FeedLemmas.{ops_of-append, reader_after-append}
 
 -- ---- one character
@@ -79,11 +82,21 @@ pub record Spells (r : Reader) (bytes : List ℕ) (c : ℕ) : Type 0 where
   pub ops : ops_of r bytes ≡ char_ops r.place c
   pub reader : reader_after r bytes ≡ record { place = char_place r.place c; spelling = [] }
 
+-- the step of the last byte of a character
+pub whole_step : (r : Reader) (b c : ℕ) → is_utf8 (spelling_with r.spelling b) ≡ true → first_char (spelling_with r.spelling b) ≡ c →
+    byte_step r b ≡ ((char_step r.place c).0, record { place = (char_step r.place c).1; spelling = [] })
+whole_step r b c is char =
+    let bytes = spelling_with r.spelling b in
+    let whole : ℕ → Option Op × Reader = λ x. ((char_step r.place x).0, record { place = (char_step r.place x).1; spelling = [] }) in
+    let other : Option Op × Reader = (None, record { place = r.place; spelling = if ltb (length bytes) 4 then bytes else [] }) in
+    ap (λ t. if t then whole (first_char bytes) else other) is ∙ ap whole char
+
 last_byte : (place : SequencePlace) (c : ℕ) (p : List ℕ) (b : ℕ) → scalar c ≡ true → spelling_with p b ≡ encode c → Spells (record { place = place; spelling = p }) (b ∷ []) c
 last_byte place c p b s e =
     let is : is_utf8 (spelling_with p b) ≡ true = ap is_utf8 e ∙ whole c s in
     let char : first_char (spelling_with p b) ≡ c = ap first_char e ∙ first_char_encode c s in
-    record { ops = rw (is, char) (append-nil (char_ops place c)); reader = rw (is, char) refl }
+    let step = whole_step (record { place = place; spelling = p }) b c is char in
+    record { ops = ap (λ (x : Option Op × Reader). option_to_list x.0 ++ []) step ∙ append-nil (char_ops place c); reader = ap (λ (x : Option Op × Reader). x.1) step }
 
 other_byte : (place : SequencePlace) (p : List ℕ) (b : ℕ) (bytes : List ℕ) (c : ℕ) → is_utf8 (spelling_with p b) ≡ false → length (spelling_with p b) < 4 →
     Spells (record { place = place; spelling = spelling_with p b }) bytes c → Spells (record { place = place; spelling = p }) (b ∷ bytes) c
@@ -116,6 +129,20 @@ char_list_ops place (c ∷ cs) = char_ops place c ++ char_list_ops (char_place p
 abbrev pub place_after : SequencePlace → List ℕ → SequencePlace
 place_after place [] = place
 place_after place (c ∷ cs) = place_after (char_place place c) cs
+
+-- by the step of the first
+pub first_ops : (place : SequencePlace) (c : ℕ) (cs : List ℕ) (o : Option Op) (next : SequencePlace) → char_step place c ≡ (o, next) →
+    char_list_ops place (c ∷ cs) ≡ option_to_list o ++ char_list_ops next cs
+first_ops place c cs o next e = ap (λ (x : Option Op × SequencePlace). option_to_list x.0 ++ char_list_ops x.1 cs) e
+
+pub first_place : (place : SequencePlace) (c : ℕ) (cs : List ℕ) (o : Option Op) (next : SequencePlace) → char_step place c ≡ (o, next) → place_after place (c ∷ cs) ≡ place_after next cs
+first_place place c cs o next e = ap (λ (x : Option Op × SequencePlace). place_after x.1 cs) e
+
+pub parameter_step : (number : Option ℕ) (c : ℕ) → is_parameter c ≡ true → char_step (Sequence number) c ≡ (None, Sequence (number_with number c))
+parameter_step number c holds = rw holds refl
+
+pub last_step : (number : Option ℕ) (c : ℕ) → is_parameter c ≡ false → char_step (Sequence number) c ≡ (sequence_op number c, OutsideSequence)
+last_step number c not = rw not refl
 
 pub chars_read : (place : SequencePlace) (cs : List ℕ) → scalars cs ≡ true →
     (ops_of (record { place = place; spelling = [] }) (encodes cs) ≡ char_list_ops place cs)

@@ -1,20 +1,22 @@
 -- Lines that are remembered, and new ones beside them.
 use Rattle.std.proofs.Props.{props}
 use Rattle.std.proofs.Math.Logic.{∥∥₁_elim}
-use Rattle.std.proofs.Common.{◌≡◌, ℕ, zero, suc, ◌+◌, ◌-◌, ◌<◌, ◌≤◌, ◌^◌, min, true, false, List, [], ◌∷◌, ◌++◌, length, take, drop, get_or, refl, sym, ◌∙◌, ap, subst, arith, append_assoc, chars, if◌then◌else◌, Option, Some, None}
-use Rattle.std.specs.Prelude.{string_bytes, IfSome}
+use Rattle.std.proofs.Common.{◌≡◌, ℕ, zero, suc, ◌+◌, ◌-◌, ◌<◌, ◌≤◌, ◌^◌, min, true, false, List, [], ◌∷◌, ◌++◌, length, take, drop, get_or, refl, sym, ◌∙◌, ap, subst, arith, append_assoc, append-nil, length-append, chars, if◌then◌else◌, Option, Some, None, inl, inr}
+use Rattle.std.specs.Prelude.{string_bytes, IfSome, ◌==◌}
 use Rattle.std.proofs.lemmas.Grind.{flat_map-append}
+use Rattle.std.proofs.lemmas.Bool.{cases_Bool, eqb-true}
 use Rattle.std.proofs.lemmas.List.{take_more, map-append, take_at, drop_at, drop-drop, length-map, length-take-le, length-drop, take-append-drop, take_all, nil_from_length}
 use Rattle.indicatif_text.specs.Columns.{Cell, rows_of}
 use Rattle.indicatif_term.specs.Inside.Changes.{PlacedLine, placed_height, placed_lines, free_behind, change_bytes}
 use Rattle.indicatif_term.specs.Inside.Fills.{last_of}
 use Rattle.indicatif_term.proofs.LastLineLemmas.{last_push}
 use Rattle.indicatif_term.specs.Standing.{placed_of, placed, texts, standing_rows, IsLine, AreLines}
-use Rattle.indicatif_term.specs.Remembered.{AreRemembered, known_lines}
+use Rattle.indicatif_term.specs.Remembered.{AreRemembered, AreStanding, kept_lines, live_lines}
+use Rattle.indicatif_term.specs.Inside.Remembering.{StandAbove, IsMarked}
 use Rattle.indicatif_term.proofs.ShownRowLemmas.{lines_rows}
-use Rattle.indicatif_term.specs.Lists.{Lists, all_rows, passed, kept_of, is_first}
+use Rattle.indicatif_term.specs.Lists.{Lists, all_rows, live_rows, live_height, passed, kept_of, is_first}
 use Rattle.indicatif_term.specs.declared.remembered.Remembered.{Remembered}
-use Rattle.indicatif_term.proofs.CountLemmas.{passed-rows}
+use Rattle.indicatif_term.proofs.CountLemmas.{passed-rows, length-live}
 use Rattle.indicatif_term.specs.Inside.Places.{IsAt, IsThere, IsWithin}
 use Rattle.indicatif_term.specs.declared.remembered.StandingLine.{StandingLine}
 use Rattle.indicatif_term.specs.declared.beside.Place.{Place}
@@ -67,30 +69,109 @@ pub rows-append : (w : ℕ) (before ls : List StandingLine) → standing_rows w 
 rows-append w before ls =
     ap (lines_rows w) (map-append (λ (l : StandingLine). string_bytes l.text) before ls) ∙ flat_map-append (λ line. rows_of w (chars line)) (texts before) (texts ls)
 
--- the rows of all lines that are remembered, from those before the last drawing on
-pub known_rows : (w : ℕ) (r : Remembered) (front : List (List Cell)) → front ++ standing_rows w (known_lines r) ≡ (front ++ standing_rows w r.kept.items) ++ standing_rows w r.lines.items
-known_rows w r front = ap (λ x. front ++ x) (rows-append w r.kept.items r.lines.items) ∙ sym (append_assoc front (standing_rows w r.kept.items) (standing_rows w r.lines.items))
+-- ---- parts of lines
+
+pub lines_taken : (w n : ℕ) (ls : List StandingLine) → AreLines w ls → AreLines w (take n ls)
+lines_taken w zero ls all = tt
+lines_taken w (suc n) [] all = tt
+lines_taken w (suc n) (l ∷ ls) all = (all.0, lines_taken w n ls all.1)
+
+pub lines_dropped : (w n : ℕ) (ls : List StandingLine) → AreLines w ls → AreLines w (drop n ls)
+lines_dropped w zero ls all = all
+lines_dropped w (suc n) [] all = tt
+lines_dropped w (suc n) (l ∷ ls) all = lines_dropped w n ls all.1
+
+rows_split : (w n : ℕ) (ls : List StandingLine) → standing_rows w ls ≡ standing_rows w (take n ls) ++ standing_rows w (drop n ls)
+rows_split w n ls = ap (standing_rows w) (sym (take-append-drop n ls)) ∙ rows-append w (take n ls) (drop n ls)
+
+pub lines_height : (w : ℕ) (ls : List StandingLine) → AreLines w ls → placed_height (placed ls) ≡ length (standing_rows w ls)
+lines_height w [] all = refl
+lines_height w (l ∷ ls) all =
+    let rest : placed_height (placed ls) ≡ length (standing_rows w ls) = lines_height w ls all.1 in
+    let one : l.rows ≡ length (rows_of w (chars (string_bytes l.text))) = all.0.rows_are in
+    omega (arith, length-append (rows_of w (chars (string_bytes l.text))) (standing_rows w ls))
+
+-- rows of which as many stand last
+pub same_parts : (a b c d : List (List Cell)) → a ++ b ≡ c ++ d → length b ≡ length d → (a ≡ c) × (b ≡ d)
+same_parts a b c d e k =
+    let n : length a ≡ length c = omega (arith, sym (length-append a b) ∙ ap length e ∙ length-append c d) in (
+      sym (take_at a b (length a) refl) ∙ ap (take (length a)) e ∙ take_at c d (length a) (sym n),
+      sym (drop_at a b (length a) refl) ∙ ap (drop (length a)) e ∙ drop_at c d (length a) (sym n),
+    )
 
 -- ---- what is remembered
 
 -- the lines are as they are measured
-pub lines_right : (r : Remembered) → 0 < r.width → AreLines r.width r.lines.items
-lines_right r some = ∥∥₁_elim r.right (Prim.hlevel props) (λ right. (right some).1)
+pub lines_right : (r : Remembered) → 0 < r.width → AreLines r.width r.lines
+lines_right r some = ∥∥₁_elim r.right (Prim.hlevel props) (λ right. right some)
 
-pub kept_right : (r : Remembered) → 0 < r.width → AreLines r.width r.kept.items
-kept_right r some = ∥∥₁_elim r.right (Prim.hlevel props) (λ right. (right some).0)
+pub live_right : (r : Remembered) → 0 < r.width → AreLines r.width (live_lines r)
+live_right r some = lines_dropped r.width r.kept r.lines (lines_right r some)
 
 -- nothing is remembered
 pub nothing_shown : (r : Remembered) (l : Lists) → r.width ≡ 0 → AreRemembered r l
 nothing_shown r l e = λ p. absurd (omega arith)
+
+-- all lines that are remembered stand in the last rows
+pub whole_shown : (w : ℕ) (r : Remembered) (l : Lists) → AreStanding w r l → (front : List (List Cell)) × (front ++ standing_rows w r.lines ≡ all_rows w l)
+whole_shown w r l s =
+    let up = standing_rows w (kept_lines r) in
+    let low = standing_rows w (live_lines r) in (
+      s.front,
+      ap (λ y. s.front ++ y) (rows_split w r.kept r.lines) ∙ sym (append_assoc s.front up low) ∙ ap (λ x. x ++ low) s.above_is ∙ ap (λ x. (l.above ++ l.kept) ++ x) s.live_is,
+    )
+
+-- lines stand in the last rows, those behind the mark in as many as are live
+pub standing_by : (w : ℕ) (r : Remembered) (l : Lists) (front : List (List Cell)) → front ++ standing_rows w r.lines ≡ all_rows w l →
+    length (standing_rows w (live_lines r)) ≡ length (live_rows w l.live) → AreStanding w r l
+standing_by w r l front whole size =
+    let up = standing_rows w (kept_lines r) in
+    let low = standing_rows w (live_lines r) in
+    let e : (front ++ up) ++ low ≡ (l.above ++ l.kept) ++ live_rows w l.live = append_assoc front up low ∙ ap (λ y. front ++ y) (sym (rows_split w r.kept r.lines)) ∙ whole in
+    let parts = same_parts (front ++ up) low (l.above ++ l.kept) (live_rows w l.live) e size in
+    record { front = front; above_is = parts.0; live_is = parts.1 }
+
+pub remembered_by : (w live : ℕ) (r : Remembered) (l : Lists) (front : List (List Cell)) → (0 < r.width → IsMarked w live r) → front ++ standing_rows w r.lines ≡ all_rows w l →
+    live ≡ live_height l.live → AreRemembered r l
+remembered_by w live r l front marked whole h = λ p.
+    let m = marked p in
+    let right : AreLines w (live_lines r) = subst (λ n. AreLines n (live_lines r)) m.width_is (live_right r p) in
+    subst (λ n. AreStanding n r l) (sym m.width_is)
+    (standing_by w r l front whole (sym (lines_height w (live_lines r) right) ∙ m.height_is ∙ h ∙ sym (length-live w l.live)))
+
+-- the mark, where it was found
+pub marked_by : (w live known : ℕ) (r : Remembered) → r.width ≡ (if known == live then w else 0) → known ≡ min (placed_height (placed (live_lines r))) (2 ^ 64 - 1) → live ≤ 65535 →
+    0 < r.width → IsMarked w live r
+marked_by w live known r e k small p = elim (cases_Bool (known == live)) [
+  | inl is ↦
+      let same : known ≡ live = eqb-true known live is in
+      record { width_is = e ∙ ap (λ b. if b then w else 0) is; height_is = omega (arith, same, k, small) }
+  | inr differs ↦ let none : r.width ≡ 0 = e ∙ ap (λ b. if b then w else 0) differs in absurd (omega arith)
+]
+
+-- the last of the lines of kept rows
+pub stands_above : (w from : ℕ) (r : Remembered) (l : Lists) → 0 < w → r.width ≡ w → AreRemembered r l → StandAbove w (drop from (kept_lines r)) l
+stands_above w from r l p e a =
+    let x = subst (λ n. AreStanding n r l) e (a (omega (arith, e))) in
+    let up = standing_rows w (take from (kept_lines r)) in (
+      x.front ++ up,
+      append_assoc x.front up (standing_rows w (drop from (kept_lines r))) ∙ ap (λ y. x.front ++ y) (sym (rows_split w from (kept_lines r))) ∙ x.above_is,
+    )
+
+pub none_above : (w : ℕ) (l : Lists) → StandAbove w [] l
+none_above w l = (l.above ++ l.kept, append-nil (l.above ++ l.kept))
 
 -- a bar's rows that are kept are where they were
 kept_rows : (w bar : ℕ) (l : Lists) → all_rows w (kept_of w bar l) ≡ all_rows w l
 unfolding kept_of
 kept_rows w bar l = elim (is_first bar l.live.segments) as (λ b. all_rows w (if b then passed w 1 l else l) ≡ all_rows w l) [ true ↦ passed-rows w 1 l | false ↦ refl ]
 
-pub kept_shown : (w bar : ℕ) (r : Remembered) (l : Lists) → r.width ≡ w → AreRemembered r l → AreRemembered r (kept_of w bar l)
-kept_shown w bar r l e a = λ p. let x = a p in (x.0, x.1 ∙ ap (λ n. all_rows n l) e ∙ sym (kept_rows w bar l) ∙ ap (λ n. all_rows n (kept_of w bar l)) (sym e))
+pub kept_shown : (w live bar : ℕ) (r r' : Remembered) (l : Lists) → r.width ≡ w → r'.lines ≡ r.lines → (0 < r'.width → IsMarked w live r') → live ≡ live_height (kept_of w bar l).live →
+    AreRemembered r l → AreRemembered r' (kept_of w bar l)
+kept_shown w live bar r r' l e lines marked h a = λ p.
+    let m = marked p in
+    let x = whole_shown w r l (subst (λ n. AreStanding n r l) e (a (omega (arith, p, m.width_is, e)))) in
+    remembered_by w live r' (kept_of w bar l) x.0 marked (ap (λ ls. x.0 ++ standing_rows w ls) lines ∙ x.1 ∙ sym (kept_rows w bar l)) h p
 
 -- ---- lines around one of them
 

@@ -1,17 +1,18 @@
 -- A frame whose lines stand in as many rows as those of the last drawing leads from the lists to the next ones by its new lines.
-use Rattle.std.proofs.Common.{inl, inr, ◌≡◌, ◌≢◌, ◌⊎◌, ℕ, zero, suc, ◌+◌, ◌-◌, ◌<◌, ◌≤◌, ◌^◌, min, max, Bool, true, false, List, [], ◌∷◌, ◌++◌, length, take, drop, map, set, refl, sym, ◌∙◌, ap, subst, arith, append-nil, length-append, chars, get_or, Result, Ok, Err, is_ok, is_err}
+use Rattle.std.proofs.Common.{inl, inr, ◌≡◌, ◌≢◌, ◌⊎◌, ℕ, zero, suc, ◌+◌, ◌-◌, ◌<◌, ◌≤◌, max, Bool, true, false, List, [], ◌∷◌, ◌++◌, length, take, drop, map, set, refl, sym, ◌∙◌, ap, subst, arith, append-nil, length-append, chars, get_or, Result, Ok, Err, is_ok, is_err}
 use Rattle.std.specs.Prelude.{IsTrue, IsFalse, string_bytes, nat_lt, ◌==◌, ◌&&◌, sum_by, slice_set}
 use Rattle.std.specs.List.{AllByRecursion}
 use Rattle.std.proofs.lemmas.Bool.{cond_both, lt-ltb}
 use Rattle.std.proofs.lemmas.Bool.Decides.{nat_tests}
-use Rattle.std.proofs.lemmas.List.{take_at, drop_at, nil_from_length, take_more, take_all, take_more_set, length-map, length-set, get_or-set_other, get_or-map, set_comm, take-map, drop-map, length-drop}
+use Rattle.std.proofs.lemmas.List.{take-append-drop, take_at, drop_at, nil_from_length, take_more, take_all, take_more_set, length-map, length-set, get_or-set_other, get_or-map, set_comm, take-map, drop-map}
 use Rattle.indicatif_text.specs.Columns.{Cell, rows_of, has_wide, last_columns}
 use Rattle.indicatif_term.specs.Shows.{look, looks_of}
-use Rattle.indicatif_term.specs.Lists.{Lists, Live, BarRows, BarLines, lists_height, live_height, live_rows, segments_height, blanks_for, live_of_frame, shown_rows, lines_of, fitting, grouped, settled, rested, drawn, all_rows}
+use Rattle.indicatif_term.specs.Lists.{Lists, Live, BarRows, BarLines, lists_height, live_height, live_rows, segments_height, blanks_for, live_of_frame, shown_rows, lines_of, fitting, grouped, settled, rested, drawn}
 use Rattle.indicatif_term.specs.Frames.{bar_lines, all_lines, are_plain, some_wide}
 use Rattle.indicatif_term.specs.Counts.{CountsOf, row_count}
 use Rattle.indicatif_term.specs.Standing.{placed_of, placed, texts, standing_rows, IsLine, AreLines, AreReady}
-use Rattle.indicatif_term.specs.Remembered.{AreRemembered, known_lines, Suits}
+use Rattle.indicatif_term.specs.Remembered.{AreRemembered, kept_lines, live_lines, Suits}
+use Rattle.indicatif_term.specs.Inside.Remembering.{StandAbove}
 use Rattle.indicatif_term.specs.Inside.Plans.{IsLaidOut, frame_lines}
 use Rattle.indicatif_term.specs.Inside.Edits.{AreSingle}
 use Rattle.indicatif_term.specs.Inside.Parting.{IsTurned, IsReady, change_of, waits_of}
@@ -28,14 +29,14 @@ use Rattle.indicatif_term.specs.declared.remembered.Remembered.{Remembered}
 use Rattle.indicatif_term.specs.declared.remembered.StandingLine.{StandingLine}
 use Rattle.indicatif_term.specs.declared.renewed.NewLine.{NewLine}
 use Rattle.indicatif_term.proofs.ShownRowLemmas.{rows_in, lines_rows, frame_rows}
-use Rattle.indicatif_term.proofs.CountLemmas.{segments_height-map, length-live, length-flat, live_of}
+use Rattle.indicatif_term.proofs.CountLemmas.{segments_height-map, length-flat, live_of}
 use Rattle.indicatif_term.proofs.TerminalStepLemmas.{rows_some}
-use Rattle.indicatif_term.proofs.BesideLemmas.{all_at}
+use Rattle.indicatif_term.proofs.BesideLemmas.{all_append, all_at}
 use Rattle.indicatif_term.proofs.LayoutLemmas.{planned}
 use Rattle.indicatif_term.proofs.EngineLemmas.{Redraws, suits_made}
 use Rattle.indicatif_term.proofs.DrawingLemmas.{drawn-sound}
-use Rattle.indicatif_term.proofs.RememberedLemmas.{lines_right, known_rows, changed_in, height_to}
-use Rattle.indicatif_term.proofs.SkippingLemmas.{no_rows, lines_height, standing_live, StandAbove, drawn_shown, draw_changes}
+use Rattle.indicatif_term.proofs.RememberedLemmas.{live_right, lines_height, lines_taken}
+use Rattle.indicatif_term.proofs.SkippingLemmas.{no_rows, drawn_shown, draw_changes}
 
 -- ---- one more line that stands
 
@@ -347,29 +348,23 @@ drawn_by w h bottom frame l = rw (shows_none w h) refl
 
 -- ---- the frame
 
-front_same : (a b c : List (List Cell)) → a ++ c ≡ b ++ c → a ≡ b
-front_same a b c e =
-    let size : length a + length c ≡ length b + length c = sym (length-append a c) ∙ ap length e ∙ length-append b c in
-    let n : length b ≡ length a = omega arith in
-    sym (take_at a c (length a) refl) ∙ ap (take (length a)) e ∙ take_at b c (length a) n
-
 some_by : (k rows : ℕ) → (k ≡ 0 → rows ≡ 0) → 0 < rows → 0 < k
 some_by zero rows e p = absurd (omega (arith, e refl))
 some_by (suc k) rows e p = omega arith
 
 -- a frame whose lines were compared with those that stand
 pub renewed_frame : (w h : ℕ) (frame : List Segment) (c : Counts) (plan : Plan) (r : Remembered) (new : List NewLine) → IsSettled w h c r →
-    IsFalse (some_wide w (all_lines (map bar_lines frame))) → IsLaidOut h (lines_of w (map bar_lines frame)) plan → AreCompared w r.lines.items new (frame_lines frame) plan →
-    plan.lines ≡ length r.lines.items → plan.segments.items ≡ c.segments.items → IsRenewed w h frame c r new
+    IsFalse (some_wide w (all_lines (map bar_lines frame))) → IsLaidOut h (lines_of w (map bar_lines frame)) plan → AreCompared w (live_lines r) new (frame_lines frame) plan →
+    plan.lines ≡ length (live_lines r) → plan.segments.items ≡ c.segments.items → IsRenewed w h frame c r new
 renewed_frame w h frame c plan r new s n laid cmp all same =
     let bytes = λ (l : StandingLine). string_bytes l.text in
-    let on = renewed (texts r.lines.items) new in
-    let size : length on ≡ plan.lines = renewed-length (texts r.lines.items) new ∙ length-map r.lines.items bytes ∙ sym all in
+    let on = renewed (texts (live_lines r)) new in
+    let size : length on ≡ plan.lines = renewed-length (texts (live_lines r)) new ∙ length-map (live_lines r) bytes ∙ sym all in
     let whole : on ≡ frame_lines frame = sym (take_all plan.lines on (omega (arith, size))) ∙ cmp.texts_are in
     record {
       narrow = n;
       settled = s;
-      fit = subst (λ k. AreFitting w r.lines.items k new) all cmp.fit;
+      fit = subst (λ k. AreFitting w (live_lines r) k new) all cmp.fit;
       texts_are = whole;
       plan = plan;
       plan_is = planned w h 0 (map bar_lines frame) plan laid (cmp.passes_none ∙ sym (shows_none w h));
@@ -419,23 +414,23 @@ module _ (w h : ℕ) (frame : List Segment) (c : Counts) (r : Remembered) (new :
       subst (CountsOf c) (sym (drawn_by w h bottom (map bar_lines frame) x ∙ still)) counted
 
   -- some line stands
-  pub some_stand : 0 < length r.lines.items
+  pub some_stand : 0 < length (live_lines r)
   some_stand =
       let none = λ (e : length (fitting h (lines_of w (map bar_lines frame))) ≡ 0). no_rows w h (map bar_lines frame) e in
-      let count : length r.lines.items ≡ q.plan.lines = sym (length-map r.lines.items (λ (l : StandingLine). string_bytes l.text)) ∙ sym (renewed-length (texts r.lines.items) new)
+      let count : length (live_lines r) ≡ q.plan.lines = sym (length-map (live_lines r) (λ (l : StandingLine). string_bytes l.text)) ∙ sym (renewed-length (texts (live_lines r)) new)
       ∙ ap length q.texts_are ∙ sym q.all_lines_are in
-      some_by (length r.lines.items) (segments_height shows) (λ e. none (sym q.plan_is.lines_are ∙ sym count ∙ e)) (omega (arith, live_rows_of, q.settled.some))
+      some_by (length (live_lines r)) (segments_height shows) (λ e. none (sym q.plan_is.lines_are ∙ sym count ∙ e)) (omega (arith, live_rows_of, q.settled.some))
 
   some : 0 < r.width
   some = omega (arith, q.settled.same_width, pos)
 
-  right : AreLines w r.lines.items
-  right = subst (λ k. AreLines k r.lines.items) q.settled.same_width (lines_right r some)
+  right : AreLines w (live_lines r)
+  right = subst (λ k. AreLines k (live_lines r)) q.settled.same_width (live_right r some)
 
   -- the lines of the frame in their places
-  module _ (ls : List StandingLine) (t : texts ls ≡ renewed (texts r.lines.items) new) (p : AreInPlace r.width r.lines.items ls) where
-    place : AreInPlace w r.lines.items ls
-    place = subst (λ k. AreInPlace k r.lines.items ls) q.settled.same_width p
+  module _ (ls : List StandingLine) (t : texts ls ≡ renewed (texts (live_lines r)) new) (p : AreInPlace r.width (live_lines r) ls) where
+    place : AreInPlace w (live_lines r) ls
+    place = subst (λ k. AreInPlace k (live_lines r) ls) q.settled.same_width p
 
     all_shown : texts ls ≡ take q.plan.lines (frame_lines frame)
     all_shown = t ∙ q.texts_are ∙ sym (take_all q.plan.lines (frame_lines frame) (omega (arith, q.all_lines_are)))
@@ -444,28 +439,20 @@ module _ (w h : ℕ) (frame : List Segment) (c : Counts) (r : Remembered) (new :
     stand = ap (lines_rows w) (all_shown ∙ ap (λ k. take k (frame_lines frame)) q.plan_is.lines_are) ∙ frame_rows w h frame 0
 
     pub height : placed_height (placed ls) ≡ c.live
-    height = lines_height w ls (place_right w r.lines.items ls place) ∙ ap length stand ∙ length-flat shows ∙ sym live_rows_of
+    height = lines_height w ls (place_right w (live_lines r) ls place) ∙ ap length stand ∙ length-flat shows ∙ sym live_rows_of
 
-    height_before : placed_height (placed r.lines.items) ≡ c.live
-    height_before = sym (place_height w r.lines.items ls place) ∙ height
+    stand_before : (l : Lists) → AreRemembered r l → standing_rows w (live_lines r) ≡ live_rows w l.live
+    stand_before l known = subst (λ k. standing_rows k (live_lines r) ≡ live_rows k l.live) q.settled.same_width (known some).live_is
 
-    stand_before : (l : Lists) → CountsOf c l → AreRemembered r l → standing_rows w r.lines.items ≡ live_rows w l.live
-    stand_before l o known =
-        let f : c.kept + c.live ≤ c.reached = c.fits in
-        let k : c.reached ≤ 65535 = c.small in
-        let e = standing_live w c.live r l pos q.settled.same_width known (length-live w l.live ∙ sym (live_of c l o)) (omega (arith, height_before)) (omega (arith, height_before)) in
-        let none : min (placed_height (placed r.lines.items)) (2 ^ 64 - 1) - c.live ≡ 0 = omega (arith, height_before) in
-        subst (λ k. drop k (standing_rows w r.lines.items) ≡ live_rows w l.live) none e
-
-    pub redraws_new : (bottom : Bool) (l x : Lists) (front : List PlacedLine) (last : PlacedLine) → AreOver r.width r.lines.items ls → CountsOf c l → AreRemembered r l →
+    pub redraws_new : (bottom : Bool) (l x : Lists) (front : List PlacedLine) (last : PlacedLine) → AreOver r.width (live_lines r) ls → CountsOf c l → AreRemembered r l →
         IsTrue (are_plain (all_lines (map bar_lines frame))) →
         CountsOf c x → x.live ≡ l.live → placed ls ≡ front ++ last ∷ [] → Redraws w h x (drawn w h bottom 0 (map bar_lines frame) x) (change_bytes w 0 front last [])
     redraws_new bottom l x front last over o known plain ox live s =
         let room : Room = record { lines = length ls; free = 0 } in
         let count : length ls ≡ length front + 1 = sym (length-map ls placed_of) ∙ ap length s ∙ length-append front (last ∷ []) in
         let sits : AreSitting w (looks_of (live_rows w x.live)) (placed ls) =
-        subst (λ y. AreSitting w (looks_of y) (placed ls)) (stand_before l o known
-        ∙ ap (live_rows w) (sym live)) (place_sits w r.lines.items ls right place (subst (λ k. AreOver k r.lines.items ls) q.settled.same_width over)) in
+        subst (λ y. AreSitting w (looks_of y) (placed ls)) (stand_before l known
+        ∙ ap (live_rows w) (sym live)) (place_sits w (live_lines r) ls right place (subst (λ k. AreOver k (live_lines r) ls) q.settled.same_width over)) in
         let all : take (length ls) ls ≡ ls = take_all (length ls) ls (omega arith) in
         let within : IsWithin ls c.live room = record {
           some = omega (arith, count);
@@ -473,42 +460,36 @@ module _ (w h : ℕ) (frame : List Segment) (c : Counts) (r : Remembered) (new :
           rows_are = ap (λ ys. placed_height (placed ys) + 0) all ∙ omega (arith, height);
         } in
         draw_changes w h x c c 0 0 bottom frame q.plan ls room front last [] pos q.settled.narrow plain q.narrow ox q.plan_is (counts_stay bottom x ox) (no_blanks bottom)
-        q.settled.on_row q.settled.on_row all_shown s (sym count) sits within (place_right w r.lines.items ls place) (λ u. omega (arith, height))
+        q.settled.on_row q.settled.on_row all_shown s (sym count) sits within (place_right w (live_lines r) ls place) (λ u. omega (arith, height))
 
   module _ (l : Lists) (r' : Remembered) (o : CountsOf c l) (known : AreRemembered r l) (n : Renews r new r') where
-    above : StandAbove w r' l
-    above =
-        let x = known some in
-        let live = stand_before r'.lines.items n.texts_are n.in_place l o known in
-        let whole : (x.0 ++ standing_rows w r.kept.items) ++ live_rows w l.live ≡ (l.above ++ l.kept) ++ live_rows w l.live =
-        ap (λ y. (x.0 ++ standing_rows w r.kept.items) ++ y) (sym live) ∙ sym (known_rows w r x.0)
-        ∙ subst (λ k. x.0 ++ standing_rows k (known_lines r) ≡ all_rows k l) q.settled.same_width x.1 in (
-          x.0,
-          ap (λ ks. x.0 ++ standing_rows w ks) n.kept_are ∙ front_same (x.0 ++ standing_rows w r.kept.items) (l.above ++ l.kept) (live_rows w l.live) whole,
-        )
+    above : StandAbove w (kept_lines r') l
+    above = let x = known some in
+        (x.front, ap (λ ks. x.front ++ standing_rows w ks) n.kept_are ∙ subst (λ k. x.front ++ standing_rows k (kept_lines r) ≡ l.above ++ l.kept) q.settled.same_width x.above_is)
 
     pub shown_next : (bottom : Bool) → AreRemembered r' (drawn w h bottom 0 (map bar_lines frame) l)
-    shown_next bottom = drawn_shown w w h 0 0 bottom frame l c q.plan r' refl (n.width_is ∙ q.settled.same_width) o q.plan_is (no_blanks bottom)
-        (all_shown r'.lines.items n.texts_are n.in_place) above
+    shown_next bottom = drawn_shown w w h 0 0 bottom frame l c c q.plan (kept_lines r') (live_lines r') r' refl
+        (λ p. record { width_is = n.width_is ∙ q.settled.same_width; height_is = height (live_lines r') n.texts_are n.in_place })
+        (sym (take-append-drop r'.kept r'.lines)) o q.plan_is (no_blanks bottom) (all_shown (live_lines r') n.texts_are n.in_place) above (counts_stay bottom l o)
 
 -- ---- what a draw says of it
 
 module _ (w h : ℕ) (frame : List Segment) (c : Counts) (r : Remembered) (new : List NewLine) (pos : 0 < w) (q : IsRenewed w h frame c r new) where
-  pub fit_there : AreFitting r.width r.lines.items (length r.lines.items) new
-  fit_there = subst (λ n. AreFitting n r.lines.items (length r.lines.items) new) (sym q.settled.same_width) q.fit
+  pub fit_there : AreFitting r.width (live_lines r) (length (live_lines r)) new
+  fit_there = subst (λ n. AreFitting n (live_lines r) (length (live_lines r)) new) (sym q.settled.same_width) q.fit
 
   pub some_width : 0 < r.width
   some_width = omega (arith, q.settled.same_width, pos)
 
-  pub low_height : (r' : Remembered) → Renews r new r' → placed_height (placed r'.lines.items) ≤ 65535
+  pub low_height : (r' : Remembered) → Renews r new r' → placed_height (placed (live_lines r')) ≤ 65535
   low_height r' n =
       let f : c.kept + c.live ≤ c.reached = c.fits in
       let k : c.reached ≤ 65535 = c.small in
-      omega (arith, height w h frame c r new pos q r'.lines.items n.texts_are n.in_place)
+      omega (arith, height w h frame c r new pos q (live_lines r') n.texts_are n.in_place)
 
   -- some line is written
-  pub stands_again : (ls : List StandingLine) → AreInPlace r.width r.lines.items ls → 0 < length (placed ls)
-  stands_again ls p = omega (arith, length-map ls placed_of, place_length r.width r.lines.items ls p, some_stand w h frame c r new pos q)
+  pub stands_again : (ls : List StandingLine) → AreInPlace r.width (live_lines r) ls → 0 < length (placed ls)
+  stands_again ls p = omega (arith, length-map ls placed_of, place_length r.width (live_lines r) ls p, some_stand w h frame c r new pos q)
 
   pub new_suits : (bottom : Bool) (l : Lists) (r' : Remembered) → CountsOf c l → AreRemembered r l → Renews r new r' → Suits c false r' (drawn w h bottom 0 (map bar_lines frame) l)
   new_suits bottom l r' o known n = suits_made c r' (drawn w h bottom 0 (map bar_lines frame) l) (counts_stay w h frame c r new pos q bottom l o) (drawn-sound w h bottom 0 (map bar_lines frame) l)
@@ -521,20 +502,8 @@ split_last [] h = absurd (omega arith)
 split_last (p ∷ []) h = ([], p, refl)
 split_last (p ∷ x ∷ ps) h = let r = split_last (x ∷ ps) (omega arith) in (p ∷ r.0, r.1, ap (λ y. p ∷ y) r.2)
 
--- ---- what is written of lines, of which the last is this one
-
-pub renewed_by : (w : ℕ) (ls a : List StandingLine) (x : StandingLine) (front : List PlacedLine) (last : PlacedLine) → a ≡ ls → 0 < length ls → get_or ls (length ls - 1) x ≡ x →
-    placed ls ≡ front ++ last ∷ [] → change_bytes w 0 (placed (take (length ls - 1) a)) (placed_of x) [] ≡ change_bytes w 0 front last []
-renewed_by w ls a x front last e p i s =
-    let none : drop (length ls) ls ≡ [] = nil_from_length (drop (length ls) ls) (length-drop (length ls) ls ∙ omega arith) in
-    let count : length front + 1 ≡ length ls = sym (length-append front (last ∷ [])) ∙ ap length (sym s) ∙ length-map ls placed_of in
-    ap (λ xs. change_bytes w 0 (placed (take (length ls - 1) xs)) (placed_of x) []) e ∙ ap (λ xs. change_bytes w 0 (placed (take (length ls - 1) ls)) (placed_of x) (placed xs)) (sym none)
-    ∙ changed_in w 0 ls (length ls) x front last [] p (omega arith) i s count
-
-pub renewed_height : (ls a : List StandingLine) (x : StandingLine) → a ≡ ls → 0 < length ls → get_or ls (length ls - 1) x ≡ x →
-    placed_height (placed (take (length ls - 1) a)) + x.rows ≡ placed_height (placed ls)
-renewed_height ls a x e p i =
-    ap (λ xs. placed_height (placed (take (length ls - 1) xs)) + x.rows) e ∙ height_to ls (length ls) x p (omega arith) i ∙ ap (λ xs. placed_height (placed xs)) (take_all (length ls) ls (omega arith))
+pub last_of_all : (ls : List StandingLine) (front : List PlacedLine) (last : PlacedLine) → placed ls ≡ front ++ last ∷ [] → length front + 1 ≡ length ls
+last_of_all ls front last s = sym (length-append front (last ∷ [])) ∙ ap length (sym s) ∙ length-map ls placed_of
 
 -- ---- lines that all stay
 
@@ -560,22 +529,29 @@ left_stay (l ∷ ls) = left_stay ls
 nothing_changed : (w : ℕ) (front : List PlacedLine) (last : PlacedLine) → all_stay (front ++ last ∷ []) ≡ true → change_bytes w 0 front last [] ≡ []
 nothing_changed w front last e = rw e refl
 
-pub all_stay_there : (w : ℕ) (r : Remembered) → r.width ≡ w → 0 < w → (ls : List StandingLine) × AreInPlace w r.lines.items ls × AreOver w r.lines.items ls × (texts ls ≡ texts r.lines.items)
+pub all_stay_there : (w : ℕ) (r : Remembered) → r.width ≡ w → 0 < w → (ls : List StandingLine) × AreInPlace w (live_lines r) ls × AreOver w (live_lines r) ls × (texts ls ≡ texts (live_lines r))
     × ((front : List PlacedLine) (last : PlacedLine) → placed ls ≡ front ++ last ∷ [] → [] ≡ change_bytes w 0 front last [])
 all_stay_there w r e p =
-    let ls = all_left r.lines.items in
-    let right : AreLines w r.lines.items = subst (λ k. AreLines k r.lines.items) e (lines_right r (omega (arith, e, p))) in (
+    let ls = all_left (live_lines r) in
+    let right : AreLines w (live_lines r) = subst (λ k. AreLines k (live_lines r)) e (live_right r (omega (arith, e, p))) in (
       ls,
-      in_place w r.lines.items ls right (left_right w r.lines.items right) (left_texts r.lines.items),
-      all_over w r.lines.items ls (left_texts r.lines.items) (all_leave r.lines.items),
-      left_texts r.lines.items,
-      λ front last s. sym (nothing_changed w front last (ap all_stay (sym s) ∙ left_stay r.lines.items)),
+      in_place w (live_lines r) ls right (left_right w (live_lines r) right) (left_texts (live_lines r)),
+      all_over w (live_lines r) ls (left_texts (live_lines r)) (all_leave (live_lines r)),
+      left_texts (live_lines r),
+      λ front last s. sym (nothing_changed w front last (ap all_stay (sym s) ∙ left_stay (live_lines r))),
     )
 
 pub renews_itself : (r : Remembered) (new : List NewLine) → 0 < r.width → new ≡ [] → Renews r new r
 renews_itself r new p e = record {
   width_is = refl;
+  kept_is = refl;
   kept_are = refl;
-  texts_are = ap (renewed (texts r.lines.items)) (sym e);
-  in_place = in_place r.width r.lines.items r.lines.items (lines_right r p) (lines_right r p) refl;
+  texts_are = ap (renewed (texts (live_lines r))) (sym e);
+  in_place = in_place r.width (live_lines r) (live_lines r) (live_right r p) (live_right r p) refl;
 }
+
+-- lines of which those behind the mark come in the place of the ones before are as they are measured
+pub all_right : (w k : ℕ) (on ls : List StandingLine) → AreLines w on → take k ls ≡ take k on → AreInPlace w (drop k on) (drop k ls) → AreLines w ls
+all_right w k on ls all same p =
+    subst (AreLines w) (take-append-drop k ls)
+    (all_append (IsLine w) (take k ls) (drop k ls) (subst (AreLines w) (sym same) (lines_taken w k on all)) (place_right w (drop k on) (drop k ls) p))

@@ -11,6 +11,7 @@ use Rattle.indicatif_term.proofs.RowsAboveLemmas.{Keeps}
 use Rattle.indicatif_term.proofs.FilledLineLemmas.{looks-append}
 use Rattle.indicatif_term.proofs.ShownRowLemmas.{lines_rows}
 use Rattle.indicatif_term.proofs.PaintingLemmas.{IsDrawable, AreDrawable, restand}
+use Rattle.indicatif_term.proofs.CalmLemmas.{change_calm}
 use Rattle.indicatif_term.proofs.SkipLemmas.{Changed, change_leads}
 use Rattle.indicatif_term.proofs.EditWalkLemmas.{sitting_parts, sitting_front, height-append}
 use Rattle.indicatif_term.proofs.DrawingLemmas.{Replaces, all-height, keeps_fewer, looks_split, stands_from, shows_from, end_column, low_row, below_pos}
@@ -132,4 +133,5 @@ change_redraws w h l l' kept gone ps p more taken pos low on on' few sit some d 
   shows = λ opening t s. change_shows w h l l' kept gone ps p more taken pos low on on' few sit some d dp dm size opening t s (goes s.reached s.movable);
   keeps = λ opening t s. change_keeps w h l l' kept gone ps p more taken pos low on on' few sit some d dp dm size opening t s (goes s.reached s.movable);
   learns = none_learns w h l l' kept gone ((placed_lines ps ++ p.line ∷ []) ++ placed_lines more) (change_bytes w taken ps p more) no_more goes;
+  calm = change_calm w taken (looks_of gone) ps p more sit d dp dm;
 }

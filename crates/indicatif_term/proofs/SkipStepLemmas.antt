@@ -5,7 +5,8 @@ use Rattle.std.proofs.lemmas.List.Elements.{recursion_from_All}
 use Rattle.std.proofs.lemmas.Str.{encodes-chars}
 use Rattle.std.proofs.Math.Utf8.{encodes}
 use Rattle.indicatif_text.specs.Columns.{Cell, blank_row, visible, glyphs_of, pieces_of, row_of, rows_of, last_columns, columns_of_last}
-use Rattle.indicatif_term.specs.Screen.{Screen, Put, performed_all}
+use Rattle.indicatif_term.specs.Screen.{Screen, Put}
+use Rattle.indicatif_term.specs.Inside.Reading.{performed_all}
 use Rattle.indicatif_term.specs.Terminal.{Terminal, GREATEST, after}
 use Rattle.indicatif_term.specs.Calls.{move_bytes, clear_bytes}
 use Rattle.indicatif_term.specs.Shows.{IsOpening, resting}

@@ -1,13 +1,12 @@
 -- A draw that leaves lines that stay, by what an engine remembers.
-use Rattle.std.proofs.Common.{inl, inr, ◌≡◌, ℕ, zero, suc, ◌+◌, ◌-◌, ◌<◌, ◌≤◌, ◌^◌, min, Bool, true, false, List, [], ◌∷◌, ◌++◌, length, take, drop, map, replicate, refl, sym, ◌∙◌, ap, subst, arith, length-append, append_assoc, append-nil, chars, if◌then◌else◌}
-use Rattle.std.specs.Prelude.{IsTrue, IsFalse, string_bytes, ◌==◌, flat_map}
-use Rattle.std.proofs.lemmas.Bool.{cases_Bool}
-use Rattle.std.proofs.lemmas.Bool.Decides.{nat_tests}
-use Rattle.std.proofs.lemmas.List.{drop_at, drop-drop, take_at, take-map, length-map, nil_from_length}
-use Rattle.indicatif_text.specs.Columns.{Cell, rows_of}
+use Rattle.std.proofs.Common.{◌≡◌, ℕ, zero, suc, ◌+◌, ◌-◌, ◌<◌, ◌≤◌, ◌^◌, min, Bool, true, false, List, [], ◌∷◌, ◌++◌, length, take, map, replicate, refl, sym, ◌∙◌, ap, subst, arith, length-append, append_assoc, append-nil, chars, if◌then◌else◌}
+use Rattle.std.specs.Prelude.{IsTrue, IsFalse, IfOk, IfErr, IfSome, IsErrAnd, ◌==◌, flat_map}
+use Rattle.std.proofs.lemmas.Bool.{eq-eqb}
+use Rattle.std.proofs.lemmas.List.{take_at, take-map, length-map, nil_from_length}
+use Rattle.indicatif_text.specs.Columns.{rows_of}
 use Rattle.indicatif_term.specs.Terminal.{GREATEST}
 use Rattle.indicatif_term.specs.Shows.{looks_of}
-use Rattle.indicatif_term.specs.Lists.{Lists, all_rows, live_rows, live_height, drawn, logged, passed, live_of_frame, shown_rows, BarLines, segments_height, blanks_for, fitting, lines_of}
+use Rattle.indicatif_term.specs.Lists.{Lists, forgotten_lists, all_rows, live_rows, live_height, drawn, logged, passed, live_of_frame, shown_rows, BarLines, segments_height, blanks_for, fitting, lines_of}
 use Rattle.indicatif_term.specs.Frames.{bar_lines, all_lines, are_plain, some_wide}
 use Rattle.indicatif_term.specs.Counts.{CountsOf}
 use Rattle.indicatif_term.specs.Inside.Plans.{frame_lines, IsPlan, text_height}
@@ -15,39 +14,32 @@ use Rattle.indicatif_term.specs.Inside.Changes.{PlacedLine, placed_height, place
 use Rattle.indicatif_term.specs.Inside.Places.{IsWithin}
 use Rattle.indicatif_term.specs.declared.beside.Room.{Room}
 use Rattle.indicatif_term.specs.Standing.{placed_of, placed, texts, standing_rows, AreLines}
-use Rattle.indicatif_term.specs.Remembered.{AreRemembered, known_lines, Suits}
+use Rattle.indicatif_term.specs.Remembered.{AreRemembered, AreStanding, live_lines, Suits}
 use Rattle.indicatif_term.specs.declared.remembered.StandingLine.{StandingLine}
 use Rattle.indicatif_term.specs.declared.remembered.Remembered.{Remembered}
 use Rattle.indicatif_term.specs.declared.counts.Counts.{Counts}
 use Rattle.indicatif_term.specs.declared.layout.Plan.{Plan}
 use Rattle.indicatif_term.specs.declared.lines.Segment.{Segment}
-use Rattle.std.proofs.Common.{Result, Ok, Err}
+use Rattle.std.proofs.Common.{Result, Ok, Err, Option, Some}
+use Rattle.std.proofs.Math.Logic.{∥∥₁_map}
+use Rattle.indicatif_text.specs.declared.refusal.Refusal.TheVariants.{Memory}
 use Rattle.std.specs.Prelude.{fold}
 use Rattle.indicatif_text.specs.declared.refusal.Refusal.{Refusal}
 use Rattle.indicatif_term.specs.Calls.{TermView}
 use Rattle.indicatif_term.specs.Lists.{grouped, onto_segments}
 use Rattle.indicatif_term.specs.Frames.{is_fault}
-use Rattle.indicatif_term.specs.Engines.{Counted, failure_kind}
-use Rattle.indicatif_term.specs.Inside.Remembering.{Draws, Remembers}
+use Rattle.indicatif_term.specs.Engines.{Counted, Fits, failure_kind, lists_after}
+use Rattle.indicatif_term.specs.Inside.Remembering.{Draws, Remembers, StandAbove, IsMarked}
 use Rattle.indicatif_term.specs.declared.engine.Engine.{Engine}
 use Rattle.indicatif_term.proofs.ShownRowLemmas.{lines_rows, frame_rows, frame_lines_le, frame_chars}
 use Rattle.indicatif_term.proofs.CountLemmas.{length-live, live_of, settled-rows, passed-rows, same_blanks_log}
 use Rattle.indicatif_term.proofs.PaintingLemmas.{IsDrawable, AreDrawable}
 use Rattle.indicatif_term.proofs.EditWalkLemmas.{height-append, sitting_parts}
-use Rattle.indicatif_term.proofs.RememberedLemmas.{known_rows, lines_placed, lines_right}
+use Rattle.indicatif_term.proofs.RememberedLemmas.{rows-append, lines_height, lines_placed, nothing_shown, remembered_by}
 use Rattle.indicatif_term.proofs.TerminalStepLemmas.{rows_some}
 use Rattle.indicatif_term.proofs.SkipDrawingLemmas.{change_redraws}
 use Rattle.indicatif_term.proofs.DrawingLemmas.{Replaces, drawn_goes, drawn-sound, log_live}
 use Rattle.indicatif_term.proofs.EngineLemmas.{Redraws, frame_drawable, suits_made}
-
--- ---- lines as they are measured
-
-pub lines_height : (w : ℕ) (ls : List StandingLine) → AreLines w ls → placed_height (placed ls) ≡ length (standing_rows w ls)
-lines_height w [] all = refl
-lines_height w (l ∷ ls) all =
-    let rest : placed_height (placed ls) ≡ length (standing_rows w ls) = lines_height w ls all.1 in
-    let one : l.rows ≡ length (rows_of w (chars (string_bytes l.text))) = all.0.rows_are in
-    omega (arith, length-append (rows_of w (chars (string_bytes l.text))) (standing_rows w ls))
 
 -- ---- what is remembered of a draw
 
@@ -59,33 +51,28 @@ drawn_rows w h pass bottom frame l =
     let n = length (shown_rows w h (take pass frame)) in
     settled-rows w h (passed w n made) ∙ passed-rows w n made
 
--- the lines before the last drawing stand above the live rows
-abbrev pub StandAbove : ℕ → Remembered → Lists → Type 0
-StandAbove w r l = (front : List (List Cell)) × (front ++ standing_rows w r.kept.items ≡ l.above ++ l.kept)
-
-pub drawn_shown : (v w h pass blanks : ℕ) (bottom : Bool) (frame : List Segment) (l : Lists) (c : Counts) (plan : Plan) (r : Remembered) → v ≡ w → r.width ≡ v → CountsOf c l →
-    IsPlan w h pass (map bar_lines frame) plan → blanks ≡ blanks_for bottom c.live 0 plan.rows → texts r.lines.items ≡ replicate blanks [] ++ take plan.lines (frame_lines frame) → StandAbove v r l →
-    AreRemembered r (drawn w h bottom pass (map bar_lines frame) l)
-drawn_shown v w h pass blanks bottom frame l c plan r same_width e o q b t k =
+pub drawn_shown : (v w h pass blanks : ℕ) (bottom : Bool) (frame : List Segment) (l : Lists) (c next : Counts) (plan : Plan) (above ls : List StandingLine) (r : Remembered) → v ≡ w →
+    (0 < r.width → IsMarked v next.live r) → r.lines ≡ above ++ ls → CountsOf c l →
+    IsPlan w h pass (map bar_lines frame) plan → blanks ≡ blanks_for bottom c.live 0 plan.rows → texts ls ≡ replicate blanks [] ++ take plan.lines (frame_lines frame) → StandAbove v above l →
+    CountsOf next (drawn w h bottom pass (map bar_lines frame) l) → AreRemembered r (drawn w h bottom pass (map bar_lines frame) l)
+drawn_shown v w h pass blanks bottom frame l c next plan above ls r same_width marked whole o q b t k o' =
     let same : blanks_for bottom c.live 0 plan.rows ≡ (live_of_frame w h bottom (live_height l.live) 0 (map bar_lines frame)).blanks = rw (live_of c l o, q.rows_are) refl in
-    let rows : standing_rows w r.lines.items ≡ live_rows w (live_of_frame w h bottom (live_height l.live) 0 (map bar_lines frame)) =
+    let rows : standing_rows w ls ≡ live_rows w (live_of_frame w h bottom (live_height l.live) 0 (map bar_lines frame)) =
     ap (lines_rows w) (t ∙ ap (λ n. replicate blanks [] ++ take n (frame_lines frame)) q.lines_are) ∙ frame_rows w h frame blanks
     ∙ ap (λ n. live_rows w (record { blanks = n; segments = shown_rows w h (map bar_lines frame) })) (b ∙ same) in
-    let width : r.width ≡ w = e ∙ same_width in
-    let above : k.0 ++ standing_rows w r.kept.items ≡ l.above ++ l.kept = subst (λ n. k.0 ++ standing_rows n r.kept.items ≡ l.above ++ l.kept) same_width k.1 in
-    λ p. (
-      k.0,
-      ap (λ n. k.0 ++ standing_rows n (known_lines r)) width ∙ known_rows w r k.0 ∙ ap (λ x. x ++ standing_rows w r.lines.items) above
-          ∙ ap (λ x. (l.above ++ l.kept) ++ x) rows ∙ sym (drawn_rows w h pass bottom (map bar_lines frame) l)
-          ∙ ap (λ n. all_rows n (drawn w h bottom pass (map bar_lines frame) l)) (sym width),
-    )
+    let up : k.0 ++ standing_rows w above ≡ l.above ++ l.kept = subst (λ n. k.0 ++ standing_rows n above ≡ l.above ++ l.kept) same_width k.1 in
+    remembered_by w next.live r (drawn w h bottom pass (map bar_lines frame) l) k.0 (subst (λ n. 0 < r.width → IsMarked n next.live r) same_width marked)
+    (ap (λ xs. k.0 ++ standing_rows w xs) whole ∙ ap (λ x. k.0 ++ x) (rows-append w above ls) ∙ sym (append_assoc k.0 (standing_rows w above) (standing_rows w ls))
+    ∙ ap (λ x. x ++ standing_rows w ls) up ∙ ap (λ x. (l.above ++ l.kept) ++ x) rows ∙ sym (drawn_rows w h pass bottom (map bar_lines frame) l))
+    (live_of next (drawn w h bottom pass (map bar_lines frame) l) o')
 
-pub drawn_suits : (v w h pass blanks : ℕ) (bottom : Bool) (frame : List Segment) (l : Lists) (c next : Counts) (plan : Plan) (r : Remembered) → v ≡ w → r.width ≡ v → CountsOf c l →
-    IsPlan w h pass (map bar_lines frame) plan → blanks ≡ blanks_for bottom c.live 0 plan.rows → texts r.lines.items ≡ replicate blanks [] ++ take plan.lines (frame_lines frame) →
-    StandAbove v r l → CountsOf next (drawn w h bottom pass (map bar_lines frame) l) → Suits next false r (drawn w h bottom pass (map bar_lines frame) l)
-drawn_suits v w h pass blanks bottom frame l c next plan r same_width e o q b t k o' =
+pub drawn_suits : (v w h pass blanks : ℕ) (bottom : Bool) (frame : List Segment) (l : Lists) (c next : Counts) (plan : Plan) (above ls : List StandingLine) (r : Remembered) → v ≡ w →
+    (0 < r.width → IsMarked v next.live r) → r.lines ≡ above ++ ls → CountsOf c l →
+    IsPlan w h pass (map bar_lines frame) plan → blanks ≡ blanks_for bottom c.live 0 plan.rows → texts ls ≡ replicate blanks [] ++ take plan.lines (frame_lines frame) →
+    StandAbove v above l → CountsOf next (drawn w h bottom pass (map bar_lines frame) l) → Suits next false r (drawn w h bottom pass (map bar_lines frame) l)
+drawn_suits v w h pass blanks bottom frame l c next plan above ls r same_width marked whole o q b t k o' =
     suits_made next r (drawn w h bottom pass (map bar_lines frame) l) o' (drawn-sound w h bottom pass (map bar_lines frame) l)
-    (drawn_shown v w h pass blanks bottom frame l c plan r same_width e o q b t k)
+    (drawn_shown v w h pass blanks bottom frame l c next plan above ls r same_width marked whole o q b t k o')
 
 -- ---- what is remembered of a log
 
@@ -95,46 +82,19 @@ unfolding logged
 logged_rows w h bottom text frame l = settled-rows w h (record l { above = l.above ++ flat_map (rows_of w) text; kept = []; live = log_live w h bottom text frame l })
     ∙ ap (λ x. x ++ live_rows w (log_live w h bottom text frame l)) (append-nil (l.above ++ flat_map (rows_of w) text))
 
-pub logged_shown : (v w h height blanks : ℕ) (bottom : Bool) (text : List (List ℕ)) (frame : List Segment) (l : Lists) (c : Counts) (plan : Plan) (r : Remembered) → v ≡ w → r.width ≡ v →
-    CountsOf c l →
+pub logged_shown : (v w h height blanks : ℕ) (bottom : Bool) (text : List (List ℕ)) (frame : List Segment) (l : Lists) (c next : Counts) (plan : Plan) (r : Remembered) → v ≡ w →
+    (0 < r.width → IsMarked v next.live r) → CountsOf c l →
     IsPlan w h 0 (map bar_lines frame) plan → height ≡ min (text_height w text) (2 ^ 64 - 1) → blanks ≡ blanks_for bottom (c.kept + c.live) height plan.rows →
-    texts r.lines.items ≡ replicate blanks [] ++ take plan.lines (frame_lines frame) → r.kept.items ≡ [] → AreRemembered r (logged w h bottom text (map bar_lines frame) l)
-logged_shown v w h height blanks bottom text frame l c plan r same_width e o q m b t none =
+    texts r.lines ≡ replicate blanks [] ++ take plan.lines (frame_lines frame) → CountsOf next (logged w h bottom text (map bar_lines frame) l) →
+    AreRemembered r (logged w h bottom text (map bar_lines frame) l)
+logged_shown v w h height blanks bottom text frame l c next plan r same_width marked o q m b t o' =
     let same : blanks ≡ (log_live w h bottom text (map bar_lines frame) l).blanks = b ∙ same_blanks_log w h height bottom text (map bar_lines frame) l c plan o q m in
-    let rows : standing_rows w r.lines.items ≡ live_rows w (log_live w h bottom text (map bar_lines frame) l) =
+    let rows : standing_rows w r.lines ≡ live_rows w (log_live w h bottom text (map bar_lines frame) l) =
     ap (lines_rows w) (t ∙ ap (λ n. replicate blanks [] ++ take n (frame_lines frame)) q.lines_are) ∙ frame_rows w h frame blanks
     ∙ ap (λ n. live_rows w (record { blanks = n; segments = shown_rows w h (map bar_lines frame) })) same in
-    let width : r.width ≡ w = e ∙ same_width in
     let before = l.above ++ flat_map (rows_of w) text in
-    λ p. (
-      before,
-      ap (λ n. before ++ standing_rows n (known_lines r)) width ∙ ap (λ ls. before ++ standing_rows w (ls ++ r.lines.items)) none ∙ ap (λ x. before ++ x) rows
-          ∙ sym (logged_rows w h bottom text (map bar_lines frame) l)
-          ∙ ap (λ n. all_rows n (logged w h bottom text (map bar_lines frame) l)) (sym width),
-    )
-
--- ---- which rows are those of the lines that are remembered
-
-last_rows : (front back a b : List (List Cell)) (n : ℕ) → front ++ back ≡ a ++ b → length b ≡ n → n ≤ length back → drop (length back - n) back ≡ b
-last_rows front back a b n e k m =
-    let size : length front + length back ≡ length a + length b = sym (length-append front back) ∙ ap length e ∙ length-append a b in
-    let inner : length a ≡ length front + (length back - n) = omega arith in
-    ap (drop (length back - n)) (sym (drop_at front back (length front) refl)) ∙ drop-drop (length back - n) (length front) (front ++ back) ∙ ap (λ k. drop k (front ++ back)) (sym inner)
-    ∙ ap (drop (length a)) e ∙ drop_at a b (length a) refl
-
-pub standing_live : (w taken : ℕ) (r : Remembered) (l : Lists) → 0 < w → r.width ≡ w → AreRemembered r l → length (live_rows w l.live) ≡ taken →
-    taken ≤ min (placed_height (placed r.lines.items)) (2 ^ 64 - 1) → min (placed_height (placed r.lines.items)) (2 ^ 64 - 1) ≤ 65535 →
-    drop (min (placed_height (placed r.lines.items)) (2 ^ 64 - 1) - taken) (standing_rows w r.lines.items) ≡ live_rows w l.live
-standing_live w taken r l p e a k m low =
-    let some : 0 < r.width = omega arith in
-    let height : placed_height (placed r.lines.items) ≡ length (standing_rows w r.lines.items) =
-    subst (λ n. placed_height (placed r.lines.items) ≡ length (standing_rows n r.lines.items)) e (lines_height r.width r.lines.items (lines_right r some)) in
-    let x = a some in
-    let before = x.0 ++ standing_rows w r.kept.items in
-    let whole : before ++ standing_rows w r.lines.items ≡ (l.above ++ l.kept) ++ live_rows w l.live =
-    sym (known_rows w r x.0) ∙ subst (λ n. x.0 ++ standing_rows n (known_lines r) ≡ all_rows n l) e x.1 in
-    ap (λ n. drop n (standing_rows w r.lines.items)) (omega (arith, height))
-    ∙ last_rows before (standing_rows w r.lines.items) (l.above ++ l.kept) (live_rows w l.live) taken whole k (omega (arith, height))
+    remembered_by w next.live r (logged w h bottom text (map bar_lines frame) l) before (subst (λ n. 0 < r.width → IsMarked n next.live r) same_width marked)
+    (ap (λ x. before ++ x) rows ∙ sym (logged_rows w h bottom text (map bar_lines frame) l)) (live_of next (logged w h bottom text (map bar_lines frame) l) o')
 
 -- ---- the draw
 
@@ -194,26 +154,16 @@ draw_changes w h l c next pass blanks bottom frame plan ls room front last more 
     ap (λ xs. length (lines_rows w xs)) (split' ∙ sym (t ∙ ap (λ n. replicate blanks [] ++ take n (frame_lines frame)) q.lines_are)) ∙ sym (lines_height w ls all) in omega (arith, m, n, count))
     (λ a b. subst (Replaces w h l l' l.kept gone) (sym split') (drawn_goes w h pass bottom (map bar_lines frame) l lines a b rows))
 
-on_same : (r : Remembered) (v : ℕ) → r.width ≡ v → (if r.width == v then r.lines.items else []) ≡ r.lines.items
-on_same r v e = elim (cases_Bool (r.width == v)) [
-  | inl is ↦ rw is refl
-  | inr differs ↦ absurd (differ r.width v differs e)
-] where
-  differ : (a b : ℕ) → (a == b) ≡ false → a ≡ b → ⊥
-  differ a b f e = grind (arith, nat_tests)
+on_same : (r : Remembered) (v : ℕ) → r.width ≡ v → (if r.width == v then live_lines r else []) ≡ live_lines r
+on_same r v e = rw (eq-eqb r.width v e) refl
 
--- lines that sit on the last rows that are remembered sit on the live ones
-pub sits_live : (v w : ℕ) (r : Remembered) (on : List StandingLine) (l : Lists) (c : Counts) (ps : List PlacedLine) → v ≡ w → 0 < v → r.width ≡ v →
-    on ≡ (if r.width == v then r.lines.items else []) → AreRemembered r l →
-    CountsOf c l → c.live ≤ min (placed_height (placed r.lines.items)) (2 ^ 64 - 1) → min (placed_height (placed r.lines.items)) (2 ^ 64 - 1) ≤ 65535 →
-    AreSitting v (looks_of (drop (min (placed_height (placed on)) (2 ^ 64 - 1) - c.live) (standing_rows v on))) ps → AreSitting w (looks_of (live_rows w l.live)) ps
-sits_live v w r on l c ps same p e f a o m low s =
-    let all : on ≡ r.lines.items = f ∙ on_same r v e in
-    let moved : AreSitting v (looks_of (drop (min (placed_height (placed r.lines.items)) (2 ^ 64 - 1) - c.live) (standing_rows v r.lines.items))) ps =
-    subst (λ xs. AreSitting v (looks_of (drop (min (placed_height (placed xs)) (2 ^ 64 - 1) - c.live) (standing_rows v xs))) ps) all s in
-    let count : length (live_rows v l.live) ≡ c.live = length-live v l.live ∙ sym (live_of c l o) in
-    subst (λ n. AreSitting n (looks_of (live_rows n l.live)) ps) same
-    (subst (λ x. AreSitting v (looks_of x) ps) (standing_live v c.live r l p e a count m low) moved)
+-- lines that sit on the live rows that are remembered sit on the live ones
+pub sits_live : (v w : ℕ) (r : Remembered) (on : List StandingLine) (l : Lists) (ps : List PlacedLine) → v ≡ w → 0 < v → r.width ≡ v →
+    on ≡ (if r.width == v then live_lines r else []) → AreRemembered r l → AreSitting v (looks_of (standing_rows v on)) ps → AreSitting w (looks_of (live_rows w l.live)) ps
+sits_live v w r on l ps same p e f a s =
+    let x = subst (λ n. AreStanding n r l) e (a (omega (arith, e))) in
+    let moved : AreSitting v (looks_of (standing_rows v (live_lines r))) ps = subst (λ xs. AreSitting v (looks_of (standing_rows v xs)) ps) (f ∙ on_same r v e) s in
+    subst (λ n. AreSitting n (looks_of (live_rows n l.live)) ps) same (subst (λ y. AreSitting v (looks_of y) ps) x.live_is moved)
 
 -- ---- what is written, counted
 
@@ -225,6 +175,30 @@ counted_by bytes v v' next shown (Err x) new g q =
     let b = q.2 in
     let kind : q.0 ≡ failure_kind {A = Unit} (Err x) = sym (ap (λ e. failure_kind {A = Unit} (Err e)) q.1) in
     record { columns_stay = b.columns_are; rows_stay = b.rows_are; faults_are = rw broke b.faults_are; kind_is = rw broke (b.kind_is ∙ kind) }
+
+-- ---- a drawing that was refused, so that the engine is as it was
+
+pub counted_refused : (v v' : TermView) (result : Result Unit Refusal) (e : Refusal) → v' ≡ v → IsErrAnd result (λ x. x ≡ e) → is_fault e ≡ false → Counted v v' result
+counted_refused v v' (Ok u) e same q f = absurd q
+counted_refused v v' (Err x) e same q f =
+    let b : is_fault x ≡ false = ap is_fault q ∙ f in
+    subst (λ y. Counted {A = Unit} v y (Err x)) (sym same) (record { columns_stay = refl; rows_stay = refl; faults_are = rw b refl; kind_is = rw b refl })
+
+pub fits_refused : {T : Type 0} (new old : Engine T) (result : Result Unit Refusal) (e : Refusal) (l l' : Lists) → new ≡ old → IsErrAnd result (λ x. x ≡ e) → is_fault e ≡ false → Fits old l →
+    Fits new (lists_after result l l')
+fits_refused new old (Ok u) e l l' same q f fits = absurd q
+fits_refused new old (Err x) e l l' same q f fits =
+    subst (λ b. Fits new (if b then forgotten_lists else l)) (sym (ap is_fault q ∙ f)) (subst (λ y. Fits y l) (sym same) fits)
+
+pub some_is : {A : Type 0} (o : Option A) (x : A) (P : A → Type 0) → o ≡ Some x → IfSome o P → P x
+some_is o x P e p = subst (λ q. IfSome q P) e p
+
+-- where its lines were taken away, or memory for more was refused
+pub still_suits : {A : Type 0} (counts : Counts) (failed : Bool) (old new : Remembered) (n : ℕ) (result : Result A Refusal) → IfErr result (λ e. (e ≡ Memory) × (0 < n) × (new ≡ old)) →
+    IfOk result (λ _. new.width ≡ 0) → ∥ ((l : Lists) × Suits counts failed old l) ∥₁ → ∥ ((l : Lists) × Suits counts failed new l) ∥₁
+still_suits counts failed old new n (Ok a) e o s =
+    ∥∥₁_map s (λ x. (x.0, record { counted = x.1.counted; failed_is = x.1.failed_is; forgets = x.1.forgets; remembered = nothing_shown new x.0 o }))
+still_suits counts failed old new n (Err x) e o s = subst (λ r. ∥ ((l : Lists) × Suits counts failed r l) ∥₁) (sym e.2) s
 
 -- ---- lines of which there are some
 

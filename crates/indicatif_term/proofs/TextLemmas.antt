@@ -1,13 +1,14 @@
 -- The characters of a text ask for the visible ones to be put, one after another.
 use Rattle.std.proofs.Common.{◌≡◌, ℕ, suc, ◌+◌, ◌-◌, true, false, List, [], ◌∷◌, refl, sym, ◌∙◌, ap, subst, arith, map, eqb, Some, None, Option, inl, inr}
-use Rattle.std.specs.Prelude.{if◌then◌else◌, ◌&&◌, is_some, unwrap_or, option_map}
+use Rattle.std.specs.Prelude.{if◌then◌else◌, ◌&&◌, is_some, unwrap_or, option_map, option_to_list}
 use Rattle.std.specs.List.{AllByRecursion}
 use Rattle.std.proofs.lemmas.Bool.{cases_Bool, eqb-true, and_parts, false≢true, false_from_ne_true}
 use Rattle.unicode_width.specs.Width.{char_width}
 use Rattle.indicatif_text.specs.Columns.{is_parameter, parameters_length, colour_length, visible_from}
-use Rattle.indicatif_term.specs.Screen.{Put}
-use Rattle.indicatif_term.specs.Terminal.{SequencePlace, OutsideSequence, Sequence, plain_ops, plain_place, sequence_ops, number_with}
-use Rattle.indicatif_term.proofs.ReaderLemmas.{char_list_ops, place_after}
+use Rattle.indicatif_term.specs.Screen.{Op, Put}
+use Rattle.indicatif_term.specs.Terminal.{SequencePlace, OutsideSequence, Sequence, plain_step, sequence_op, number_with}
+use Rattle.indicatif_term.specs.Inside.Reading.{char_ops, char_place}
+use Rattle.indicatif_term.proofs.ReaderLemmas.{char_list_ops, place_after, first_ops, first_place, parameter_step}
 
 -- a character that a terminal shows
 abbrev pub IsShown : ℕ → Type 0
@@ -18,15 +19,14 @@ not_control c d shown_rows hidden =
     false_from_ne_true (eqb c d) (λ e. false≢true (sym hidden ∙ ap (λ x. is_some (char_width false x)) (sym (eqb-true c d e)) ∙ shown_rows))
 
 pub record IsPut (c : ℕ) : Type 0 where
-  pub ops : plain_ops c ≡ Put c ∷ []
-  pub place : plain_place c ≡ OutsideSequence
+  pub ops : char_ops OutsideSequence c ≡ Put c ∷ []
+  pub place : char_place OutsideSequence c ≡ OutsideSequence
 
 pub is_put : (c : ℕ) → IsShown c → IsPut c
 unfolding char_width
-is_put c shown_rows = record {
-  ops = rw (not_control c 0x1B shown_rows refl, not_control c 0x0D shown_rows refl, not_control c 0x0A shown_rows refl) refl;
-  place = rw (not_control c 0x1B shown_rows refl) refl;
-}
+is_put c shown_rows =
+    let step : plain_step c ≡ (Some (Put c), OutsideSequence) = rw (not_control c 0x1B shown_rows refl, not_control c 0x0D shown_rows refl, not_control c 0x0A shown_rows refl) refl in
+    record { ops = ap (λ (x : Option Op × SequencePlace). option_to_list x.0) step; place = ap (λ (x : Option Op × SequencePlace). x.1) step }
 
 -- what characters ask for, if they end outside a sequence: these are put
 pub record AsksToPut (place : SequencePlace) (text shown_rows : List ℕ) : Type 0 where
@@ -34,7 +34,7 @@ pub record AsksToPut (place : SequencePlace) (text shown_rows : List ℕ) : Type
   pub after : place_after place text ≡ OutsideSequence
 
 -- the last character of a colour sequence asks for nothing
-colour_end : (n : Option ℕ) → sequence_ops n 0x6D ≡ []
+colour_end : (n : Option ℕ) → sequence_op n 0x6D ≡ None
 colour_end None = refl
 colour_end (Some n) = refl
 
@@ -59,7 +59,12 @@ mapped k (Some m) n e = (m, refl, cc)
 
 parameter_more : (number : Option ℕ) (c : ℕ) (cs shown_rows : List ℕ) → is_parameter c ≡ true → AsksToPut (Sequence (number_with number c)) cs shown_rows →
     AsksToPut (Sequence number) (c ∷ cs) shown_rows
-parameter_more number c cs shown_rows holds rest = record { ops = rw holds rest.ops; after = rw holds rest.after }
+parameter_more number c cs shown_rows holds rest =
+    let step = parameter_step number c holds in
+    record {
+      ops = first_ops (Sequence number) c cs None (Sequence (number_with number c)) step ∙ rest.ops;
+      after = first_place (Sequence number) c cs None (Sequence (number_with number c)) step ∙ rest.after;
+    }
 
 inside_more : (c : ℕ) (cs : List ℕ) → Reads cs → (number : Option ℕ) (n : ℕ) → parameters_length (c ∷ cs) ≡ Some n → AllByRecursion IsShown (visible_from n (c ∷ cs)) →
     AsksToPut (Sequence number) (c ∷ cs) (visible_from n (c ∷ cs))

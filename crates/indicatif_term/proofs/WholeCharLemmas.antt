@@ -1,15 +1,18 @@
 -- A whole character at the front of bytes does the same as its bytes one after another.
-use Rattle.std.proofs.Common.{◌≡◌, ℕ, ◌+◌, ◌-◌, ◌*◌, ◌/◌, ◌≤◌, true, false, List, [], ◌∷◌, length, take, drop, refl, sym, ◌∙◌, ap, arith, eqb, ltb, length-drop}
+use Rattle.std.proofs.Common.{◌≡◌, ℕ, ◌+◌, ◌-◌, ◌*◌, ◌/◌, ◌≤◌, true, false, List, [], ◌∷◌, length, take, drop, refl, sym, ◌∙◌, ap, arith, eqb, ltb, length-drop, Option, Some}
+use Rattle.std.specs.Prelude.{option_to_list}
 use Rattle.std.specs.List.{AllByRecursion}
 use Rattle.std.proofs.Math.Utf8.{scalar, scalars, encode, encodes, next}
 use Rattle.std.proofs.Math.Seq.{take-add}
 use Rattle.std.proofs.lemmas.List.{take_all}
 use Rattle.std.proofs.lemmas.Bool.{and_parts, ne_eqb, le-ltb, lt-ltb}
-use Rattle.indicatif_term.specs.Screen.{Screen, Put, performed, performed_all}
-use Rattle.indicatif_term.specs.Terminal.{OutsideSequence, Reader, Terminal, idle, plain_ops, plain_place, ops_of, reader_after, after}
+use Rattle.indicatif_term.specs.Screen.{Screen, Op, Put, performed}
+use Rattle.indicatif_term.specs.Terminal.{SequencePlace, OutsideSequence, Reader, Terminal, idle, plain_step, after}
+use Rattle.indicatif_term.specs.Inside.Reading.{char_ops, char_place, performed_all, reader_after}
+use Rattle.indicatif_term.specs.Feeding.{ops_of}
 use Rattle.indicatif_term.specs.Inside.Scanners.{IsWholeChar}
 use Rattle.indicatif_term.specs.Inside.Runs.{puts}
-use Rattle.indicatif_term.proofs.FeedLemmas.{after-append, same_terminal}
+use Rattle.indicatif_term.proofs.FeedLemmas.{fed, after-append, same_terminal}
 use Rattle.indicatif_term.proofs.ReaderLemmas.{Spells, char_read, char_list_ops, place_after, chars_read}
 
 -- three bytes
@@ -36,20 +39,20 @@ whole_of_three c f s t is e f₁ f₂ s₁ s₂ t₁ t₂ = record {
 }
 
 -- what a character asks for that is no control character of ASCII
-pub asked : (c : ℕ) → 0x20 ≤ c → (plain_ops c ≡ Put c ∷ []) × (plain_place c ≡ OutsideSequence)
+pub asked : (c : ℕ) → 0x20 ≤ c → (char_ops OutsideSequence c ≡ Put c ∷ []) × (char_place OutsideSequence c ≡ OutsideSequence)
 asked c h =
     let escape : eqb c 0x1B ≡ false = ne_eqb c 0x1B (λ e. omega arith) in
     let return : eqb c 0x0D ≡ false = ne_eqb c 0x0D (λ e. omega arith) in
     let feed : eqb c 0x0A ≡ false = ne_eqb c 0x0A (λ e. omega arith) in
-    (rw (escape, return, feed) refl, rw escape refl)
+    let step : plain_step c ≡ (Some (Put c), OutsideSequence) = rw (escape, return, feed) refl in
+    (ap (λ (x : Option Op × SequencePlace). option_to_list x.0) step, ap (λ (x : Option Op × SequencePlace). x.1) step)
 
 fed_character : (s new : Screen) (c : ℕ) → scalar c ≡ true → 0x20 ≤ c → new ≡ performed (Put c) s →
     ◌≡◌ {A = Terminal} (record { screen = new; reader = idle }) (after (record { screen = s; reader = idle }) (encode c))
-unfolding after
 fed_character s new c is printable e =
     let spells : Spells idle (encode c) c = char_read idle c is in
     let a = asked c printable in
-    same_terminal _ _ _ _ (e ∙ sym (ap (λ ops. performed_all ops s) (spells.ops ∙ a.0)))
+    fed (record { screen = s; reader = idle }) (encode c) new idle (e ∙ sym (ap (λ ops. performed_all ops s) (spells.ops ∙ a.0)))
     (sym (spells.reader ∙ ap (λ p. let r : Reader = record { place = p; spelling = [] } in r) a.1))
 
 pub fed_whole : (t : Terminal) (new : Screen) (bytes : List ℕ) (c n : ℕ) → IsWholeChar bytes c n → t.reader ≡ idle → new ≡ performed (Put c) t.screen →
@@ -79,9 +82,8 @@ all_asked (c ∷ cs) all =
 
 pub fed_characters : (t : Terminal) (new : Screen) (bytes cs : List ℕ) → t.reader ≡ idle → bytes ≡ encodes cs → scalars cs ≡ true → AllByRecursion (λ c. 0x20 ≤ c) cs →
     new ≡ performed_all (puts cs) t.screen → ◌≡◌ {A = Terminal} (record { screen = new; reader = t.reader }) (after t bytes)
-unfolding after
 fed_characters t new bytes cs rests spelled are printable e =
     let read = chars_read OutsideSequence cs are in
     let ask = all_asked cs printable in
-    same_terminal _ _ _ _ (e ∙ ap (λ ops. performed_all ops t.screen) (sym (ap (λ r. ops_of r bytes) rests ∙ ap (ops_of idle) spelled ∙ read.0 ∙ ask.0)))
+    fed t bytes new t.reader (e ∙ ap (λ ops. performed_all ops t.screen) (sym (ap (λ r. ops_of r bytes) rests ∙ ap (ops_of idle) spelled ∙ read.0 ∙ ask.0)))
     (rests ∙ sym (ap (λ r. reader_after r bytes) rests ∙ ap (reader_after idle) spelled ∙ read.1 ∙ ap (λ p. let r : Reader = record { place = p; spelling = [] } in r) ask.1))

@@ -1,13 +1,16 @@
 -- A whole escape sequence at the front of bytes does the same as its bytes one after another.
 use Rattle.std.proofs.Common.{◌≡◌, ℕ, ◌+◌, ◌<◌, ◌≤◌, true, false, List, [], ◌∷◌, ◌++◌, length, get_or, take, Option, Some, refl, sym, ◌∙◌, ap, subst, arith}
+use Rattle.std.specs.Prelude.{option_to_list}
 use Rattle.std.proofs.Math.Utf8.{low_scalar}
 use Rattle.std.proofs.lemmas.Str.{encode_ascii}
 use Rattle.std.proofs.lemmas.List.{take_more}
 use Rattle.indicatif_text.specs.Columns.{is_parameter}
-use Rattle.indicatif_term.specs.Screen.{Screen, performed_all}
-use Rattle.indicatif_term.specs.Terminal.{OutsideSequence, Sequence, Reader, Terminal, idle, number_with, sequence_ops, char_ops, char_place, ops_of, reader_after, after}
+use Rattle.indicatif_term.specs.Screen.{Screen}
+use Rattle.indicatif_term.specs.Terminal.{OutsideSequence, Sequence, Reader, Terminal, idle, number_with, sequence_op, after}
+use Rattle.indicatif_term.specs.Inside.Reading.{performed_all, char_ops, char_place, reader_after}
+use Rattle.indicatif_term.specs.Feeding.{ops_of}
 use Rattle.indicatif_term.specs.Inside.Scanners.{IsWholeSequence, IsSequenceFront}
-use Rattle.indicatif_term.proofs.FeedLemmas.{ops_of-append, reader_after-append, same_terminal}
+use Rattle.indicatif_term.proofs.FeedLemmas.{ops_of-append, reader_after-append, fed}
 use Rattle.indicatif_term.proofs.ReaderLemmas.{Spells, char_read}
 
 pub ascii_read : (r : Reader) (b : ℕ) → b < 128 → Spells r (b ∷ []) b
@@ -54,21 +57,20 @@ module _ (bytes : List ℕ) (number : Option ℕ) (len b : ℕ) (front : IsSeque
   pub sequence_goes_on : is_parameter b ≡ true → IsSequenceFront bytes (number_with number b) (len + 1)
   sequence_goes_on is = record {
     within = omega arith;
-    asks = asked ∙ rw is refl;
-    goes_on = goes ∙ rw is refl;
+    asks = asked ∙ rw (is, char_ops) refl;
+    goes_on = goes ∙ rw (is, char_place) refl;
   }
 
   pub sequence_ends : is_parameter b ≡ false → IsWholeSequence bytes number b (len + 1)
   sequence_ends not = record {
     some = omega arith;
     within = omega arith;
-    asks = asked ∙ rw not refl;
-    ends = goes ∙ rw not refl;
+    asks = asked ∙ rw (not, char_ops) refl;
+    ends = goes ∙ rw (not, char_place) refl;
   }
 
 pub fed_sequence : (t : Terminal) (new : Screen) (bytes : List ℕ) (number : Option ℕ) (last len : ℕ) → IsWholeSequence bytes number last len → t.reader ≡ idle →
-    new ≡ performed_all (sequence_ops number last) t.screen → ◌≡◌ {A = Terminal} (record { screen = new; reader = t.reader }) (after t (take len bytes))
-unfolding after
+    new ≡ performed_all (option_to_list (sequence_op number last)) t.screen → ◌≡◌ {A = Terminal} (record { screen = new; reader = t.reader }) (after t (take len bytes))
 fed_sequence t new bytes number last len is rests e =
-    same_terminal _ _ _ _ (e ∙ ap (λ ops. performed_all ops t.screen) (sym is.asks ∙ ap (λ r. ops_of r (take len bytes)) (sym rests)))
+    fed t (take len bytes) new t.reader (e ∙ ap (λ ops. performed_all ops t.screen) (sym is.asks ∙ ap (λ r. ops_of r (take len bytes)) (sym rests)))
     (rests ∙ sym is.ends ∙ ap (λ r. reader_after r (take len bytes)) (sym rests))

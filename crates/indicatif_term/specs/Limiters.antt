@@ -21,9 +21,17 @@ used l elapsed now = record l { capacity = min l.most (l.capacity + elapsed / l.
 abbrev pub allow : Limiter → ℕ → Bool × Limiter
 allow l now = if nat_le l.prev now && has_leave l (now - l.prev) then (true, used l (now - l.prev) now) else (false, l)
 
--- the limiter of a rate a second, as made: 20 draws are in hand, and the interval is a whole number of milliseconds
+-- how many draws may come at once
+abbrev pub burst : ℕ
+burst = 20
+
+-- how often in a second a target on standard output or standard error may be drawn where no rate is named
+abbrev pub default_rate : ℕ
+default_rate = 20
+
+-- the limiter of a rate a second, as made: a burst is in hand, and the interval is a whole number of milliseconds
 abbrev pub draw_limiter : ℕ → ℕ → Limiter
-draw_limiter rate making = record { interval = 1000 / rate * 1000000; most = 20; capacity = 20; prev = making }
+draw_limiter rate making = record { interval = 1000 / rate * 1000000; most = burst; capacity = burst; prev = making }
 
 -- the answers at moments, one after another
 abbrev pub answers : Limiter → List ℕ → List Bool
@@ -35,7 +43,7 @@ abbrev pub allowed_moments : Limiter → List ℕ → List ℕ
 allowed_moments l [] = []
 allowed_moments l (now ∷ moments) = if (allow l now).0 then now ∷ allowed_moments (allow l now).1 moments else allowed_moments (allow l now).1 moments
 
--- a rate's limiter allows at most 20 moments, and one more for each interval from the making to the last moment that was allowed
+-- a rate's limiter allows at most a burst of moments, and one more for each interval from the making to the last moment that was allowed
 abbrev pub DrawsAreBounded : Type 0
 DrawsAreBounded = (rate making last : ℕ) (moments : List ℕ) → 0 < rate → rate < 256 → last_or None (allowed_moments (draw_limiter rate making) moments) ≡ Some last
-    → length (allowed_moments (draw_limiter rate making) moments) ≤ 20 + (last - making) / (draw_limiter rate making).interval
+    → length (allowed_moments (draw_limiter rate making) moments) ≤ burst + (last - making) / (draw_limiter rate making).interval

@@ -1,9 +1,10 @@
 -- A terminal of cells whose wrap can be turned off: DEC's private mode 7, off by ESC [ ? 7 l and on by ESC [ ? 7 h. ESC [ K empties a row's end.
 use Rattle.std.specs.Prelude.{◌≡◌, ℕ, ◌-◌, min, Bool, true, false, IsFalse, ◌&&◌, ◌||◌, ◌==◌, nat_lt, List, [], ◌∷◌, ◌++◌, take, Option, Some, None, if◌then◌else◌}
+use Rattle.std.specs.Option.{option_map_or}
 use Rattle.unicode_width.specs.Width.{char_width}
 use Rattle.indicatif_text.specs.Columns.{is_parameter, blank_row}
 use Rattle.indicatif_term.specs.Screen.{Screen, Op, Put, performed, put_here, put_mark, with_row, cursor_row, cut_before}
-use Rattle.indicatif_term.specs.Terminal.{Terminal, Reader, SequencePlace, Sequence, idle, number_with, byte_ops, byte_reader}
+use Rattle.indicatif_term.specs.Terminal.{Terminal, Reader, SequencePlace, Sequence, idle, number_with, byte_step}
 
 -- ---- what it does while the wrap is off
 
@@ -31,11 +32,6 @@ unwrapped op s = performed op s
 abbrev pub performed_with : Bool → Op → Screen → Screen
 performed_with true op s = performed op s
 performed_with false op s = unwrapped op s
-
--- the screen after all that was asked
-abbrev pub all_with : Bool → List Op → Screen → Screen
-all_with wraps [] s = s
-all_with wraps (op ∷ ops) s = all_with wraps ops (performed_with wraps op s)
 
 -- ---- the terminal
 
@@ -74,12 +70,11 @@ private_step number m b =
 
 -- a byte that is read as any terminal reads it
 abbrev pub read_step : ModeTerminal → ℕ → ModeTerminal
-read_step m b = record m {
-  terminal = record {
-    screen = all_with m.wraps (byte_ops m.terminal.reader b) m.terminal.screen;
-    reader = byte_reader m.terminal.reader b;
-  };
-}
+read_step m b =
+    let step = byte_step m.terminal.reader b in
+    record m {
+      terminal = record { screen = option_map_or (λ op. performed_with m.wraps op m.terminal.screen) step.0 m.terminal.screen; reader = step.1 };
+    }
 
 -- the cursor's row with blanks from the cursor on
 abbrev pub end_emptied : Screen → Screen
@@ -114,4 +109,4 @@ ModeRowsStay n m bytes = (k : ℕ) → take n (mode_after m (take k bytes)).term
 -- a terminal without modes knows each of these bytes: none makes a sequence a private one, or empties the end of a row
 abbrev pub HasNoOwn : Reader → List ℕ → Type 0
 HasNoOwn r [] = Unit {0}
-HasNoOwn r (b ∷ bytes) = IsFalse (is_own r.place b) × HasNoOwn (byte_reader r b) bytes
+HasNoOwn r (b ∷ bytes) = IsFalse (is_own r.place b) × HasNoOwn (byte_step r b).1 bytes

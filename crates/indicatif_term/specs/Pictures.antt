@@ -15,7 +15,7 @@ abbrev pub is_empty : List ℕ → Bool
 is_empty [] = true
 is_empty (c ∷ cs) = false
 
--- an empty cell, or a space without a mark
+-- an empty cell, or a space that nothing joined
 abbrev pub is_blank : Cell → Bool
 is_blank Blank = true
 is_blank (Written g) = (g.base == 0x20) && is_empty g.marks

@@ -1,20 +1,29 @@
 -- The lines that an engine remembers.
-use Rattle.std.specs.Prelude.{◌≡◌, ◌<◌, Bool, IsTrue, List, ◌++◌}
+use Rattle.std.specs.Prelude.{◌≡◌, ℕ, ◌<◌, Bool, IsTrue, List, ◌++◌, take, drop}
 use Rattle.indicatif_text.specs.Columns.{Cell}
-use Rattle.indicatif_term.specs.Lists.{Lists, all_rows, forgotten_lists}
+use Rattle.indicatif_term.specs.Lists.{Lists, live_rows, forgotten_lists}
 use Rattle.indicatif_term.specs.Counts.{CountsOf}
 use Rattle.indicatif_term.specs.Standing.{standing_rows}
 use Rattle.indicatif_term.specs.declared.counts.Counts.{Counts}
 use Rattle.indicatif_term.specs.declared.remembered.Remembered.{Remembered}
 use Rattle.indicatif_term.specs.declared.remembered.StandingLine.{StandingLine}
 
--- all lines that are remembered: those of rows kept before the last drawing, and its own
-abbrev pub known_lines : Remembered → List StandingLine
-known_lines r = r.kept.items ++ r.lines.items
+-- the lines that are remembered of kept rows, and those of the live ones
+abbrev pub kept_lines : Remembered → List StandingLine
+kept_lines r = take r.kept r.lines
 
--- where lines are remembered, their rows are the last ones of these lists: kept ones and live ones may be among them
+abbrev pub live_lines : Remembered → List StandingLine
+live_lines r = drop r.kept r.lines
+
+-- the rows of these lines are the last ones above the live rows, and the live ones
+pub record AreStanding (w : ℕ) (r : Remembered) (l : Lists) : Type 0 where
+  pub front : List (List Cell)
+  pub above_is : front ++ standing_rows w (kept_lines r) ≡ l.above ++ l.kept
+  pub live_is : standing_rows w (live_lines r) ≡ live_rows w l.live
+
+-- where lines are remembered, they stand
 abbrev pub AreRemembered : Remembered → Lists → Type 0
-AreRemembered r l = 0 < r.width → (front : List (List Cell)) × (front ++ standing_rows r.width (known_lines r) ≡ all_rows r.width l)
+AreRemembered r l = 0 < r.width → AreStanding r.width r l
 
 -- rows are as many, of the same bars, as those of the lists; after a failure of the terminal there are none; and the lines that are
 -- remembered are those of their last rows

@@ -63,19 +63,19 @@ cut_before n row =
 abbrev pub written_at : ℕ → List Cell → List Cell → List Cell
 written_at n cells row = cut_before n row ++ cells ++ emptied_front (drop (n + length cells) row)
 
--- ---- joining a character of no columns to the glyph before the cursor
+-- ---- joining a zero-width character, a mark, to the glyph before the cursor
 
--- the glyph with one more mark
+-- the glyph with one more zero-width character
 abbrev pub with_mark : ℕ → Glyph → Glyph
 with_mark c g = record g { marks = g.marks ++ c ∷ [] }
 
--- the mark joined to the glyph at the end of the cells, read from their end, if they end with one
+-- the zero-width character joined to the glyph at the end of the cells, read from their end, if they end with one
 abbrev pub joined_back : ℕ → List Cell → List Cell
 joined_back c (Continued ∷ cs) = Continued ∷ joined_back c cs
 joined_back c (Written g ∷ cs) = Written (with_mark c g) ∷ cs
 joined_back c cells = cells
 
--- the row with the mark joined to the glyph that ends at column n
+-- the row with the zero-width character joined to the glyph that ends at column n
 abbrev pub joined_at : ℕ → ℕ → List Cell → List Cell
 joined_at n c row = reverse (joined_back c (reverse (take n row))) ++ drop n row
 
@@ -114,7 +114,7 @@ put_wide c w s =
     else put_here (record { base = c; marks = [] }) w
     (if nat_le (s.column + w) s.columns then s else line_feed (record s { column = 0 }))
 
--- a character of no columns
+-- a zero-width character
 abbrev pub put_mark : ℕ → Screen → Screen
 put_mark c s = with_row s (joined_at s.column c (cursor_row s))
 
@@ -133,8 +133,3 @@ performed (Down n) s = record s { row = min (s.row + n) (length s.rows - 1) }
 performed (Right n) s = if s.column == s.columns then s else record s { column = min (s.column + n) (s.columns - 1) }
 performed (Left n) s = record s { column = s.column - n }
 performed EmptyRow s = with_row s (blank_row s.columns)
-
--- the screen after all that was asked
-abbrev pub performed_all : List Op → Screen → Screen
-performed_all [] s = s
-performed_all (op ∷ ops) s = performed_all ops (performed op s)

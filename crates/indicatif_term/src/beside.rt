@@ -1,7 +1,8 @@
 //! The lines of a drawing beside those that stand on the terminal.
-ghost use Rattle.std.specs.Prelude.{◌≡◌, ◌≢◌, ◌↔◌, IsTrue, ◌+◌, ◌-◌, ◌<◌, ◌≤◌, ◌==◌, ◌^◌, ◌++◌, ◌∷◌, [], ℕ, List, Err, Some, map, length, take, drop, min, replicate, chars, string_bytes, IfOk, IfErr, IfSome, MatchResult, if◌then◌else◌};
+ghost use Rattle.std.specs.Prelude.{◌≡◌, ◌≢◌, ◌↔◌, IsTrue, ◌+◌, ◌-◌, ◌<◌, ◌==◌, ◌^◌, ◌++◌, ◌∷◌, [], ℕ, List, Err, Some, take, min, replicate, chars, string_bytes, IfOk, IfErr, IfSome, MatchResult, if◌then◌else◌};
 ghost use Rattle.indicatif_term.specs.Shows.{looks_of};
 ghost use Rattle.indicatif_term.specs.Inside.Plans.{IsWithheld};
+ghost use Rattle.indicatif_term.specs.Remembered.{live_lines};
 ghost use Rattle.indicatif_term.specs.Inside.Layouts.{IsSized, IsLike, AreLike};
 ghost use Rattle.indicatif_term.specs.Inside.Changes.{placed_height, AreSitting};
 ghost use Rattle.indicatif_term.specs.Standing.{placed, texts, standing_rows, IsLine, AreLines, AreReady};
@@ -59,7 +60,7 @@ pub struct Beside<'a> {
 impl<'a> Beside<'a> {
     /// What is remembered of a terminal of this width, from the first line on that has a text.
     pub fn of(shown: &'a Remembered, window: Window) -> Beside<'a>
-        ensures lines { result.lines.now ≡ (if shown.now.width == window.columns then shown.now.lines.items else []) }
+        ensures lines { result.lines.now ≡ (if shown.now.width == window.columns then live_lines shown.now else []) }
         ensures standing { AreLines window.columns result.lines.now }
     {
         let lines = shown.on(window.columns);
@@ -236,16 +237,16 @@ fn is_there(standing: &[StandingLine], place: Place, start: usize, line: &Standi
     is_same(&standing[place.index].text, &line.text)
 }
 
-/// Notes those of the lines that stand on their rows already: the first of them begins below so many rows of those that stand there.
-fn note_standing(standing: &[StandingLine], skipped: usize, lines: &mut Vec<StandingLine>)
+/// Notes those of the lines that stand on their rows already.
+fn note_standing(standing: &[StandingLine], lines: &mut Vec<StandingLine>)
     ensures texts { texts lines.new.items ≡ texts lines.old.items }
     ensures right { (w : ℕ) → AreLines w lines.old.items → AreLines w lines.new.items }
     ensures ready { AreReady lines.new.items }
     ensures sits { (w : ℕ) → AreLines w standing.now → AreLines w lines.old.items → AreLike standing.now lines.old.items →
-        AreSitting w (looks_of (drop skipped (standing_rows w standing.now))) (placed lines.new.items) }
+        AreSitting w (looks_of (standing_rows w standing.now)) (placed lines.new.items) }
 {
     let mut place = Place { index: 0, row: 0 };
-    let mut start = skipped;
+    let mut start = 0_usize;
     for at in 0..lines.len() {
         place = passed_over(standing, place, start);
         let line = &lines[at];
@@ -283,11 +284,10 @@ pub fn below_blanks(
     Ok(lines)
 }
 
-/// The lines of a drawing below so many blank ones, where the last `taken` rows of those that stand there are in their place.
+/// The lines of a drawing below so many blank ones, in the place of those that stand there.
 pub fn lines_among(
     spare: &mut Spare,
     standing: &[StandingLine],
-    taken: usize,
     blanks: usize,
     lines: Vec<StandingLine>,
 ) -> Result<Vec<StandingLine>, Refusal>
@@ -296,10 +296,9 @@ pub fn lines_among(
     ensures right { (w : ℕ) → AreLines w lines.items → IfOk result (λ ls. AreLines w ls.items) }
     ensures ready { IfOk result (λ ls. AreReady ls.items) }
     ensures sits { (w : ℕ) → AreLines w standing.now → AreLines w lines.items → AreLike standing.now lines.items → IfOk result (λ ls. AreSitting w
-        (looks_of (drop (min (placed_height (placed standing.now)) (2 ^ 64 - 1) - taken) (standing_rows w standing.now))) (placed ls.items)) }
+        (looks_of (standing_rows w standing.now)) (placed ls.items)) }
 {
-    let skipped = height_of(standing).saturating_sub(taken);
     let mut lines = below_blanks(spare, blanks, lines)?;
-    note_standing(standing, skipped, &mut lines);
+    note_standing(standing, &mut lines);
     Ok(lines)
 }

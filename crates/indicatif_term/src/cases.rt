@@ -1,8 +1,9 @@
 //! Worked cases of the definitions: each clause computes.
-ghost use Rattle.std.specs.Prelude.{◌≡◌, true, false, Some, None, [], ◌∷◌, ◌++◌, codes};
+ghost use Rattle.std.specs.Prelude.{◌≡◌, true, false, Some, None, [], ◌∷◌, ◌++◌, flat_map, codes};
 ghost use Rattle.indicatif_text.specs.Columns.{Blank, Written, Continued, rows_of};
 ghost use Rattle.indicatif_text.specs.ColumnCases.{cell};
 ghost use Rattle.indicatif_term.specs.Calls.{move_bytes, line_bytes, clear_bytes, UP, DOWN, RIGHT, LEFT};
+ghost use Rattle.indicatif_term.specs.Calm.{Character, Colours, Return, Feed, Move, Empty, stroke_bytes, is_calm, is_quiet};
 ghost use Rattle.indicatif_term.specs.Shows.{look, looks_of};
 ghost use Rattle.indicatif_term.specs.Frames.{logged_lines};
 ghost use Rattle.indicatif_term.specs.Memory.{move_text, quoted_char, written_text};
@@ -28,7 +29,24 @@ pub fn bytes_of_calls()
         ≡ 0x1B ∷ 0x5B ∷ 0x32 ∷ 0x41 ∷ 0x0D ∷ 0x1B ∷ 0x5B ∷ 0x32 ∷ 0x4B ∷ 0x61 ∷ 0x62 ∷ 0x63 ∷ 0x0D ∷ 0x0A ∷ [] }
 {}
 
-/// How cells look: a written space is as an empty cell, but not where a mark is joined to it.
+/// Strokes of a calm text, and what is none: BEL, ESC, DEL and a move of another letter; and bytes that aren't quiet, as ESC `c`.
+pub fn calm_texts()
+    ensures text { flat_map stroke_bytes (Move UP 2 ∷ Return ∷ Empty ∷ Colours (codes "1;31") ∷ Character 0x2588 ∷ Colours [] ∷ Return ∷ Feed ∷ [])
+        ≡ 0x1B ∷ (codes "[2A\r") ++ (0x1B ∷ codes "[2K") ++ (0x1B ∷ codes "[1;31m") ++ (0xE2 ∷ 0x96 ∷ 0x88 ∷ 0x1B ∷ codes "[m\r\n") }
+    ensures letter { is_calm (Character 0x61) ≡ true }
+    ensures mark { is_calm (Character 0x308) ≡ true }
+    ensures bell { is_calm (Character 0x07) ≡ false }
+    ensures escape { is_calm (Character 0x1B) ≡ false }
+    ensures delete { is_calm (Character 0x7F) ≡ false }
+    ensures home { is_calm (Move 0x48 1) ≡ false }
+    ensures quiet { is_quiet (codes "a\r\n") ≡ true }
+    ensures broken { is_quiet (0x1B ∷ codes "\r\n") ≡ true }
+    ensures rings { is_quiet (0x61 ∷ 0x07 ∷ []) ≡ false }
+    ensures resets { is_quiet (0x1B ∷ codes "c") ≡ false }
+    ensures renames { is_quiet (0x1B ∷ codes "]0;a") ≡ false }
+{}
+
+/// How cells look: a written space is as an empty cell, but not where a zero-width character is joined to it.
 pub fn looks_of_cells()
     ensures space { look (cell 0x20) ≡ Blank }
     ensures empty { look Blank ≡ Blank }
@@ -205,7 +223,7 @@ pub fn wide()
     ensures three { cursor_after 1 4 (0xE1 ∷ 0x9F ∷ 0x98 ∷ []) ≡ (0, 3) }
 {}
 
-/// A mark joins the character before the cursor; at the front of a row it is left out.
+/// A zero-width character joins the one before the cursor; at the front of a row it is left out.
 pub fn marks()
     ensures joined { contents_after 1 4 (codes "a" ++ 0xCC ∷ 0x88 ∷ codes "b") ≡ codes "a" ++ 0xCC ∷ 0x88 ∷ codes "b" }
     ensures front { contents_after 1 4 (0xCC ∷ 0x88 ∷ codes "a") ≡ codes "a" }

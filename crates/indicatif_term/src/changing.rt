@@ -1,14 +1,15 @@
 //! The lines of a drawing in the place of those that stand: each stays, is edited, or is written as a whole.
-ghost use Rattle.std.specs.Prelude.{◌≡◌, ◌==◌, ◌&&◌, IsTrue, ◌+◌, ◌-◌, ◌≤◌, ◌++◌, ◌∷◌, [], ℕ, List, string_bytes, MatchResult};
+ghost use Rattle.std.specs.Prelude.{length, ◌≡◌, ◌==◌, ◌&&◌, ◌+◌, ◌-◌, ◌≤◌, ◌++◌, ◌∷◌, [], ℕ, List, string_bytes, MatchResult};
 ghost use Rattle.std.specs.IoError.{error_kind};
 ghost use Rattle.indicatif_term.specs.Calls.{Writes, LeadsOn, BreaksOff, DOWN, RIGHT, move_bytes};
-ghost use Rattle.indicatif_term.specs.Inside.Changes.{placed_height, changed_bytes, step_bytes, step_down, walk_bytes, walk_down, frame_bytes, filled_whole, ending, ending_by, last_bytes, all_stay, stays, rows_below, rewrite_bytes, free_behind, change_bytes};
+ghost use Rattle.indicatif_term.specs.Inside.Changes.{PlacedLine, placed_height, changed_bytes, step_bytes, step_down, walk_bytes, walk_down, frame_bytes, filled_whole, ending, last_bytes, all_stay, stays, rows_below, rewrite_bytes, free_behind, change_bytes};
 ghost use Rattle.indicatif_term.specs.Inside.Edits.{row_bytes};
-ghost use Rattle.indicatif_term.specs.Inside.Parting.{HasPart, IsReady, part_edits, change_of};
+ghost use Rattle.indicatif_term.specs.Inside.Parting.{HasPart, IsReady, part_edits};
 ghost use Rattle.indicatif_term.specs.Inside.Fills.{last_of};
+ghost use Rattle.indicatif_term.specs.Inside.Places.{IsWithin};
 ghost use Rattle.indicatif_term.specs.Standing.{placed_of, placed, AreReady};
 
-use crate::beside::height_of;
+use crate::beside::{Room, height_of};
 use crate::inks::{Colours, Reading};
 use crate::last_char::{ends_plainly, last_char};
 use crate::painting::{empty_down, go_down, go_up, put_below, put_spaces, take_back_rows};
@@ -21,20 +22,38 @@ use std::io;
 /// The lines of a drawing beside the rows that they replace: those that stand in the first of these, up to a last one; how many of
 /// the rows are free then; and the lines below them.
 #[derive(Clone, Copy)]
-pub struct Changes<'a> {
-    pub front: &'a [StandingLine],
-    pub last: &'a StandingLine,
-    pub free: usize,
-    pub more: &'a [StandingLine],
+struct Changes<'a> {
+    front: &'a [StandingLine],
+    last: &'a StandingLine,
+    free: usize,
+    more: &'a [StandingLine],
+}
+
+/// Writes those of the lines that do not stay, of which some stand in the rows that they replace and leave some of these.
+pub fn write_in_room<T: TermLike>(
+    term: &mut T,
+    lines: &[StandingLine],
+    room: Room,
+    width: usize,
+) -> io::Result<()>
+    requires room { (rows : ℕ) × IsWithin lines.now rows room × (rows ≤ 65535) }
+    requires ready { AreReady lines.now }
+    ensures { (front : List PlacedLine) (last : PlacedLine) (more : List PlacedLine) → placed lines.now ≡ front ++ last ∷ more → length front + 1 ≡ room.lines →
+        Writes (change_bytes width room.free front last more) (T.view term.old) (T.view term.new) result }
+{
+    let before = room.lines - 1;
+    let changes = Changes {
+        front: &lines[..before],
+        last: &lines[before],
+        free: room.free,
+        more: &lines[room.lines..],
+    };
+    write_changes(term, &changes, width)
 }
 
 /// Writes the lines that do not stay, where the cursor is at the end of the last of the rows that they replace, and brings it to the
 /// end of the last of theirs; nothing where all stay and no row is free.
-pub fn write_changes<T: TermLike>(
-    term: &mut T,
-    changes: &Changes<'_>,
-    width: usize,
-) -> io::Result<()>
+fn write_changes<T: TermLike>(term: &mut T, changes: &Changes<'_>, width: usize) -> io::Result<()>
     requires small { placed_height (placed changes.now.front.now) + changes.now.last.now.rows + changes.now.free ≤ 65535 }
     requires front { AreReady changes.now.front.now }
     requires last { AreReady (changes.now.last.now ∷ []) }

@@ -1,20 +1,19 @@
 //! Drawing the lines of bars on a terminal, below text that stays.
 //!
 //! The rows that an engine has written are of three kinds, from the top: those *above*, which never change again; those *kept*,
-//! of bars that are gone; and the *live* ones, of the last frame. An engine remembers their counts and the lines of its last
-//! drawing, no text that was logged, so what it needs does not grow with that. A draw writes the lines that changed, or of them
+//! of bars that are gone; and the *live* ones, of the last frame. An engine remembers their counts and the lines of the kept
+//! and the live ones, no text that was logged, so what it needs does not grow with that. A draw writes the lines that changed, or of them
 //! only the cells that differ, and leaves those that stay; each hundredth change of a line writes it whole. Else, as for a log,
 //! it goes up to the first of the kept and live rows, empties them from there down, goes up again, and writes the new ones in
 //! their place. The rows above stand at every moment.
-ghost use Rattle.std.specs.Prelude.{if◌then◌else◌, min, ◌-◌, ◌^◌, ◌≡◌, ◌∷◌, List, true, false, ◌≢◌, map, length, replicate, ◌+◌, ◌<◌, ◌≤◌, IfErr, IfSome, option_map, IsTrue, IsFalse, ◌++◌, [], ℕ, Err, false, ◌⊎◌, ◌↔◌, ◌==◌, ◌&&◌, IfOk};
+ghost use Rattle.std.specs.Prelude.{if◌then◌else◌, min, ◌-◌, ◌^◌, ◌≡◌, ◌∷◌, List, true, false, ◌≢◌, map, length, replicate, ◌+◌, ◌<◌, ◌≤◌, IfErr, IfSome, option_map, IsTrue, IsFalse, ◌++◌, [], ℕ, Err, false, ◌⊎◌, ◌↔◌, ◌==◌, ◌&&◌, IfOk, take, drop};
 ghost use Rattle.indicatif_term.specs.Lists.{Lists, opening_lists, forgotten_lists};
 ghost use Rattle.indicatif_term.specs.Counts.{CountsOf};
 ghost use Rattle.indicatif_term.specs.Remembered.{Suits};
 ghost use Rattle.indicatif_term.specs.Standing.{texts};
 
 use crate::beside::{Room, below_blanks, height_of, lines_among, lines_within};
-use crate::carried::carried;
-use crate::changing::{Changes, write_changes};
+use crate::changing::write_in_room;
 use crate::counts::{Counts, Fresh, Keep, blanks_of};
 use crate::draw_target::{MultiProgressAlignment, ProgressDrawTarget};
 use crate::layout::plan_drawing;
@@ -23,8 +22,8 @@ use crate::lines::Segment;
 use crate::moving::{are_even, write_over};
 use crate::painting::{Drawing, Painting, paint};
 use crate::recutting::Widths;
-use crate::remembered::{Remembered, StandingLine};
-use crate::renewed::{Last, NewLine, new_lines, put_new};
+use crate::remembered::{Remembered, Span, StandingLine, StandingLines};
+use crate::renewed::{Last, NewLine, new_lines};
 use crate::spare::Spare;
 use crate::term_like::{Resize, TermLike};
 use crate::window::Window;
@@ -86,12 +85,13 @@ impl<T: TermLike + Drop> Engine<T> {
     ghost use Rattle.indicatif_term.specs.Frames.{bar_lines, all_lines, are_plain, logged_lines, text_lines, is_fault};
     ghost use Rattle.indicatif_term.specs.Inside.Plans.{frame_lines};
     ghost use Rattle.indicatif_term.specs.Engines.{engine_moves, engine_term, Fits, is_failure, Answers, Counted, Paints, lists_after};
-    ghost use Rattle.indicatif_term.specs.Inside.Remembering.{Draws, Remembers, HasRoom, AreKnown, CanMove};
+    ghost use Rattle.indicatif_term.specs.Inside.Remembering.{Draws, Remembers, IsNext, HasRoom, CanMove, lines_drawn};
+    ghost use Rattle.indicatif_term.specs.Remembered.{live_lines};
     ghost use Rattle.indicatif_term.specs.Inside.Moves.{moved_bytes};
     ghost use Rattle.indicatif_term.specs.Inside.Changes.{PlacedLine, placed_height, change_bytes};
     ghost use Rattle.indicatif_term.specs.Inside.Renewed.{AreFitting, AreInPlace, AreOver, Renews};
     ghost use Rattle.indicatif_term.specs.Inside.Places.{IsWithin};
-    ghost use Rattle.indicatif_term.specs.Standing.{placed, AreReady};
+    ghost use Rattle.indicatif_term.specs.Standing.{placed, AreReady, AreLines};
     ghost use Rattle.indicatif_term.specs.Shows.{IsOpening, Rests, resting};
     ghost use Rattle.indicatif_term.specs.Screen.{Screen};
     ghost use Rattle.indicatif_term.specs.Terminal.{Terminal};
@@ -165,7 +165,7 @@ impl<T: TermLike + Drop> Engine<T> {
     /// and each line with the spaces that fill its last row. It is off at first.
     ///
     /// A draw does so where that shows the same as with it off: it has a line and at least as many rows as it takes back, none of
-    /// its rows ends early for a wide character, no line begins with a character of no columns, what stands in the rows is known, and
+    /// its rows ends early for a wide character, no line begins with a zero-width character, what stands in the rows is known, and
     /// it reaches no row in which anything may stand since a failure. Any other draw, a log and a clear go as with it off.
     ///
     /// ```
@@ -184,7 +184,8 @@ impl<T: TermLike + Drop> Engine<T> {
     ///
     /// As many lines from the front are written as have at most the terminal's rows together, and none where the frame stands as it is.
     /// One pass over the frame before the first byte, two over the lines at its front that stand there, one while writing. Memory for
-    /// its lines, those of kept rows and their counts, where earlier drawings left no room for them, is taken before the first byte.
+    /// its lines and their counts, where earlier drawings left no room for them, is taken before the first byte. The lines of kept rows
+    /// aren't copied; the room of the list that holds them grows with it.
     ///
     /// Refused: `NoColumns` where the terminal has no columns; `TooWide` where any line, also one past the terminal's
     /// rows, holds a character wider than the terminal; `Memory`, also in place of `TooWide`, and never where the frame has no
@@ -245,6 +246,7 @@ impl<T: TermLike + Drop> Engine<T> {
     {
         let planned = plan_drawing(&self.term, &self.shown, &mut self.spare, None, frame, pass)?;
         let window = planned.window;
+        let width = window.columns;
         let plan = planned.plan;
         let taken = self.counts.live;
         let blanks = blanks_of(alignment.is_bottom(), taken, plan.rows);
@@ -254,34 +256,25 @@ impl<T: TermLike + Drop> Engine<T> {
             frame,
             lines: plan.lines,
         };
-        let lines = lines_among(
-            &mut self.spare,
-            self.shown.on(window.columns),
-            taken,
-            blanks,
-            planned.lines,
-        )?;
-        let needed = plan.lines > 0;
-        let kept = carried(&mut self.spare, &self.shown, &self.counts, window, needed)?;
-        let shown = Remembered {
-            width: window.columns,
-            kept,
-            lines,
-        };
+        let standing = self.shown.on(width);
+        let lines = lines_among(&mut self.spare, standing, blanks, planned.lines)?;
         let last = plan.last;
-        let plan_rows = blanks + plan.rows;
-        let next = self.counts.drawn(plan, blanks, window.rows);
-        if self.can_move(&next, taken, &shown) {
-            return self.overwrite(next, taken, shown);
-        }
-        if let Some(room) = self.room_for(&next, taken, &shown) {
-            return self.rewrite(next, shown, room);
-        }
-        let fill = next.fill(last, window.columns);
-        let end = self.counts.kept + plan_rows;
+        let end = self.counts.kept + (blanks + plan.rows);
         let fresh = self.counts.fresh(end, window.rows);
+        let counts = self.counts.drawn(plan, blanks, window.rows);
+        let fill = counts.fill(last, width);
+        let moves = self.can_move(&counts, &lines, width);
+        let room = self.room_for(&counts, &lines, width);
+        let above = self.shown.above(width, self.counts.kept);
+        let next = self.next_with(counts, above, lines, width)?;
+        if moves {
+            return self.overwrite(next, taken);
+        }
+        if let Some(room) = room {
+            return self.rewrite(next, room);
+        }
         let taken = Taken { rows: taken, fresh };
-        self.repaint(next, taken, &drawing, fill, shown)
+        self.repaint(next.counts, taken, &drawing, fill, next.shown)
     }
 
     /// Writes the lines of the text, which stay, in the place of the kept and the live rows, and draws the frame below
@@ -336,20 +329,17 @@ impl<T: TermLike + Drop> Engine<T> {
             lines: plan.lines,
         };
         let lines = below_blanks(&mut self.spare, blanks, planned.lines)?;
-        let shown = Remembered {
-            width: window.columns,
-            kept: self.spare.no_lines(),
-            lines,
-        };
         let last = plan.last.unwrap_or(metrics.last_line_width);
         let end = metrics.height.saturating_add(blanks + plan.rows);
         let fresh = self.counts.fresh(end, window.rows);
-        let next = self
+        let counts = self
             .counts
             .logged(metrics.height, plan, blanks, window.rows);
-        let fill = next.fill(Some(last), window.columns);
+        let fill = counts.fill(Some(last), window.columns);
+        let above = Span { from: 0, to: 0 };
+        let next = self.next_with(counts, above, lines, window.columns)?;
         let taken = Taken { rows: taken, fresh };
-        self.repaint(next, taken, &drawing, fill, shown)
+        self.repaint(next.counts, taken, &drawing, fill, next.shown)
     }
 
     /// Takes back the kept and the live rows. Takes no memory.
@@ -396,59 +386,78 @@ impl<T: TermLike + Drop> Engine<T> {
     {
         let counts = replace(&mut self.counts, Counts::new(self.alloc));
         let (outcome, next) = counts.keep(bar);
-        self.counts = next;
         let shown = replace(&mut self.shown, Remembered::nothing(self.alloc));
         let width = self.term.width() as usize;
-        self.shown = shown.after_keep(self.alloc, width);
+        self.shown = shown.after_keep(self.alloc, width, next.live);
+        self.counts = next;
         outcome
     }
 
-    /// Whether these lines can be written over so many live rows by moves alone, where that is asked.
-    fn can_move(&self, next: &Counts, taken: usize, shown: &Remembered) -> bool
-        ensures { IsTrue result → CanMove self.now next.now taken shown.now }
+    /// Its next counts, with new lines below some of those that stand. It remembers no line then. Refused: `Memory`, where there is a
+    /// new line; all is unchanged then.
+    fn next_with(
+        &mut self,
+        counts: Counts,
+        above: Span,
+        lines: Vec<StandingLine>,
+        width: usize,
+    ) -> Result<Next, Refusal>
+        requires within { above.to ≤ length self.old.shown.lines }
+        requires right { 0 < width → AreLines width (drop above.from (take above.to self.old.shown.lines) ++ lines.items) }
+        ensures refused { IfErr result (λ e. (e ≡ Refusal.Memory) × (0 < length lines.items) × (self.new ≡ self.old)) }
+        ensures next { IfOk result (λ n. IsNext width counts (drop above.from (take above.to self.old.shown.lines)) lines.items n) }
+        ensures terminal { engine_term self.new ≡ engine_term self.old }
+        ensures moves { engine_moves self.new ≡ engine_moves self.old }
+        ensures same { (self.new.counts ≡ self.old.counts) × (self.new.failed ≡ self.old.failed) }
     {
-        if !self.moves || self.failed || next.below || shown.lines.is_empty() {
-            return false;
-        }
-        if self.counts.below != (taken == 0) || height_of(&shown.lines) < taken {
-            return false;
-        }
-        if taken > 0 && !self.are_known(taken, shown.width) || self.goes_further(taken, shown) {
-            return false;
-        }
-        are_even(&shown.lines, shown.width)
+        let count = lines.len();
+        let stood = self.shown.take_with(&mut self.spare, above, lines)?;
+        let from = stood.as_slice().len() - count;
+        let live = counts.live;
+        Ok(Next {
+            counts,
+            shown: Remembered::of(width, stood, live),
+            from,
+            width,
+        })
     }
 
-    /// Whether the lines take more than so many rows where anything may stand below.
-    fn goes_further(&self, taken: usize, shown: &Remembered) -> bool
-        ensures { IsFalse result → IsTrue self.now.counts.under → min (placed_height (placed shown.now.lines.items)) (2 ^ 64 - 1) ≤ taken }
+    /// Whether lines can be written over the live rows by moves alone, where that is asked.
+    fn can_move(&self, next: &Counts, lines: &[StandingLine], width: usize) -> bool
+        ensures { IsTrue result → CanMove self.now next.now width lines.now }
     {
-        self.counts.under && height_of(&shown.lines) > taken
-    }
-
-    /// Whether the lines of so many live rows are remembered, of a terminal of that width.
-    fn are_known(&self, taken: usize, width: usize) -> bool
-        ensures { IsTrue result → AreKnown self.now.shown taken width }
-    {
-        if self.shown.width != width {
+        let live = self.counts.live;
+        if !self.moves || self.failed || next.below || lines.is_empty() {
             return false;
         }
-        let known = height_of(&self.shown.lines);
-        taken <= known && known <= 65535
+        if self.counts.below != (live == 0) || height_of(lines) < live {
+            return false;
+        }
+        if live > 0 && self.shown.width != width || self.goes_further(lines) {
+            return false;
+        }
+        are_even(lines, width)
+    }
+
+    /// Whether lines take more rows than the live ones where anything may stand below.
+    fn goes_further(&self, lines: &[StandingLine]) -> bool
+        ensures { IsFalse result → IsTrue self.now.counts.under → min (placed_height (placed lines.now)) (2 ^ 64 - 1) ≤ self.now.counts.live }
+    {
+        self.counts.under && height_of(lines) > self.counts.live
     }
 
     /// Writes the lines over so many live rows, by moves alone, and remembers the next counts and the lines; after a failure, that a
     /// call has failed.
-    fn overwrite(&mut self, next: Counts, taken: usize, shown: Remembered) -> Result<(), Refusal>
-        requires suits { ∥ ((l : Lists) × Suits next false shown l) ∥₁ }
-        ensures writes { Draws (moved_bytes shown.width taken (placed shown.lines.items))
+    fn overwrite(&mut self, next: Next, taken: usize) -> Result<(), Refusal>
+        requires suits { ∥ ((l : Lists) × Suits next.counts false next.shown l) ∥₁ }
+        ensures writes { Draws (moved_bytes next.width taken (placed (lines_drawn next)))
             (T.view (engine_term self.old)) (T.view (engine_term self.new)) result }
-        ensures remembers { Remembers next shown result self.new }
+        ensures remembers { Remembers next.counts next.shown result self.new }
         ensures moves { engine_moves self.new ≡ engine_moves self.old }
     {
-        match write_over(&mut self.term, taken, &shown.lines, shown.width) {
+        match write_over(&mut self.term, taken, next.lines(), next.width) {
             Ok(()) => {
-                self.remember(next, shown);
+                self.remember(next.counts, next.shown);
                 Ok(())
             }
             Err(e) => {
@@ -468,13 +477,13 @@ impl<T: TermLike + Drop> Engine<T> {
     /// Writes new lines in the place of those that stand, and remembers them; after a failure, that a call has failed.
     fn renew(&mut self, changed: Vec<NewLine>) -> Result<(), Refusal>
         requires sound { self.old.failed ≡ false }
-        requires some { 0 < length self.old.shown.lines.items }
-        requires low { (r : Remembered) → Renews self.old.shown changed.items r → placed_height (placed r.lines.items) ≤ 65535 }
-        requires fit { AreFitting self.old.shown.width self.old.shown.lines.items (length self.old.shown.lines.items) changed.items }
+        requires some { 0 < length (live_lines self.old.shown) }
+        requires low { (r : Remembered) → Renews self.old.shown changed.items r → placed_height (placed (live_lines r)) ≤ 65535 }
+        requires fit { AreFitting self.old.shown.width (live_lines self.old.shown) (length (live_lines self.old.shown)) changed.items }
         requires known { 0 < self.old.shown.width }
         requires suits { (r : Remembered) → Renews self.old.shown changed.items r → ∥ ((l : Lists) × Suits self.old.counts false r l) ∥₁ }
         ensures { (r : Remembered) × (ls : List StandingLine) × Renews self.old.shown changed.items r × Remembers self.old.counts r result self.new
-            × AreInPlace self.old.shown.width self.old.shown.lines.items ls × AreOver self.old.shown.width self.old.shown.lines.items ls × (texts ls ≡ texts r.lines.items)
+            × AreInPlace self.old.shown.width (live_lines self.old.shown) ls × AreOver self.old.shown.width (live_lines self.old.shown) ls × (texts ls ≡ texts (live_lines r))
             × ((front : List PlacedLine) (last : PlacedLine) → placed ls ≡ front ++ last ∷ [] →
             Draws (change_bytes self.old.shown.width 0 front last []) (T.view (engine_term self.old)) (T.view (engine_term self.new)) result)
             × (engine_moves self.new ≡ engine_moves self.old) }
@@ -505,27 +514,25 @@ impl<T: TermLike + Drop> Engine<T> {
     /// Writes new lines in the place of those that stand, and remembers them; after a failure, that a call has failed.
     fn write_new(&mut self, changed: Vec<NewLine>) -> Result<(), Refusal>
         requires sound { self.old.failed ≡ false }
-        requires some { 0 < length self.old.shown.lines.items }
-        requires low { (r : Remembered) → Renews self.old.shown changed.items r → placed_height (placed r.lines.items) ≤ 65535 }
-        requires fit { AreFitting self.old.shown.width self.old.shown.lines.items (length self.old.shown.lines.items) changed.items }
+        requires some { 0 < length (live_lines self.old.shown) }
+        requires low { (r : Remembered) → Renews self.old.shown changed.items r → placed_height (placed (live_lines r)) ≤ 65535 }
+        requires fit { AreFitting self.old.shown.width (live_lines self.old.shown) (length (live_lines self.old.shown)) changed.items }
         requires known { 0 < self.old.shown.width }
         requires suits { (r : Remembered) → Renews self.old.shown changed.items r → ∥ ((l : Lists) × Suits self.old.counts false r l) ∥₁ }
         ensures { (r : Remembered) × Renews self.old.shown changed.items r × Remembers self.old.counts r result self.new
-            × AreOver self.old.shown.width self.old.shown.lines.items r.lines.items
-            × ((front : List PlacedLine) (last : PlacedLine) → placed r.lines.items ≡ front ++ last ∷ [] →
+            × AreOver self.old.shown.width (live_lines self.old.shown) (live_lines r)
+            × ((front : List PlacedLine) (last : PlacedLine) → placed (live_lines r) ≡ front ++ last ∷ [] →
             Draws (change_bytes self.old.shown.width 0 front last []) (T.view (engine_term self.old)) (T.view (engine_term self.new)) result)
             × (engine_moves self.new ≡ engine_moves self.old) }
     {
-        put_new(&mut self.shown.lines, &mut self.spare, changed);
-        let lines = &self.shown.lines;
-        let before = lines.len() - 1;
-        let changes = Changes {
-            front: &lines[..before],
-            last: &lines[before],
+        self.shown.put_new(&mut self.spare, changed);
+        let width = self.shown.width;
+        let lines = self.shown.live();
+        let room = Room {
+            lines: lines.len(),
             free: 0,
-            more: &[],
         };
-        match write_changes(&mut self.term, &changes, self.shown.width) {
+        match write_in_room(&mut self.term, lines, room, width) {
             Ok(()) => Ok(()),
             Err(e) => {
                 self.forget();
@@ -534,45 +541,34 @@ impl<T: TermLike + Drop> Engine<T> {
         }
     }
 
-    /// How these lines stand in the place of so many live rows, where those that stay can be left; else the whole drawing is written.
-    fn room_for(&self, next: &Counts, taken: usize, shown: &Remembered) -> Option<Room>
-        ensures { IfSome result (λ room. HasRoom self.now next.now taken shown.now × IsWithin shown.now.lines.items taken room) }
+    /// How lines stand in the place of the live rows, where those that stay can be left; else the whole drawing is written.
+    fn room_for(&self, next: &Counts, lines: &[StandingLine], width: usize) -> Option<Room>
+        ensures { IfSome result (λ room. HasRoom self.now next.now width lines.now × IsWithin lines.now self.now.counts.live room) }
     {
-        if self.failed || self.counts.below || next.below || self.goes_further(taken, shown) {
+        if self.failed || self.counts.below || next.below || self.goes_further(lines) {
             return None;
         }
-        if self.shown.width != shown.width || shown.width > 65535 {
+        if self.shown.width != width || width > 65535 {
             return None;
         }
-        let known = height_of(&self.shown.lines);
-        if known < taken || known > 65535 {
-            return None;
-        }
-        lines_within(&shown.lines, taken)
+        lines_within(lines, self.counts.live)
     }
 
     /// Writes those of the lines that do not stay, and remembers the next counts and the lines; after a failure, that a call has
     /// failed.
-    fn rewrite(&mut self, next: Counts, shown: Remembered, room: Room) -> Result<(), Refusal>
-        requires suits { ∥ ((l : Lists) × Suits next false shown l) ∥₁ }
-        requires room { (rows : ℕ) × IsWithin shown.lines.items rows room × (rows ≤ 65535) }
-        requires ready { AreReady shown.lines.items }
-        ensures writes { (front : List PlacedLine) (last : PlacedLine) (more : List PlacedLine) → placed shown.lines.items ≡ front ++ last ∷ more → length front + 1 ≡ room.lines →
-            Draws (change_bytes shown.width room.free front last more)
+    fn rewrite(&mut self, next: Next, room: Room) -> Result<(), Refusal>
+        requires suits { ∥ ((l : Lists) × Suits next.counts false next.shown l) ∥₁ }
+        requires room { (rows : ℕ) × IsWithin (lines_drawn next) rows room × (rows ≤ 65535) }
+        requires ready { AreReady (lines_drawn next) }
+        ensures writes { (front : List PlacedLine) (last : PlacedLine) (more : List PlacedLine) → placed (lines_drawn next) ≡ front ++ last ∷ more → length front + 1 ≡ room.lines →
+            Draws (change_bytes next.width room.free front last more)
             (T.view (engine_term self.old)) (T.view (engine_term self.new)) result }
-        ensures remembers { Remembers next shown result self.new }
+        ensures remembers { Remembers next.counts next.shown result self.new }
         ensures moves { engine_moves self.new ≡ engine_moves self.old }
     {
-        let before = room.lines - 1;
-        let changes = Changes {
-            front: &shown.lines[..before],
-            last: &shown.lines[before],
-            free: room.free,
-            more: &shown.lines[room.lines..],
-        };
-        match write_changes(&mut self.term, &changes, shown.width) {
+        match write_in_room(&mut self.term, next.lines(), room, next.width) {
             Ok(()) => {
-                self.remember(next, shown);
+                self.remember(next.counts, next.shown);
                 Ok(())
             }
             Err(e) => {
@@ -591,9 +587,7 @@ impl<T: TermLike + Drop> Engine<T> {
     {
         let counts = replace(&mut self.counts, next);
         self.spare.store_counts(counts.segments);
-        let old = replace(&mut self.shown, shown);
-        self.spare.store_kept(old.kept);
-        self.spare.store_lines(old.lines);
+        self.shown = shown;
         self.failed = false;
     }
 
@@ -664,10 +658,9 @@ impl<T: Resize + Drop> Engine<T> {
     ///
     /// It takes memory for the lines of the kept and the live rows, one a row, before the terminal gets the size.
     ///
-    /// Refused: `ZeroSize` where `rows` or `cols` is 0; `Memory`, also where a draw of no line had none to go on remembering the lines of
-    /// kept rows. All is unchanged then. `Memory` never comes at the size that it has. On a terminal that takes none for a size, such as a
-    /// `Term`, it comes only where a kept or a live row stands: not before the first drawing, nor behind a clear or a failure. A terminal
-    /// in memory may be refused it at any other size.
+    /// Refused: `ZeroSize` where `rows` or `cols` is 0; `Memory`. All is unchanged then. `Memory` never comes at the size that it has. On a
+    /// terminal that takes none for a size, such as a `Term`, it comes only where a kept or a live row stands: not before the first
+    /// drawing, nor behind a clear or a failure. A terminal in memory may be refused it at any other size.
     ///
     /// ```
     /// engine.draw(&frame, 0, MultiProgressAlignment::Top)?; // contents: "fetched"
@@ -721,7 +714,7 @@ impl<T: Resize + Drop> Engine<T> {
     }
 
     /// Its counts and lines on a terminal of another size. Refused: `Memory`, only where a kept or a live row stands, and also where the
-    /// lines of these aren't remembered.
+    /// lines of these aren't remembered: a terminal that changed its columns by itself may lead there.
     fn cut(&self, rows: u16, cols: u16) -> Result<CutDrawing, Refusal>
         requires rows { 0 < rows }
         ensures suits { IfOk result (λ c. (l : Lists) → Suits self.now.counts self.now.failed self.now.shown l → self.now.failed ≡ false →
@@ -747,9 +740,10 @@ impl<T: Resize + Drop> Engine<T> {
         let counts = self
             .counts
             .recut(self.alloc, &cut.heights[above..], rows as usize)?;
+        let live = counts.live;
         Ok(CutDrawing {
             counts,
-            shown: cut.shown,
+            shown: Remembered::of(widths.to, StandingLines::of(cut.lines), live),
         })
     }
 }
@@ -759,6 +753,28 @@ impl<T: Resize + Drop> Engine<T> {
 struct Taken {
     rows: usize,
     fresh: Fresh,
+}
+
+/// What is remembered of a drawing once it is made: its counts, and the lines, of which those from one on are its own, on a terminal
+/// of so many columns.
+#[derive(Drop)]
+struct Next {
+    counts: Counts,
+    shown: Remembered,
+    from: usize,
+    width: usize,
+    ghost within: { from ≤ length shown.lines },
+}
+
+impl Next {
+    ghost use Rattle.indicatif_term.specs.Inside.Remembering.{lines_drawn};
+
+    /// The drawing's own lines.
+    fn lines(&self) -> &[StandingLine]
+        ensures { result.now ≡ lines_drawn self.now }
+    {
+        &self.shown.lines.as_slice()[self.from..]
+    }
 }
 
 /// The counts and the lines of what stands there, cut anew.

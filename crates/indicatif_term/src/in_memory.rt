@@ -9,7 +9,7 @@
 //! - `run`: characters of one column, which are written into a row at once.
 //! - `cell`: a cell of a row.
 //! - `glyph`: a character and its marks, as they are taken out of a row.
-//! - `marks`: the marks of a row, which are joined to its characters.
+//! - `marks`: the marks of a row: zero-width characters, which are joined to its characters.
 //! - `known_width`: the columns of a character, remembered while it comes again.
 //! - `call_log`: the calls as text.
 //!

@@ -1,9 +1,19 @@
 //! How often a target may be drawn.
 ghost use Rattle.std.specs.Prelude.{◌≡◌, ◌<◌, ◌↔◌, IfOk, IfErr};
-ghost use Rattle.indicatif_term.specs.Limiters.{Limiter, allow, draw_limiter};
+ghost use Rattle.indicatif_term.specs.Limiters.{Limiter, allow, burst, default_rate, draw_limiter};
 
 use indicatif_text::columns::{Moment, Refusal};
 use std::marker::Model;
+
+/// How often in a second a target of `stdout` or `stderr` may be drawn, by the documentation of the Rust crate `indicatif` 0.18.6.
+///
+/// ```
+/// let mut limiter = RateLimiter::new(DEFAULT_RATE, 0)?; // as that of `ProgressDrawTarget::stderr` at the moment 0
+/// ```
+pub const DEFAULT_RATE: u8 = 20;
+
+/// How many draws may come at once.
+const BURST: u64 = 20;
 
 /// How often a target may be drawn: 20 draws may come at once, and one more with each interval after that, of which no
 /// more than 20 are ever in hand. By the documentation of the Rust crate `indicatif` 0.18.6.
@@ -12,7 +22,7 @@ use std::marker::Model;
 /// one allowed.
 ///
 /// ```
-/// let mut limiter = RateLimiter::new(20, 0)?;
+/// let mut limiter = RateLimiter::new(DEFAULT_RATE, 0)?;
 /// let first = limiter.allow(0); // true, and so are 19 more at this moment; then one each 50,000,000 nanoseconds
 /// ```
 #[derive(Debug, Drop)]
@@ -25,13 +35,13 @@ pub struct RateLimiter {
 /// Contracts see the limiter's interval, what it has in hand, and the moment from which it counts.
 impl Model for RateLimiter {
     ghost use Rattle.std.specs.Prelude.{◌<◌, ◌≤◌};
-    ghost use Rattle.indicatif_term.specs.Limiters.{Limiter};
+    ghost use Rattle.indicatif_term.specs.Limiters.{Limiter, burst};
 
     ghost Value = { Limiter };
 
-    ghost view = { λ l. record { interval = l.interval; most = 20; capacity = l.capacity; prev = l.prev } };
+    ghost view = { λ l. record { interval = l.interval; most = burst; capacity = l.capacity; prev = l.prev } };
 
-    ghost invariant = { λ l. (0 < l.interval) × (l.capacity ≤ 20) };
+    ghost invariant = { λ l. (0 < l.interval) × (l.capacity ≤ burst) };
 }
 
 impl RateLimiter {
@@ -49,21 +59,21 @@ impl RateLimiter {
         Ok(RateLimiter::spaced(1000 / u64::from(rate) * 1_000_000, now))
     }
 
-    /// The limiter of a target that names no rate: 20 draws a second, made at this moment.
+    /// The limiter of a target of `stdout` or `stderr`, made at this moment.
     pub(crate) fn by_default(now: Moment) -> Self
-        ensures { result ≡ draw_limiter 20 now }
+        ensures { result ≡ draw_limiter default_rate now }
     {
-        RateLimiter::spaced(50_000_000, now)
+        RateLimiter::spaced(1000 / u64::from(DEFAULT_RATE) * 1_000_000, now)
     }
 
     /// A limiter of this interval, made at this moment.
     fn spaced(interval: u64, now: Moment) -> Self
         requires { 0 < interval }
-        ensures { result ≡ record { interval = interval; most = 20; capacity = 20; prev = now } }
+        ensures { result ≡ record { interval = interval; most = burst; capacity = burst; prev = now } }
     {
         RateLimiter {
             interval,
-            capacity: 20,
+            capacity: BURST,
             prev: now,
         }
     }
@@ -82,7 +92,7 @@ impl RateLimiter {
             return false;
         }
         let new = elapsed / self.interval;
-        self.capacity = (self.capacity + new.min(21) - 1).min(20);
+        self.capacity = (self.capacity + new.min(BURST + 1) - 1).min(BURST);
         self.prev = now - elapsed % self.interval;
         true
     }

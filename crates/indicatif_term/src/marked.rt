@@ -142,7 +142,7 @@ fn with_marks(alloc: Global, seen: &[char]) -> Result<Vec<MarkedChar>, Refusal>
     Ok(glyphs)
 }
 
-/// The characters of no columns at the front. Refused: `Memory`.
+/// The zero-width characters at the front. Refused: `Memory`.
 fn marks_in(alloc: Global, seen: &[char]) -> Result<Vec<char>, Refusal>
     ensures read { IfOk result (λ ms. ms.items ≡ take_while (λ d. width_of d == 0) seen.now) }
     ensures memory { IfErr result (λ e. e ≡ Refusal.Memory) }

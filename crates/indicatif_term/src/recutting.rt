@@ -11,7 +11,6 @@ use crate::parting::Step;
 use crate::remembered::{Remembered, StandingLine};
 use indicatif_text::columns::Refusal;
 use std::alloc::Global;
-use std::mem::replace;
 
 /// From how many columns to how many a terminal goes.
 #[derive(Clone, Copy, Drop)]
@@ -110,51 +109,20 @@ impl CutLines {
     }
 }
 
-/// What is remembered, cut anew; and how many rows each of the rows became of which that is known.
-#[derive(Drop)]
-pub struct CutShown {
-    pub shown: Remembered,
-    pub heights: Vec<usize>,
-}
-
 impl Remembered {
     ghost use Rattle.indicatif_term.specs.Inside.Recutting.{IsShownCut};
 
-    /// The same lines, each row of theirs cut anew; none where those of that width aren't remembered. Refused: `Memory`.
-    pub fn cut(&self, alloc: Global, widths: Widths) -> Result<CutShown, Refusal>
-        ensures cut { IfOk result (λ c. IsShownCut widths.from widths.to self.now c.shown c.heights.items) }
+    /// Its lines, each row of theirs cut anew; none where those of that width aren't remembered. Refused: `Memory`.
+    pub fn cut(&self, alloc: Global, widths: Widths) -> Result<CutLines, Refusal>
+        ensures cut { IfOk result (λ c. IsShownCut widths.from widths.to self.now c) }
         ensures memory { IfErr result (λ e. e ≡ Refusal.Memory) }
     {
         if widths.from == 0 || self.width != widths.from {
-            let cut = CutLines::none(alloc);
-            return Ok(CutShown {
-                shown: Remembered::nothing(alloc),
-                heights: cut.heights,
-            });
+            return Ok(CutLines::none(alloc));
         }
-        self.cut_known(alloc, widths)
-    }
-
-    /// The same where they are remembered. Refused: `Memory`.
-    fn cut_known(&self, alloc: Global, widths: Widths) -> Result<CutShown, Refusal>
-        requires some { 0 < widths.from }
-        requires known { self.now.width ≡ widths.from }
-        ensures cut { IfOk result (λ c. IsShownCut widths.from widths.to self.now c.shown c.heights.items) }
-        ensures memory { IfErr result (λ e. e ≡ Refusal.Memory) }
-    {
         let mut cut = CutLines::none(alloc);
-        cut.add_lines(alloc, &self.kept, widths)?;
-        let kept = replace(&mut cut.lines, Vec::new(alloc));
-        cut.add_lines(alloc, &self.lines, widths)?;
-        let shown = Remembered {
-            width: widths.to,
-            kept,
-            lines: cut.lines,
-        };
-        Ok(CutShown {
-            shown,
-            heights: cut.heights,
-        })
+        cut.add_lines(alloc, self.lines.as_slice(), widths)?;
+        Ok(cut)
     }
 }
 

@@ -1,10 +1,11 @@
 //! Frames whose lines stand in as many rows as those of the last drawing, so that a draw writes the lines that changed, and keeps
 //! all counts.
-ghost use Rattle.std.specs.Prelude.{◌≡◌, ◌<◌, ◌≤◌, true, ◌++◌, ◌∷◌, [], ℕ, List, get_or, IsTrue, IsFalse, IfSome, chars, map, length, string_bytes};
-ghost use Rattle.indicatif_text.specs.Columns.{has_wide, rows_of, last_columns};
+ghost use Rattle.std.specs.Prelude.{◌≡◌, ◌<◌, true, ◌++◌, ◌∷◌, [], ℕ, List, get_or, IsTrue, IsFalse, IfSome, chars, map, length, string_bytes};
+ghost use Rattle.indicatif_text.specs.Columns.{has_wide, rows_of};
 ghost use Rattle.indicatif_term.specs.Lists.{BarRows, lines_of};
 ghost use Rattle.indicatif_term.specs.Frames.{bar_lines, line_text, all_lines, some_wide};
 ghost use Rattle.indicatif_term.specs.Standing.{texts, IsLine, AreLines};
+ghost use Rattle.indicatif_term.specs.Remembered.{live_lines};
 ghost use Rattle.indicatif_term.specs.Inside.Plans.{IsSummed, IsLaidOut, frame_lines};
 ghost use Rattle.indicatif_term.specs.Inside.Renewed.{IsNew, ComesIn, FitsIn, AreFitting, AreInPlace, AreOver, AreCompared, IsSettled, IsRenewed, renewed};
 
@@ -139,10 +140,10 @@ fn is_same_frame(
     requires settled { IsSettled window.columns window.rows last.counts.now last.shown.now }
     requires summed { IsSummed window.rows made.old.plan }
     requires laid { IsLaidOut window.rows [] made.old.plan }
-    requires compared { AreCompared window.columns last.shown.now.lines.items made.old.changed.items [] made.old.plan }
+    requires compared { AreCompared window.columns (live_lines last.shown.now) made.old.changed.items [] made.old.plan }
     ensures { IsTrue result → IsRenewed window.columns window.rows frame.now last.entry.counts.now last.entry.shown.now made.new.changed.items }
 {
-    let standing = last.shown.lines.as_slice();
+    let standing = last.shown.live();
     if !compare_frame(made, spare, standing, frame, window) || made.plan.lines != standing.len() {
         return false;
     }
@@ -321,12 +322,12 @@ fn are_same_counts(a: &[RowCount], b: &[RowCount]) -> bool
 }
 
 /// Puts new lines in the place of those that stand, the room of which becomes spare; the others stay.
-pub fn put_new(lines: &mut Vec<StandingLine>, spare: &mut Spare, changed: Vec<NewLine>)
-    requires within { (w : ℕ) × AreFitting w lines.old.items (length lines.old.items) changed.items }
-    ensures texts { texts lines.new.items ≡ renewed (texts lines.old.items) changed.items }
-    ensures in_place { (w : ℕ) → AreLines w lines.old.items → AreFitting w lines.old.items (length lines.old.items) changed.items →
-        AreInPlace w lines.old.items lines.new.items }
-    ensures over { (w : ℕ) → AreFitting w lines.old.items (length lines.old.items) changed.items → AreOver w lines.old.items lines.new.items }
+pub fn put_new(lines: &mut [StandingLine], spare: &mut Spare, changed: Vec<NewLine>)
+    requires within { (w : ℕ) × AreFitting w lines.old (length lines.old) changed.items }
+    ensures texts { texts lines.new ≡ renewed (texts lines.old) changed.items }
+    ensures in_place { (w : ℕ) → AreLines w lines.old → AreFitting w lines.old (length lines.old) changed.items →
+        AreInPlace w lines.old lines.new }
+    ensures over { (w : ℕ) → AreFitting w lines.old (length lines.old) changed.items → AreOver w lines.old lines.new }
 {
     leave_all(lines);
     let mut changed = changed;
@@ -337,10 +338,10 @@ pub fn put_new(lines: &mut Vec<StandingLine>, spare: &mut Spare, changed: Vec<Ne
 }
 
 /// All lines stay.
-fn leave_all(lines: &mut Vec<StandingLine>)
-    ensures texts { texts lines.new.items ≡ texts lines.old.items }
-    ensures in_place { (w : ℕ) → AreLines w lines.old.items → AreInPlace w lines.old.items lines.new.items }
-    ensures over { (w : ℕ) → AreOver w lines.old.items lines.new.items }
+fn leave_all(lines: &mut [StandingLine])
+    ensures texts { texts lines.new ≡ texts lines.old }
+    ensures in_place { (w : ℕ) → AreLines w lines.old → AreInPlace w lines.old lines.new }
+    ensures over { (w : ℕ) → AreOver w lines.old lines.new }
 {
     for at in 0..lines.len() {
         lines[at].step = Step::Leave;
@@ -348,12 +349,12 @@ fn leave_all(lines: &mut Vec<StandingLine>)
 }
 
 /// Puts a new line in its place.
-fn put_line(lines: &mut Vec<StandingLine>, spare: &mut Spare, line: NewLine)
-    requires within { line.at < length lines.old.items }
-    ensures texts { texts lines.new.items ≡ renewed (texts lines.old.items) (line ∷ []) }
-    ensures in_place { (w : ℕ) (on : List StandingLine) → AreInPlace w on lines.old.items → FitsIn w on (length on) line → AreInPlace w on lines.new.items }
-    ensures over { (w : ℕ) (on : List StandingLine) → AreOver w on lines.old.items → FitsIn w on (length on) line →
-        get_or (texts lines.old.items) line.at [] ≡ get_or (texts on) line.at [] → AreOver w on lines.new.items }
+fn put_line(lines: &mut [StandingLine], spare: &mut Spare, line: NewLine)
+    requires within { line.at < length lines.old }
+    ensures texts { texts lines.new ≡ renewed (texts lines.old) (line ∷ []) }
+    ensures in_place { (w : ℕ) (on : List StandingLine) → AreInPlace w on lines.old → FitsIn w on (length on) line → AreInPlace w on lines.new }
+    ensures over { (w : ℕ) (on : List StandingLine) → AreOver w on lines.old → FitsIn w on (length on) line →
+        get_or (texts lines.old) line.at [] ≡ get_or (texts on) line.at [] → AreOver w on lines.new }
 {
     let NewLine { at, text, turn } = line;
     let standing = &mut lines[at];

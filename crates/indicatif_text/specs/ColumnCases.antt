@@ -20,7 +20,7 @@ WideOneGoesDown = (length (rows_of 10 digits_and_a_wide_one) ≡ 3) × (last_col
 abbrev pub EmptyIsOneRow : Type 0
 EmptyIsOneRow = (length (rows_of 4 []) ≡ 1) × (last_columns 4 [] ≡ 0)
 
--- the first cell of a character without marks
+-- the first cell of a character that nothing joined
 abbrev pub cell : ℕ → Cell
 cell c = Written (record { base = c; marks = [] })
 
@@ -36,7 +36,7 @@ abbrev pub WideRows : Type 0
 WideRows = (rows_of 3 (codes "ab" ++ 0x56FD ∷ codes "c") ≡ (cell 0x61 ∷ cell 0x62 ∷ Blank ∷ []) ∷ (cell 0x56FD ∷ Continued ∷ cell 0x63 ∷ []) ∷ [])
     × (rows_of 2 (0x56FD ∷ []) ≡ (cell 0x56FD ∷ Continued ∷ []) ∷ [])
 
--- a mark joins the character before it, also behind a colour and at a row's end; one before any character is left out
+-- a zero-width character joins the one before it, also behind a colour and at a row's end; one before any character is left out
 abbrev pub MarkedRows : Type 0
 MarkedRows = (rows_of 3 (0x308 ∷ codes "a" ++ 0x308 ∷ 0x301 ∷ codes "b") ≡ (Written (record { base = 0x61; marks = 0x308 ∷ 0x301 ∷ [] }) ∷ cell 0x62 ∷ Blank ∷ []) ∷ [])
     × (rows_of 1 (codes "a" ++ escape ++ codes "[1m" ++ 0x308 ∷ codes "b") ≡ (Written (record { base = 0x61; marks = 0x308 ∷ [] }) ∷ []) ∷ (cell 0x62 ∷ []) ∷ [])

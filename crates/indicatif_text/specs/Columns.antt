@@ -45,7 +45,7 @@ columns_of text = sum_by width_of (visible text)
 
 -- ---- rows
 
--- a character that takes columns, with the characters of none that follow it
+-- a character that takes columns, with the zero-width characters that follow it: those that take none, as combining marks and joiners
 pub record Glyph : Type 0 where
   pub base : ℕ
   pub marks : List ℕ
@@ -54,7 +54,7 @@ pub record Glyph : Type 0 where
 abbrev pub glyph_width : Glyph → ℕ
 glyph_width g = width_of g.base
 
--- visible characters as glyphs; those of no columns before any other are left out
+-- visible characters as glyphs; zero-width ones before any other are left out
 abbrev pub glyphs_of : List ℕ → List Glyph
 glyphs_of [] = []
 glyphs_of (c ∷ cs) =

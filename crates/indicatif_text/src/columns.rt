@@ -77,8 +77,8 @@ pub struct Metrics {
 
 /// How many rows `line` takes on a terminal of `width` columns, and how many columns of the last one.
 ///
-/// Colour sequences (ESC `[`, digits and semicolons, `m`) take no columns; a character of no columns joins the one
-/// before it. Widths are those of Unicode's East Asian Width (UAX #11), character by character. One pass, no memory.
+/// Colour sequences (ESC `[`, digits and semicolons, `m`) take no columns. A zero-width character (a combining mark, a joiner) takes none
+/// either, and joins the one before it. Widths are those of Unicode's East Asian Width (UAX #11), character by character. One pass, no memory.
 ///
 /// Refused: `NoColumns` where `width` is 0, `TooWide` where a visible character is wider than `width`.
 ///

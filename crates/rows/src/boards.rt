@@ -3,7 +3,7 @@ use indicatif_bar::style::NoTracker;
 use indicatif_board::multi::{BarId, Board, Candidate, InsertLocation};
 use indicatif_term::draw_target::MultiProgressAlignment;
 use indicatif_text::columns::{Drawn, Refusal};
-use scripts::boards::{BOARD_ID, bar_id, board_call, candidate, of_bar, placed, push_answer};
+use scripts::boards::{MARK, bar_id, board_call, candidate, of_bar, placed, push_answer};
 use scripts::commands::command;
 use scripts::got::{Bad, Got};
 use scripts::lone::read_bar;
@@ -27,7 +27,7 @@ pub struct OnScreen {
 pub fn begin(rest: &str, at: At) -> Result<Box<OnScreen>, Bad> {
     let mut words = Words::of(rest);
     let (screen, target) = screen::begin(&mut words, at)?;
-    let mut board = Board::new(at.alloc, target.0, BOARD_ID);
+    let mut board = Board::new(at.alloc, target.0, MARK);
     match words.rest() {
         "" => (),
         "bottom" => board.set_alignment(MultiProgressAlignment::Bottom),
@@ -206,7 +206,7 @@ fn take_in(
             got.text(bar.message());
         }
         Candidate::Member(id) => {
-            got.text(if id.board == BOARD_ID { " =" } else { " =x" });
+            got.text(if id.mark == MARK { " =" } else { " =x" });
             got.number(id.number);
         }
     }

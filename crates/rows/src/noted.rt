@@ -4,7 +4,7 @@ use indicatif_bar::style::NoTracker;
 use indicatif_board::multi::Board;
 use indicatif_term::draw_target::ProgressDrawTarget;
 use indicatif_term::in_memory::InMemoryTerm;
-use scripts::boards::{BOARD_ID, candidate, of_bar};
+use scripts::boards::{MARK, candidate, of_bar};
 use scripts::commands::command;
 use scripts::got::{Bad, Got};
 use scripts::row::{At, Words, headed};
@@ -18,7 +18,7 @@ pub struct OnNoted(Board<NoTracker, InMemoryTerm>);
 pub fn begin(rest: &str, at: At) -> Result<Box<OnNoted>, Bad> {
     let (rows, cols) = next_size(&mut Words::of(rest))?;
     let target = ProgressDrawTarget::term_like(InMemoryTerm::new(at.alloc, rows, cols)?);
-    at.boxed(OnNoted(Board::new(at.alloc, target, BOARD_ID)))
+    at.boxed(OnNoted(Board::new(at.alloc, target, MARK)))
 }
 
 impl OnNoted {

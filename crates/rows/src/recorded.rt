@@ -2,7 +2,7 @@
 use indicatif_bar::style::NoTracker;
 use indicatif_board::multi::Recorded;
 use indicatif_text::columns::Moment;
-use scripts::boards::{BOARD_ID, board_call, of_bar, push_answer};
+use scripts::boards::{MARK, board_call, of_bar, push_answer};
 use scripts::got::{Bad, Got};
 use scripts::lone::read_bar;
 use scripts::row::{At, Words};
@@ -21,7 +21,7 @@ pub struct OnScreen {
 /// `recorded ROWS COLS RATE`: on a new screen. A rate of 0 is none. `recorded hidden`: on none.
 pub fn begin(rest: &str, at: At) -> Result<Box<OnScreen>, Bad> {
     let (screen, target) = screen::begin(&mut Words::of(rest), at)?;
-    let board = Recorded::new(at.alloc, target.0, BOARD_ID);
+    let board = Recorded::new(at.alloc, target.0, MARK);
     at.boxed(OnScreen { board, screen })
 }
 

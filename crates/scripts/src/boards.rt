@@ -9,17 +9,17 @@ use indicatif_board::multi::{Answer, BarId, Call, Candidate, InsertLocation};
 use indicatif_term::draw_target::MultiProgressAlignment;
 use std::alloc::Global;
 
-/// The id of the board that rows speak of.
-pub const BOARD_ID: u64 = 1;
+/// The mark of the board that rows speak of.
+pub const MARK: u64 = 1;
 
 /// The bar of a number; that of another board behind `x`.
 pub fn bar_id(text: &str) -> Result<BarId, Bad> {
-    let (board, digits) = match text.strip_prefix('x') {
-        Some(rest) => (BOARD_ID + 1, rest),
-        None => (BOARD_ID, text),
+    let (mark, digits) = match text.strip_prefix('x') {
+        Some(rest) => (MARK + 1, rest),
+        None => (MARK, text),
     };
     let number = number(digits)?;
-    Ok(BarId { board, number })
+    Ok(BarId { mark, number })
 }
 
 /// The bar that a step speaks of, as in `0: tick`, and what follows.
@@ -84,7 +84,7 @@ fn next_bar(words: &mut Words<'_>) -> BarId {
     words.value(
         id,
         BarId {
-            board: BOARD_ID,
+            mark: MARK,
             number: 0,
         },
     )

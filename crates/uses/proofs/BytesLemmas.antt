@@ -1,8 +1,11 @@
 -- The bytes that a terminal behind a writer is known to have got.
-use Rattle.std.proofs.Common.{◌≡◌, ◌≤◌, ◌-◌, ◌+◌, ◌++◌, ◌∷◌, Bool, ℕ, List, [], Option, Some, None, IfSome, option_map, length, map, take, refl, sym, ◌∙◌, ap, arith}
+use Rattle.std.proofs.Common.{◌≡◌, ◌≤◌, ◌-◌, ◌+◌, ◌++◌, ◌∷◌, Bool, true, Result, Ok, Err, ℕ, List, [], Option, Some, None, IfSome, option_map, length, map, take, refl, sym, ◌∙◌, ap, arith}
+use Rattle.std.specs.Prelude.{IsTrue, IfOk}
 use Rattle.std.proofs.Math.Seq.{take-append-add}
+use Rattle.indicatif_text.specs.declared.refusal.Refusal.{Refusal}
 use Rattle.indicatif_text.specs.Columns.{Cell}
 use Rattle.indicatif_term.specs.Calls.{TermView, Told, Bytes, led_on}
+use Rattle.indicatif_term.specs.Calm.{is_quiet}
 use Rattle.indicatif_term.specs.Engines.{Paints}
 use Rattle.indicatif_term.specs.Lists.{Lists}
 use Rattle.indicatif_term.specs.CellCases.{AnyCut}
@@ -19,6 +22,13 @@ bytes_told items_of (Some t) v items bytes known_is told is =
     let e : view_behind (λ w. Some (items_of w)) t ≡ v = cc in
     let f : Bytes items ≡ Bytes bytes = ap Bytes (sym is) ∙ ap (λ u. u.told) e ∙ told in
     cc
+
+-- bytes of a terminal that tells quiet ones are quiet
+pub quiet_told : {W A : Type 0} (items_of : W → List ℕ) (bytes_of : A → List ℕ) (o : Option (WriterTerm W)) (v : TermView) (bytes : List ℕ) (result : Result A Refusal) →
+    option_map (view_behind (λ w. Some (items_of w))) o ≡ Some v → v.told ≡ Bytes bytes → is_quiet bytes ≡ true → IfOk result (λ a. IfSome o (λ t. items_of t.writer ≡ bytes_of a)) →
+    IfOk result (λ a. IsTrue (is_quiet (bytes_of a)))
+quiet_told items_of bytes_of o v bytes (Ok a) known_is told quiet is = ap is_quiet (bytes_told items_of o v (bytes_of a) bytes known_is told is) ∙ quiet
+quiet_told items_of bytes_of o v bytes (Err e) known_is told quiet is = tt
 
 -- a beginning that goes past the first of two parts
 pub cut_at : AnyCut → (t : Terminal) (a b bytes : List ℕ) (k : ℕ) → bytes ≡ a ++ b → length a ≤ k → after t (take k bytes) ≡ after (after t a) (take (k - length a) b)

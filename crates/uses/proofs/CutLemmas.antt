@@ -1,5 +1,5 @@
 -- What a size between two logs of fixed texts leaves on a new board.
-use Rattle.std.proofs.Common.{◌≡◌, List, [], ◌∷◌, ℕ, map, take, refl, sym, subst, ap, ◌∙◌, None, inl, inr, arith}
+use Rattle.std.proofs.Common.{◌≡◌, List, [], ◌∷◌, ℕ, map, take, refl, sym, subst, ap, ◌∙◌, None, arith}
 use Rattle.std.specs.Prelude.{codes, false, All}
 use Rattle.std.specs.Str.{chars}
 use Rattle.std.proofs.Math.Utf8.{encode}
@@ -19,6 +19,7 @@ use Rattle.indicatif_bar.specs.Scripts.{sized}
 use Rattle.indicatif_bar.specs.StyleLaws.{IsPlainText}
 use Rattle.indicatif_bar.specs.Trackers.{Tracking}
 use Rattle.indicatif_bar.specs.Commands.{BarRecord, Command}
+use Rattle.indicatif_bar.proofs.RunLemmas.{made_of}
 use Rattle.indicatif_board.specs.Boards.{BoardState, Call, Log, Answer, Drew, opening_board}
 use Rattle.indicatif_board.specs.Multi.{board_sizing}
 use Rattle.indicatif_board.specs.PlainBoardLaws.{IsPlainCall}
@@ -43,9 +44,7 @@ module _ {K : Type 0} (m : Tracking K) where
   -- a log that was answered well comes to that
   made_on : (target : Target) (text : List ℕ) (s next : BoardState (BarRecord K)) (answered : Drawn) →
       Leads (machine m) target s ((machine m).deed target (Log text) 0 s) (Drew answered) next → (Drew answered, next) ≡ done_on target text s
-  made_on target text s next answered (inl made) = made
-  made_on target text s next answered (inr (inl short)) = absurd (let q = short.0 in cc q)
-  made_on target text s next answered (inr (inr broken)) = absurd (let q = broken.1 in cc q)
+  made_on target text s next answered led = sym (made_of (machine m) target s ((machine m).deed target (Log text) 0 s) (Drew answered) next led refl)
 
   -- the rows after both read as the first name, cut, and the other one
   pub cut_names_read : (x next : BoardState (BarRecord K)) (one other : Drawn) →

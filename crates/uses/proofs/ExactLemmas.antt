@@ -113,7 +113,7 @@ is_there true there e = absurd (cc e)
 is_there false true e = refl
 is_there false false e = absurd (cc e)
 
-module _ {K : Type 0} (m : Tracking K) (board_id now : ℕ) (s : BoardState (BarRecord K)) (answer : Result Drawn Refusal) where
+module _ {K : Type 0} (m : Tracking K) (mark now : ℕ) (s : BoardState (BarRecord K)) (answer : Result Drawn Refusal) where
   member_asks : (number : ℕ) (members : List (Member (BarRecord K))) → is_member number members ≡ true → is_no (said_of No (λ bar. (obeyed m TickerTick bar now).1) number members) ≡ false
   member_asks number [] e = absurd (false≢true e)
   member_asks number (x ∷ xs) e =
@@ -125,17 +125,17 @@ module _ {K : Type 0} (m : Tracking K) (board_id now : ℕ) (s : BoardState (Bar
   no_refusal e w l = let q = sym (drawn_of_said answer) ∙ ap drawn_of w in let z = sym l ∙ q in cc
 
   unlimited_draw : (target : Target) (away refused : Option Refusal) (d : Draw (BoardState (BarRecord K))) → (away ≡ None → is_no d.ask ≡ false) → d.allowed ≡ true →
-      DecidedBy (board (board_bars m) board_id) target (or_refused away (or_refused refused (draws d) s) s) (says answer) → answer ≡ Ok Limited → ⊥
+      DecidedBy (board (board_bars m) mark) target (or_refused away (or_refused refused (draws d) s) s) (says answer) → answer ≡ Ok Limited → ⊥
   unlimited_draw target (Some e) refused d asked free w l = no_refusal e w l
   unlimited_draw target None (Some e) d asked free w l = no_refusal e w l
   unlimited_draw target None None d asked free w l =
       elim (w.limited.0 (drawn_of_said answer ∙ l)) [ inl unasked ↦ false≢true (sym (asked refl) ∙ unasked) | inr held ↦ false≢true (sym held.1 ∙ free) ]
 
-  pub unlimited_on : (id : Id) (old new : Option TermView) → Says (board (board_bars m) board_id) old new (Tell id TickerTick, now) s (says answer) → s.limiter ≡ None → answer ≡ Ok Limited → ⊥
+  pub unlimited_on : (id : Id) (old new : Option TermView) → Says (board (board_bars m) mark) old new (Tell id TickerTick, now) s (says answer) → s.limiter ≡ None → answer ≡ Ok Limited → ⊥
   unlimited_on id old new w free l =
       let target = target_of old in
       let d = draw_of_command (board_bars m) target id.number TickerTick now s in
-      unlimited_draw target (turned_away board_id id s) (said_of None (λ bar. (bar_kind m).refused TickerTick bar now) id.number s.members) d
+      unlimited_draw target (turned_away mark id s) (said_of None (λ bar. (bar_kind m).refused TickerTick bar now) id.number s.members) d
       (λ away. member_asks id.number s.members (is_there _ _ away)) (is_free d.ask now s.limiter free) (w.decided (λ q. let z = sym (drawn_of_said answer ∙ l) ∙ q in cc)) l
 
 -- ---- who leaves a board
@@ -163,14 +163,14 @@ module _ {S X : Type 0} (f : S → X) (target : Target) (d : Draw S) where
       (λ k. cond_both (not d.allowed) (Ok Limited, d.ready) _ P (λ h. λ q. absurd cc)
       (λ h. cond_both (some_wide target.columns d.lines) (Err TooWide, d.ready) (Ok Yes, d.written) P (λ g. λ q. absurd cc) (λ g. λ q. refl)))))
 
-module _ {K : Type 0} (m : Tracking K) (board_id now : ℕ) (s : BoardState (BarRecord K)) (answer : Result Drawn Refusal) where
-  board_ample : (old new : Option TermView) → Says (board (board_bars m) board_id) old new (ClearBoard, now) s (says answer) → drawn_of (says answer) ≡ Err Memory → ⊥
+module _ {K : Type 0} (m : Tracking K) (mark now : ℕ) (s : BoardState (BarRecord K)) (answer : Result Drawn Refusal) where
+  board_ample : (old new : Option TermView) → Says (board (board_bars m) mark) old new (ClearBoard, now) s (says answer) → drawn_of (says answer) ≡ Err Memory → ⊥
   board_ample old new w e = never_both (comes_to_lines (target_of old) (draw_of (target_of old) false Forced now NoFrame s s false)) false refl (w.memory e)
 
-  pub board_cleared_ample : (old new : Option TermView) → Says (board (board_bars m) board_id) old new (ClearBoard, now) s (says answer) → answer ≡ Err Memory → ⊥
+  pub board_cleared_ample : (old new : Option TermView) → Says (board (board_bars m) mark) old new (ClearBoard, now) s (says answer) → answer ≡ Err Memory → ⊥
   board_cleared_ample old new w e = board_ample old new w (drawn_of_said answer ∙ e)
 
-  pub board_cleared_so : (v : TermView) (new : Option TermView) → Says (board (board_bars m) board_id) (Some v) new (ClearBoard, now) s (says answer) → v.columns ≢ 0 →
+  pub board_cleared_so : (v : TermView) (new : Option TermView) → Says (board (board_bars m) mark) (Some v) new (ClearBoard, now) s (says answer) → v.columns ≢ 0 →
       (answer ≡ Ok Yes) ⊎ (is_failure answer ≡ true)
   board_cleared_so v new w wide =
       let d = draw_of (target_of (Some v)) false Forced now NoFrame s s false in
@@ -179,7 +179,7 @@ module _ {K : Type 0} (m : Tracking K) (board_id now : ℕ) (s : BoardState (Bar
 
   module _ (target : Target) (next : BoardState (BarRecord K)) where
     abbrev pub Clears : Type 0
-    Clears = Leads (board (board_bars m) board_id) target s ((board (board_bars m) board_id).deed target ClearBoard now s) (says answer) next
+    Clears = Leads (board (board_bars m) mark) target s ((board (board_bars m) mark).deed target ClearBoard now s) (says answer) next
 
     said : (r : Result Drawn Refusal) → says answer ≡ says r → answer ≡ r
     said r e = sym (drawn_of_said answer) ∙ ap drawn_of e ∙ drawn_of_said r

@@ -77,9 +77,9 @@ module _ {K : Type 0} (m : Tracking K) (now : ℕ) (s next : LoneState (BarRecor
   forced_narrow rows (inr (inr broken)) = absurd (let q = broken.2.0 in cc q)
 
 -- the same of a board whose bars are drawn
-module _ {K : Type 0} (m : Tracking K) (board_id now : ℕ) (s next : BoardState (BarRecord K)) (answer : Result Drawn Refusal) where
+module _ {K : Type 0} (m : Tracking K) (mark now : ℕ) (s next : BoardState (BarRecord K)) (answer : Result Drawn Refusal) where
   abbrev pub Redraws : Target → Type 0
-  Redraws target = Leads (board (board_bars m) board_id) target s ((board (board_bars m) board_id).deed target Redraw now s) (says answer) next
+  Redraws target = Leads (board (board_bars m) mark) target s ((board (board_bars m) mark).deed target Redraw now s) (says answer) next
 
   said : (r : Result Drawn Refusal) → says answer ≡ says r → answer ≡ r
   said r e = sym (drawn_of_said answer) ∙ ap drawn_of e ∙ drawn_of_said r

@@ -3,8 +3,7 @@ use Rattle.std.proofs.Common.{◌≡◌, ℕ, ◌+◌, ◌%◌, ◌<◌, Option,
 use Rattle.std.proofs.Math.Nat.{mod-add-mod}
 use Rattle.indicatif_text.specs.declared.refusal.Refusal.{Refusal}
 use Rattle.indicatif_text.specs.declared.refusal.Drawn.{Drawn}
-use Rattle.indicatif.specs.Moves.{Standing, Goes, after_bar_move}
-use Rattle.indicatif.specs.declared.moves.Move.TheVariants.{Advance}
+use Rattle.indicatif.specs.Moves.{Standing, Goes, after_bar_move, Advance}
 
 -- from the first to the second a bar that tells where it stands went on by so many
 abbrev pub WentOn : Option Standing → Option Standing → ℕ → Type 0

@@ -1,5 +1,5 @@
 -- What two logs of fixed texts leave on a new board.
-use Rattle.std.proofs.Common.{◌≡◌, ℕ, List, [], ◌∷◌, map, arith, refl, sym, ◌∙◌, ap, Option, Some, None, inl, inr}
+use Rattle.std.proofs.Common.{◌≡◌, ℕ, List, [], ◌∷◌, map, arith, refl, sym, ◌∙◌, ap, None}
 use Rattle.std.specs.Prelude.{codes, false, All}
 use Rattle.std.specs.Int.{IsInRange}
 use Rattle.std.specs.List.{AllByRecursion}
@@ -19,6 +19,7 @@ use Rattle.indicatif_text.specs.ColumnLaws.{PrintedIsPlain}
 use Rattle.indicatif_bar.specs.StyleLaws.{IsPlainText}
 use Rattle.indicatif_bar.specs.Trackers.{Tracking}
 use Rattle.indicatif_bar.specs.Commands.{BarRecord, Command}
+use Rattle.indicatif_bar.proofs.RunLemmas.{made_of}
 use Rattle.indicatif_board.specs.Boards.{BoardState, Call, Log, Answer, Drew, board, opening_board}
 use Rattle.indicatif_board.specs.BoardBars.{board_bars}
 use Rattle.indicatif_board.specs.PlainBoardLaws.{IsPlainCall}
@@ -48,9 +49,7 @@ module _ {K : Type 0} (m : Tracking K) where
   -- a log that was answered well comes to that
   pub log_made : (text : List ℕ) (s next : BoardState (BarRecord K)) (answered : Drawn) → Leads machine small s (machine.deed small (Log text) 0 s) (Drew answered) next →
       (Drew answered, next) ≡ log_done text s
-  log_made text s next answered (inl made) = made
-  log_made text s next answered (inr (inl short)) = absurd (let q = short.0 in cc q)
-  log_made text s next answered (inr (inr broken)) = absurd (let q = broken.1 in cc q)
+  log_made text s next answered led = sym (made_of machine small s (machine.deed small (Log text) 0 s) (Drew answered) next led refl)
 
   -- the rows after both read as the names
   pub names_read : (x next : BoardState (BarRecord K)) (one other : Drawn) →

@@ -1,5 +1,5 @@
 -- What a bar that says something leaves, with a line logged above it: a lone one, and one on a board.
-use Rattle.std.proofs.Common.{◌≡◌, ℕ, List, [], ◌∷◌, map, refl, sym, ◌∙◌, ap, Option, Some, None, Result, Ok, Err, inl, inr, true}
+use Rattle.std.proofs.Common.{◌≡◌, ℕ, List, [], ◌∷◌, map, refl, sym, ◌∙◌, ap, Option, Some, None, Result, Ok, inl, inr, true}
 use Rattle.std.specs.Prelude.{codes, false}
 use Rattle.std.proofs.lemmas.Bool.{false≢true}
 use Rattle.std.specs.Str.{chars}
@@ -22,6 +22,7 @@ use Rattle.indicatif_bar.specs.Trackers.{Tracking}
 use Rattle.indicatif_bar.specs.Commands.{BarRecord, Command, SetMessage, new_bar}
 use Rattle.indicatif_bar.specs.Lone.{LoneState, LoneCall, Obey, Log, opening_state}
 use Rattle.indicatif_bar.specs.LoneBars.{lone_bar}
+use Rattle.indicatif_bar.proofs.RunLemmas.{made_of}
 use Rattle.indicatif_board.specs.Boards.{BoardState, Id, End, New, Call, Insert, Tell, Log as LogOn, Answer, Given, Drew, opening_board}
 use Rattle.uses.proofs.PlainLemmas.{first_name, small, machine}
 
@@ -72,9 +73,7 @@ module _ {K : Type 0} (m : Tracking K) where
 
   -- one that was answered well comes to that
   lone_made : (call : LoneCall (Command K)) (s next : LoneState (BarRecord K)) (answered : Drawn) → LoneLed call s answered next → next ≡ (lone_done call s).1
-  lone_made call s next answered (inl made) = ap (λ o. o.1) made
-  lone_made call s next answered (inr (inl short)) = absurd (let q = short.0 in cc q)
-  lone_made call s next answered (inr (inr broken)) = absurd (let q = broken.1 in cc q)
+  lone_made call s next answered led = ap (λ o. o.1) (sym (made_of (lone_bar m) small s ((lone_bar m).deed small call 0 s) (Ok answered) next led refl))
 
   module _ (ticks : List (List ℕ)) (x : LoneState (BarRecord K)) (one : Drawn) (led : LoneLed say (opening_state (message_bar ticks) None) one x) where
     -- the rows after both read as the name and the message
@@ -97,7 +96,7 @@ module _ {K : Type 0} (m : Tracking K) where
 -- ---- the same of a bar on a board
 
 abbrev pub own : Id
-own = record { board = 0; number = 0 }
+own = record { mark = 0; number = 0 }
 
 abbrev pub add_bar : {K : Type 0} → List (List ℕ) → Call (BarRecord K) (Command K)
 add_bar ticks = Insert End (New (message_bar ticks))
@@ -115,15 +114,12 @@ module _ {K : Type 0} (m : Tracking K) where
   BoardLed call s answer next = Leads (machine m) small s ((machine m).deed small call 0 s) answer next
 
   board_made : (call : Call (BarRecord K) (Command K)) (s next : BoardState (BarRecord K)) (answered : Drawn) → BoardLed call s (Drew answered) next → next ≡ (board_done call s).1
-  board_made call s next answered (inl made) = ap (λ o. o.1) made
-  board_made call s next answered (inr (inl short)) = absurd (let q = short.0 in cc q)
-  board_made call s next answered (inr (inr broken)) = absurd (let q = broken.1 in cc q)
+  board_made call s next answered led = ap (λ o. o.1) (sym (made_of (machine m) small s ((machine m).deed small call 0 s) (Drew answered) next led refl))
 
   module _ (ticks : List (List ℕ)) (x : BoardState (BarRecord K)) (id : Id) where
     taken_so : BoardLed (add_bar ticks) (opening_board None) (Given id) x → (Given id, x) ≡ board_done (add_bar ticks) (opening_board None)
     taken_so (inl made) = made
-    taken_so (inr (inl short)) = absurd (let q = short.0 in cc q)
-    taken_so (inr (inr broken)) = absurd broken.2
+    taken_so (inr short) = absurd (let q = short.0 in cc q)
 
     -- the first bar's number is 0
     pub taken_first : BoardLed (add_bar ticks) (opening_board None) (Given id) x → id ≡ own

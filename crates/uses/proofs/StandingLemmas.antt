@@ -32,9 +32,8 @@ pub headline_on : {S C A : Type 0} (m : Machine S C A) (calls : List (C × ℕ))
     (v' : TermView) × (new ≡ Some v') × Paints v v' (list_any (broke m) answers) (m.lists s) (m.lists next)
 headline_on m calls answers v None s new next run told head plain = absurd (cc)
 headline_on m calls answers v (Some w) s new next run told head plain =
-    let p = head plain in
     let same : w ≡ v = cc in
-    (p.0, p.1, subst (λ u. Paints u p.0 (list_any (broke m) answers) (m.lists s) (m.lists next)) same p.2)
+    (head.0, head.1, subst (λ u. Paints u head.0 (list_any (broke m) answers) (m.lists s) (m.lists next)) same (head.2 plain))
 
 -- rows above that a new terminal shows stay, after each byte of what is painted
 pub above_stays_at : (v v' : TermView) (broken : Bool) (l l' : Lists) (p : Paints v v' broken l l') (t : Terminal) → Placed v.columns v.rows l t × (safe_rows l t ≡ 0 + length l.above) → (k : ℕ) →

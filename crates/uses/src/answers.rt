@@ -12,7 +12,7 @@ ghost use Rattle.indicatif_board.specs.BoardBars.{board_bars};
 ghost use Rattle.indicatif_board.specs.Boards.{BoardState, Tell, says, board as board_of};
 ghost use Rattle.indicatif_board.specs.BoardValues.{id_of};
 ghost use Rattle.indicatif_board.specs.Members.{followers, order_of};
-ghost use Rattle.indicatif_board.specs.Multi.{IsIn, known, board_id_of, record_at, slots_of, terminal_of};
+ghost use Rattle.indicatif_board.specs.Multi.{IsIn, known, mark_of, record_at, slots_of, terminal_of};
 
 use indicatif_bar::laws::{a_lone_bar_is_limited, what_a_lone_bar_answers};
 use indicatif_bar::lone::{LoneBar, LoneCall};
@@ -108,8 +108,8 @@ pub fn tell_on<K: ProgressTracker, T: TermLike + Drop>(
     command: BarCommand<K>,
     now: Moment,
 ) -> Result<Drawn, Refusal>
-    ensures { (s : BoardState (BarRecord K)) × IsIn (board_id_of board.old) board.old s
-        × Says (board_of (board_bars K.means) (board_id_of board.old)) (known T.view board.old) (known T.view board.new) (Tell (id_of id) (command_of command), now) s (says result) }
+    ensures { (s : BoardState (BarRecord K)) × IsIn (mark_of board.old) board.old s
+        × Says (board_of (board_bars K.means) (mark_of board.old)) (known T.view board.old) (known T.view board.new) (Tell (id_of id) (command_of command), now) s (says result) }
 {
     let _in_some_state = board.order();
     what_a_board_answers::<K>();
@@ -127,11 +127,11 @@ pub fn take_bars_back<K: ProgressTracker, T: TermLike + Drop>(
     ensures failed { (term next : T) → terminal_of board.old ≡ Some term → terminal_of board.new ≡ Some next →
         (IsTrue (is_failure result) ↔ ((T.view next).faults ≢ (T.view term).faults)) }
     ensures memory { result ≢ Err Refusal.Memory }
-    ensures leave { result ≡ Ok Drawn.Yes → (s : BoardState (BarRecord K)) × IsIn (board_id_of board.old) board.old s
+    ensures leave { result ≡ Ok Drawn.Yes → (s : BoardState (BarRecord K)) × IsIn (mark_of board.old) board.old s
         × ((slots_of board.new).order ≡ order_of (followers s.members)) }
     ensures stay { result ≢ Ok Drawn.Yes → (slots_of board.new).order ≡ (slots_of board.old).order }
     ensures paints { (v : TermView) → known T.view board.old ≡ Some v →
-        (s : BoardState (BarRecord K)) × (next : BoardState (BarRecord K)) × IsIn (board_id_of board.old) board.old s × IsIn (board_id_of board.old) board.new next
+        (s : BoardState (BarRecord K)) × (next : BoardState (BarRecord K)) × IsIn (mark_of board.old) board.old s × IsIn (mark_of board.old) board.new next
         × (v' : TermView) × (known T.view board.new ≡ Some v') × Paints v v' (is_failure result) s.lists next.lists }
 {
     let _before = board.order();
@@ -147,7 +147,7 @@ pub fn stand_before<K: ProgressTracker, T: TermLike + Drop>(
     anchor: BarId,
     bar: BarState<K>,
 ) -> Result<BarId, Refusal>
-    ensures not_member { anchor.board ≡ board_id_of board.old → record_at anchor.number board.old ≡ None → (result ≡ Err Refusal.NotMember) × (board.new ≡ board.old) }
+    ensures not_member { anchor.mark ≡ mark_of board.old → record_at anchor.number board.old ≡ None → (result ≡ Err Refusal.NotMember) × (board.new ≡ board.old) }
 {
     match board.insert_before(anchor, Candidate::New(bar)) {
         Ok(id) => Ok(id),
@@ -160,7 +160,7 @@ pub fn stand_again<K: ProgressTracker, T: TermLike + Drop>(
     board: &mut Board<K, T>,
     id: BarId,
 ) -> Result<BarId, Refusal>
-    ensures not_member { id.board ≡ board_id_of board.old → record_at id.number board.old ≡ None → (result ≡ Err Refusal.NotMember) × (board.new ≡ board.old) }
+    ensures not_member { id.mark ≡ mark_of board.old → record_at id.number board.old ≡ None → (result ≡ Err Refusal.NotMember) × (board.new ≡ board.old) }
 {
     match board.add(Candidate::Member(id)) {
         Ok(id) => Ok(id),

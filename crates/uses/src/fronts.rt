@@ -5,8 +5,7 @@ ghost use Rattle.indicatif_text.specs.declared.refusal.Drawn.TheVariants.{Limite
 ghost use Rattle.indicatif_bar.specs.Commands.{Inc};
 ghost use Rattle.indicatif_bar.specs.Lone.{Obey};
 ghost use Rattle.indicatif.specs.Fronts.{CanAnswer};
-ghost use Rattle.indicatif.specs.Moves.{after_bar_move};
-ghost use Rattle.indicatif.specs.declared.moves.Move.TheVariants.{Advance};
+ghost use Rattle.indicatif.specs.Moves.{after_bar_move, Advance};
 ghost use Rattle.indicatif.specs.Wrap.{inner_of};
 
 use indicatif::laws::blocks_add_up;

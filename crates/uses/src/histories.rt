@@ -15,7 +15,7 @@ ghost use Rattle.indicatif_bar.specs.Runs.{is_undisturbed, Starts};
 ghost use Rattle.indicatif_board.specs.BoardBars.{board_bars};
 ghost use Rattle.indicatif_board.specs.Boards.{board, drawn_of, opening_board};
 ghost use Rattle.indicatif_board.specs.HistoryLaws.{AreUnbroken};
-ghost use Rattle.indicatif_board.specs.Multi.{board_id_of, known, record_at};
+ghost use Rattle.indicatif_board.specs.Multi.{mark_of, known, record_at};
 ghost use Rattle.indicatif_board.specs.PlainBoardLaws.{IsPlainCall};
 ghost use Rattle.indicatif_board.specs.Recorded.{IsOneRun, IsRun, calls_of, answers_of, untold};
 ghost use Rattle.uses.specs.Readings.{AreTextsOf};
@@ -63,7 +63,7 @@ pub fn step_kept<K: ProgressTracker, T: TermLike + Drop>(
     id: BarId,
     now: Moment,
 ) -> Answer
-    ensures { (bar : BarRecord K) → id.board ≡ board_id_of history.old.board → record_at id.number history.old.board ≡ Some bar →
+    ensures { (bar : BarRecord K) → id.mark ≡ mark_of history.old.board → record_at id.number history.old.board ≡ Some bar →
         ((history.new ≡ history.old) × (result ≡ Answer.Refused Refusal.Memory))
         ⊎ ((next : BarRecord K) × (record_at id.number history.new.board ≡ Some next) × (next.progress.position ≡ (bar.progress.position + 1) % 2 ^ 64)) }
 {
@@ -76,7 +76,7 @@ pub fn same_answers<K: ProgressTracker, T: TermLike + Drop>(
     one: &Recorded<K, T>,
     other: &Recorded<K, T>,
 )
-    ensures { (other.now.board_id ≡ one.now.board_id) → (other.now.limiter ≡ one.now.limiter) → (other.now.target ≡ one.now.target) →
+    ensures { (other.now.mark ≡ one.now.mark) → (other.now.limiter ≡ one.now.limiter) → (other.now.target ≡ one.now.target) →
         calls_of other.now.steps ≡ calls_of one.now.steps →
         All (λ answer. is_undisturbed (drawn_of answer) ≡ true) (answers_of one.now.steps) → All (λ answer. is_undisturbed (drawn_of answer) ≡ true) (answers_of other.now.steps) →
         answers_of other.now.steps ≡ answers_of one.now.steps }
@@ -105,7 +105,7 @@ pub fn log_kept<K: ProgressTracker, T: TermLike + Drop>(
 /// for each 50 milliseconds from its making to the last of them.
 pub fn unforced_are_few<K: ProgressTracker, T: TermLike + Drop>(history: &Recorded<K, T>)
     ensures { (run : IsOneRun K.means history.now) × ((making last : ℕ) → history.now.limiter ≡ Some (draw_limiter 20 making) →
-        let moments = unforced_draws (board (board_bars K.means) history.now.board_id) (calls_of history.now.steps) (answers_of history.now.steps)
+        let moments = unforced_draws (board (board_bars K.means) history.now.mark) (calls_of history.now.steps) (answers_of history.now.steps)
         (untold history.now.target 0 Other) (opening_board history.now.limiter) (untold history.now.target run.0 run.1) run.2.state run.2.runs in
         last_or None moments ≡ Some last → length moments ≤ 20 + (last - making) / 50000000) }
 {

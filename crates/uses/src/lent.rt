@@ -4,7 +4,7 @@ ghost use Rattle.std.specs.List.{list_any};
 ghost use Rattle.indicatif_bar.specs.Commands.{BarRecord};
 ghost use Rattle.indicatif_bar.specs.LoneBars.{record_of, lone_terminal};
 ghost use Rattle.indicatif_board.specs.Calls.{acts_on, call_of};
-ghost use Rattle.indicatif_board.specs.Multi.{board_id_of, record_at, terminal_of, OtherRecordsStay};
+ghost use Rattle.indicatif_board.specs.Multi.{mark_of, record_at, terminal_of, OtherRecordsStay};
 ghost use Rattle.indicatif_term.specs.Engines.{is_failure};
 
 use indicatif_bar::laws::what_a_lone_bar_answers;
@@ -100,7 +100,7 @@ pub fn step_on<K: ProgressTracker, T: TermLike + Drop>(
     id: BarId,
     now: Moment,
 ) -> Result<Drawn, Refusal>
-    ensures step { (bar : BarRecord K) → id.board ≡ board_id_of board.old → record_at id.number board.old ≡ Some bar →
+    ensures step { (bar : BarRecord K) → id.mark ≡ mark_of board.old → record_at id.number board.old ≡ Some bar →
         (next : BarRecord K) × (record_at id.number board.new ≡ Some next) × (next.progress.position ≡ (bar.progress.position + 1) % 2 ^ 64) }
     ensures others { OtherRecordsStay id.number board.old board.new }
 {
@@ -114,7 +114,7 @@ pub fn say_on<K: ProgressTracker, T: TermLike + Drop>(
     text: String,
     now: Moment,
 ) -> Result<Drawn, Refusal>
-    ensures message { (bar : BarRecord K) → id.board ≡ board_id_of board.old → record_at id.number board.old ≡ Some bar →
+    ensures message { (bar : BarRecord K) → id.mark ≡ mark_of board.old → record_at id.number board.old ≡ Some bar →
         (next : BarRecord K) × (record_at id.number board.new ≡ Some next) × ((next.progress.message ≡ string_bytes text) ⊎ (next ≡ bar)) }
     ensures others { OtherRecordsStay id.number board.old board.new }
 {
@@ -123,8 +123,8 @@ pub fn say_on<K: ProgressTracker, T: TermLike + Drop>(
 
 /// Whether a board that was lent answers for a bar; if not, no command reaches it.
 pub fn answers_for<K: ProgressTracker, T: TermLike + Drop>(board: &Board<K, T>, id: BarId) -> bool
-    ensures own { IsTrue result → id.board ≡ board_id_of board.now → IsTrue (is_some (record_at id.number board.now)) }
-    ensures absent { IsFalse result → id.board ≡ board_id_of board.now → record_at id.number board.now ≡ None }
+    ensures own { IsTrue result → id.mark ≡ mark_of board.now → IsTrue (is_some (record_at id.number board.now)) }
+    ensures absent { IsFalse result → id.mark ≡ mark_of board.now → record_at id.number board.now ≡ None }
 {
     board.bar(id).is_ok()
 }
@@ -136,7 +136,7 @@ pub fn stand_after<K: ProgressTracker, T: TermLike + Drop>(
     anchor: BarId,
     bar: BarState<K>,
 ) -> Result<BarId, Refusal>
-    ensures foreign { anchor.board ≢ board_id_of board.old → (result ≡ Err Refusal.ForeignBar) × (board.new ≡ board.old) }
+    ensures foreign { anchor.mark ≢ mark_of board.old → (result ≡ Err Refusal.ForeignBar) × (board.new ≡ board.old) }
 {
     match board.insert_after(anchor, Candidate::New(bar)) {
         Ok(id) => Ok(id),
@@ -151,7 +151,7 @@ pub fn play_on<K: ProgressTracker, T: TermLike + Drop>(
     calls: Vec<(Call<K>, Moment)>,
 ) -> Result<usize, Refusal>
     ensures count { IfOk result (λ n. n ≡ vec_len calls) }
-    ensures kept { (number : ℕ) (bar : BarRecord K) → IsFalse (list_any (λ call. acts_on (board_id_of board.old) number (call_of call.0)) calls.items) →
+    ensures kept { (number : ℕ) (bar : BarRecord K) → IsFalse (list_any (λ call. acts_on (mark_of board.old) number (call_of call.0)) calls.items) →
         record_at number board.old ≡ Some bar → record_at number board.new ≡ Some bar }
 {
     let answers = board.run(calls)?;

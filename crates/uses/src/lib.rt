@@ -14,7 +14,7 @@
 //! - `logs`: that a logged line stands, whatever is drawn after it.
 //! - `loops`: what a loop makes of the bar that shows its progress.
 //! - `lent`: what is known of a bar or a board that was lent.
-//! - `plain`: what stands where the texts are plain, with no premise on states.
+//! - `plain`: what stands, and what is written, where the texts are plain, with no premise on states.
 //! - `sizes`: that another size takes no memory where nothing stands.
 //! - `programs`: what a program prints, where its words and its input are known.
 //! - `sums`: what threads add up to.

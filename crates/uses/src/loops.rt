@@ -1,7 +1,6 @@
 //! What a loop makes of the bar that shows its progress.
 ghost use Rattle.std.specs.Prelude.{◌≡◌, ◌<◌, ◌^◌, Some, IfSome, IsTrue};
-ghost use Rattle.indicatif.specs.Moves.{after_bar_move};
-ghost use Rattle.indicatif.specs.declared.moves.Move.TheVariants.{Advance};
+ghost use Rattle.indicatif.specs.Moves.{after_bar_move, Advance};
 
 use indicatif::{Moves, ProgressBarIter};
 use std::vec::IntoIter;

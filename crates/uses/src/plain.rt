@@ -1,6 +1,7 @@
-//! What stands where the texts are plain, with no premise on what the calls lead to.
-ghost use Rattle.std.specs.Prelude.{◌≡◌, ◌≤◌, ◌∷◌, [], ℕ, List, Some, map, take, replicate, All, IfOk, IfSome, string_bytes, codes};
+//! What stands, and what is written, where the texts are plain, with no premise on what the calls lead to.
+ghost use Rattle.std.specs.Prelude.{◌≡◌, ◌≤◌, ◌∷◌, [], ℕ, List, Some, map, take, replicate, All, IfOk, IfSome, IsTrue, string_bytes, codes};
 ghost use Rattle.indicatif_term.specs.Calls.{TermView};
+ghost use Rattle.indicatif_term.specs.Calm.{is_quiet};
 ghost use Rattle.indicatif_term.specs.Engines.{Paints, is_failure};
 ghost use Rattle.indicatif_term.specs.Frames.{logged_lines};
 ghost use Rattle.indicatif_term.specs.Memory.{view_of};
@@ -32,7 +33,8 @@ use indicatif_board::multi::{BarId, Board, Call, Candidate};
 use indicatif_term::draw_target::ProgressDrawTarget;
 use indicatif_term::in_memory::InMemoryTerm;
 use indicatif_term::laws::{
-    a_new_terminal_is_an_opening, any_cut, what_is_shown_is_read, where_a_terminal_stands,
+    a_new_terminal_is_an_opening, any_cut, what_calm_bytes_hold, what_is_shown_is_read,
+    where_a_terminal_stands,
 };
 use indicatif_term::term_like::{Term, TermLike};
 use indicatif_text::columns::{Drawn, Moment, Refusal};
@@ -244,8 +246,34 @@ pub fn name_between_bytes(alloc: Global) -> Result<(usize, Vec<u8>), Refusal>
     Ok((slice.len(), all))
 }
 
+/// Any calls with plain texts on a new board behind a writer, whatever they answer, and the bytes that its terminal has got. No ASCII
+/// control character is among them but CR, LF, and ESC; behind each ESC stands `[`, CR or nothing.
+///
+/// Refused: `Memory`.
+pub fn bytes_are_quiet<K: ProgressTracker>(
+    alloc: Global,
+    calls: Vec<(Call<K>, Moment)>,
+) -> Result<Vec<u8>, Refusal>
+    ensures { All (λ call. IsPlainCall K.means call.0) (map timed calls.items) → IfOk result (λ bytes. IsTrue (is_quiet bytes.items)) }
+{
+    let writer = Vec::new(alloc);
+    let term = Term::new(writer, 4, 10);
+    let mut board: Board<K, Term<Vec<u8>>> = Board::new(
+        alloc,
+        ProgressDrawTarget::term_like(term),
+        0,
+    );
+    let _answers = board.run(calls)?;
+    plain_texts_give_plain_runs::<K>();
+    what_calm_bytes_hold();
+    bytes_of(alloc, &board)
+}
+
 /// What the terminal of a board has got.
-fn bytes_of(alloc: Global, board: &Board<NoTracker, Term<Vec<u8>>>) -> Result<Vec<u8>, Refusal>
+fn bytes_of<K: ProgressTracker>(
+    alloc: Global,
+    board: &Board<K, Term<Vec<u8>>>,
+) -> Result<Vec<u8>, Refusal>
     ensures { IfOk result (λ bytes. IfSome (terminal_of board.now) (λ term. term.writer.items ≡ bytes.items)) }
 {
     match board.term() {

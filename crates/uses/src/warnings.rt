@@ -3,7 +3,7 @@ ghost use Rattle.std.specs.Prelude.{◌≡◌, ◌⊎◌, ◌++◌, ◌∷◌, [
 ghost use Rattle.std.specs.Io.KnownBytes.{Appends};
 ghost use Rattle.indicatif_board.specs.Boards.{Log, says};
 ghost use Rattle.indicatif_board.specs.Bridge.{bridge_bytes};
-ghost use Rattle.indicatif_board.specs.Multi.{LeadsBy, RecordsStay, board_id_of};
+ghost use Rattle.indicatif_board.specs.Multi.{LeadsBy, RecordsStay, mark_of};
 
 use indicatif::written_if_hidden;
 use indicatif_bar::style::ProgressTracker;
@@ -26,7 +26,7 @@ pub fn warn_of_low_disk<K: ProgressTracker, T: TermLike + Drop>(
     ensures logged { LeadsBy K.means T.view board.old board.new (Log (codes "WARN  low disk")) now (says result)
         ⊎ ((result ≡ Err Refusal.Memory) × (board.new ≡ board.old)) }
     ensures records { RecordsStay board.old board.new }
-    ensures board_id { board_id_of board.new ≡ board_id_of board.old }
+    ensures mark { mark_of board.new ≡ mark_of board.old }
 {
     emit(alloc, board, Level::Warn, "low disk", now)
 }

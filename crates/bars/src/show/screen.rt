@@ -1,6 +1,6 @@
 //! The terminal's own file, or cells in its place.
-use indicatif::machine::{StreamSetup, StreamTerm, UntilGone, on_stream};
-use indicatif::{Cells, OwnRows, Refusal, Term};
+use indicatif::machine::{MachineClock, StreamSetup, StreamTerm, UntilGone, facts_of};
+use indicatif::{Cells, Clock, DEFAULT_RATE, OwnRows, ProgressDrawTarget, Refusal, Setup, Term};
 use std::alloc::Global;
 use std::fs::{self, File, OpenOptions};
 use std::io::{self, BufWriter, ErrorKind, IsTerminal, Write};
@@ -55,26 +55,46 @@ impl Write for Screen {
     }
 }
 
-/// A target on the terminal with its clock, if there is one that bars can be drawn on.
+/// A target on the terminal with its clock, if there is one that bars can be drawn on. `rt try` gives a program no variables: a terminal of
+/// whose kind nothing is told counts as one that has moves.
 pub fn on_terminal(rt: &HostRuntime) -> Result<Option<StreamSetup<Screen, HostRuntime>>, Refusal> {
     let Some(file) = terminal(rt) else {
         return Ok(None);
     };
-    let setup = on_stream(rt, Screen::Terminal(file))?;
-    if setup.target.is_hidden() {
+    let screen = Screen::Terminal(file);
+    let mut facts = facts_of(rt, &screen)?;
+    facts.cols = facts.cols.saturating_sub(1).max(1);
+    if facts.term.is_none() {
+        facts.term = Some(String::from_str(rt.alloc(), "ansi")?);
+    }
+    let (rows, cols) = (facts.rows, facts.cols);
+    let term = OwnRows::new(behind(rt.alloc(), screen, rows, cols)?);
+    let mut clock = MachineClock::new(*rt);
+    let target = ProgressDrawTarget::term(term, facts, DEFAULT_RATE, clock.now())?;
+    if target.is_hidden() {
         return Ok(None);
     }
-    Ok(Some(setup))
+    Ok(Some(Setup { target, clock }))
 }
 
 /// A terminal of cells.
 pub fn on_cells(alloc: Global) -> Result<StreamTerm<Screen>, Refusal> {
     let (rows, cols) = SIZE;
     let cells = Screen::Cells(Cells::new(alloc, rows, cols)?);
-    let Ok(buffered) = BufWriter::new(alloc, UntilGone::new(cells)) else {
-        return Err(Refusal::Memory);
-    };
-    Ok(OwnRows::left_to_terminal(Term::new(buffered, rows, cols)))
+    Ok(OwnRows::left_to_terminal(behind(alloc, cells, rows, cols)?))
+}
+
+/// A terminal behind a screen, written to in blocks.
+fn behind(
+    alloc: Global,
+    screen: Screen,
+    rows: u16,
+    cols: u16,
+) -> Result<Term<BufWriter<UntilGone<Screen>>>, Refusal> {
+    match BufWriter::new(alloc, UntilGone::new(screen)) {
+        Ok(buffered) => Ok(Term::new(buffered, rows, cols)),
+        Err(_) => Err(Refusal::Memory),
+    }
 }
 
 /// The file of this program's terminal. `rt try` starts a program without one: then that of the program that started it, if its standard

@@ -57,10 +57,7 @@ fn order_of_bars(rt: HostRuntime) {
     turn_away(rt, alloc, &mut board);
     stack(rt, alloc, &mut board);
     same!(rt; board.order(), [0, 2, 1].as_slice());
-    let elsewhere = BarId {
-        board: 0,
-        number: 1,
-    };
+    let elsewhere = BarId { mark: 0, number: 1 };
     holds!(rt; matches!(board.remove(elsewhere), Err(Refusal::ForeignBar)));
 }
 
@@ -77,10 +74,7 @@ fn take_in(rt: &impl Abort, alloc: Global, board: &mut Bars) -> BarId {
 
 /// Refuses a bar behind one of another board.
 fn turn_away(rt: &impl Abort, alloc: Global, board: &mut Bars) {
-    let id = BarId {
-        board: 9,
-        number: 0,
-    };
+    let id = BarId { mark: 9, number: 0 };
     let bar = bar_saying(rt, alloc, "b");
     if let Err(turned) = board.insert_after(id, Candidate::New(bar)) {
         let returned = turned.candidate;

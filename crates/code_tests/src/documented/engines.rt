@@ -1,7 +1,7 @@
 //! Examples of the engine, its lines and its limiter.
 use crate::checks::Granted;
 use indicatif_term::draw_target::{
-    Engine, Keep, LineType, MultiProgressAlignment, RateLimiter, Segment,
+    DEFAULT_RATE, Engine, Keep, LineType, MultiProgressAlignment, RateLimiter, Segment,
 };
 use indicatif_term::in_memory::InMemoryTerm;
 use std::alloc::Global;
@@ -58,7 +58,7 @@ fn terminal_of_a_new_size(rt: HostRuntime) {
 #[test]
 fn draws_of_a_limiter(rt: HostRuntime) {
     let rt = &rt;
-    let mut limiter = RateLimiter::new(20, 0).granted(rt);
+    let mut limiter = RateLimiter::new(DEFAULT_RATE, 0).granted(rt);
     let first = limiter.allow(0);
     let mut count = u64::from(first);
     for _ in 0..30u32 {

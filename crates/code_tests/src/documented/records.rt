@@ -1,5 +1,5 @@
 //! Examples of a bar's record, its style and a tracker. `values` has those of a room of lines, `keyed` that of a key of one's own.
-ghost use Rattle.std.specs.Prelude.{string_bytes};
+ghost use Rattle.std.specs.Prelude.{◌-◌, if◌then◌else◌, codes, decimal, nat_lt, string_bytes};
 
 use crate::checks::Granted;
 use crate::values::is_shown;
@@ -140,4 +140,38 @@ fn key_with_a_text(rt: HostRuntime) {
         .granted(rt);
     let bar = BarState::styled(alloc, style, None, 0).granted(rt);
     says(rt, &bar, "ready!");
+}
+
+/// Tells how many files of so many are left, and `done` behind the last.
+#[derive(Drop)]
+struct FilesLeft {
+    alloc: Global,
+    of: u64,
+}
+
+impl TellsText for FilesLeft {
+    ghost told_text = { λ files p now. if nat_lt p.position files.of then decimal (files.of - p.position) else codes "done" };
+
+    fn tell(&self, state: &ProgressState, _now: Moment) -> Result<String, Refusal> {
+        if state.pos() < self.of {
+            return Ok(format!(in self.alloc; "{}", self.of - state.pos())?);
+        }
+        Ok(String::from_str(self.alloc, "done")?)
+    }
+}
+
+/// A bar that says so at three positions.
+#[test]
+fn key_with_a_condition(rt: HostRuntime) {
+    let rt = &rt;
+    let alloc = rt.alloc();
+    let left = FnTracker::new(alloc, FilesLeft { alloc, of: 10 }).granted(rt);
+    let style = ProgressStyle::with_template(alloc, "{left}").granted(rt);
+    let style = style.with_key("left", left).expect(rt, "granted");
+    let mut bar = BarState::styled(alloc, style, Some(10), 0).granted(rt);
+    says(rt, &bar, "10");
+    bar.set_position(9, 0);
+    says(rt, &bar, "1");
+    bar.set_position(11, 0);
+    says(rt, &bar, "done");
 }

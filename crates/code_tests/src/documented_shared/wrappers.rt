@@ -3,7 +3,7 @@ use crate::checks::Granted;
 use crate::fronts::{Bar, setup};
 use futures::Stream;
 use indicatif::{
-    BarState, InMemoryTerm, LoneBar, Move, Moves, NoTracker, OwnedBar, ProgressBarIter,
+    BarState, InMemoryTerm, LoneBar, Moves, NoTracker, OwnedBar, ProgressBarIter,
     ProgressDrawTarget, ProgressIterator, Setup, StepClock,
 };
 use std::alloc::Global;
@@ -70,13 +70,13 @@ fn a_bar_of_its_own_is_moved(rt: HostRuntime) {
     let bar = own_of_two(rt, alloc);
     let (first, mut bar) = first_of(two_items(rt, alloc), bar);
     same!(rt; first, Some(7));
-    same!(rt; bar.reading().position, 1);
-    bar.make_move(Move::Advance(1)).granted(rt);
-    same!(rt; bar.reading().position, 2);
+    same!(rt; bar.position(), 1);
+    bar.advance(1).granted(rt);
+    same!(rt; bar.position(), 2);
     let (count, bar) = looped(two_items(rt, alloc), own_of_two(rt, alloc));
     same!(rt; count, 2);
-    same!(rt; bar.reading().position, 2);
-    holds!(rt; bar.reading().finished);
+    same!(rt; bar.position(), 2);
+    holds!(rt; bar.finished());
 }
 
 /// (Rows have all items of such lists.)

@@ -85,7 +85,10 @@ impl Frame {
     /// Another text of a line.
     fn rewrite(&mut self, at: usize, numbers: &mut Numbers) -> Result<(), Refusal> {
         if at < self.bars.len() {
-            let line = line(self.alloc, numbers)?;
+            let line = match numbers.below(2) {
+                0 => LineType::Bar(progress(self.alloc, numbers)?),
+                _ => line(self.alloc, numbers)?,
+            };
             let place = numbers.below(self.bars[at].lines.len());
             if place < self.bars[at].lines.len() {
                 self.bars[at].lines[place] = line;
@@ -127,6 +130,7 @@ fn line(alloc: Global, numbers: &mut Numbers) -> Result<LineType, Refusal> {
     Ok(match numbers.below(6) {
         0 => LineType::Empty,
         1 => LineType::Text(characters(alloc, numbers)?),
+        2 | 3 => LineType::Bar(progress(alloc, numbers)?),
         _ => LineType::Bar(characters(alloc, numbers)?),
     })
 }
@@ -138,6 +142,26 @@ fn text(alloc: Global, numbers: &mut Numbers) -> Result<String, Refusal> {
         text.push('\n')?;
         text.push_str(characters(alloc, numbers)?.as_str())?;
     }
+    Ok(text)
+}
+
+/// A progress bar in colours between narrow characters, as long as any other: of two such lines only some cells differ.
+fn progress(alloc: Global, numbers: &mut Numbers) -> Result<String, Refusal> {
+    let mut text = String::from_str(alloc, "c")?;
+    let done = numbers.below(5);
+    text.push_str(match numbers.below(8) {
+        0 => "\u{1b}[35m",
+        _ => "\u{1b}[1m\u{1b}[36m",
+    })?;
+    text.push_str("bbbb".get(..done).unwrap_or(""))?;
+    text.push_str("\u{1b}[34m")?;
+    text.push_str("dd d".get(done..).unwrap_or(""))?;
+    text.push_str("\u{1b}[0m\u{1b}[0m")?;
+    text.push_str(match numbers.below(4) {
+        0 => "c",
+        1 => "\u{1b}[31mr\u{1b}[0m",
+        _ => "d",
+    })?;
     Ok(text)
 }
 

@@ -48,7 +48,7 @@ module _ {K T : Type 0} where
   pub record StandsOn (target : Option (T × Option Limiter)) (old new : Board K T) : Type 0 where
     pub terminal : terminal_of new ≡ term_of target
     pub records : RecordsStay old new
-    pub state : (board_id : ℕ) (s : BoardState (BarRecord K)) → IsIn board_id old s → IsIn board_id new (record s { limiter = limiter_of target; lists = opening_lists })
+    pub state : (mark : ℕ) (s : BoardState (BarRecord K)) → IsIn mark old s → IsIn mark new (record s { limiter = limiter_of target; lists = opening_lists })
 
   -- another target was asked for: a board without a history is on that; one with its history refuses it, and stays
   abbrev pub BoardTurns : AnyBoard K T → Option (T × Option Limiter) → Result Unit Refusal → AnyBoard K T → Type 0
@@ -60,7 +60,7 @@ module _ {K T : Type 0} where
     pub moves : IfSome (moves_of new) (λ moves. moves ≡ on)
     pub terminal : terminal_of new ≡ terminal_of old
     pub records : RecordsStay old new
-    pub state : (board_id : ℕ) (s : BoardState (BarRecord K)) → IsIn board_id old s → IsIn board_id new s
+    pub state : (mark : ℕ) (s : BoardState (BarRecord K)) → IsIn mark old s → IsIn mark new s
 
   -- a board was told so: one without a history is; one with its history refuses it, and stays
   abbrev pub BoardMoves : AnyBoard K T → Bool → Result Unit Refusal → AnyBoard K T → Type 0

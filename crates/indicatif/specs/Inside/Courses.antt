@@ -2,8 +2,7 @@
 use Rattle.std.specs.Prelude.{ℕ, Option, Result}
 use Rattle.indicatif_text.specs.declared.refusal.Drawn.{Drawn}
 use Rattle.indicatif_text.specs.declared.refusal.Refusal.{Refusal}
-use Rattle.indicatif.specs.Moves.{Standing}
-use Rattle.indicatif.specs.declared.moves.Move.{Move}
+use Rattle.indicatif.specs.Moves.{Standing, Move}
 use Rattle.indicatif.specs.Parallel.{Blocks}
 
 module _ {P : Type 0} (stands : P → Option Standing) (leads : P → Move → Result Drawn Refusal → P → Type 0) where

@@ -3,7 +3,7 @@ ghost use Rattle.std.specs.Prelude.{◌≡◌, ◌⊎◌, ◌≤◌, ◌<◌};
 ghost use Rattle.indicatif.specs.Inside.Courses.{GoesOn};
 ghost use Rattle.indicatif.specs.Parallel.{block_length};
 
-use crate::moves::{Move, Moves};
+use crate::moves::Moves;
 use crate::parallel::claims::{Claims, Part};
 use rayon::current_num_threads;
 use std::thread::Threads;
@@ -63,7 +63,7 @@ impl<P: Moves + Drop> Course<P> {
     {
         let left = self.block - self.done % self.block;
         let n = left.min(item - self.done);
-        let _ = self.bar.make_move(Move::Advance(n as u64));
+        let _ = self.bar.advance(n as u64);
         self.done += n;
     }
 

@@ -1,19 +1,18 @@
 //! A board without its history, or with it.
 ghost use Rattle.std.specs.Prelude.{◌≡◌, ◌⊎◌, ℕ, Some, None, IfOk, IfErr, IfSome, Ok, Err, MatchResult};
 ghost use Rattle.indicatif_bar.specs.LoneBars.{lone_call_as};
-ghost use Rattle.indicatif_board.specs.Boards.{Log, Remove, Refused, drawn_of, says};
+ghost use Rattle.indicatif_board.specs.Boards.{Insert, Log, Remove, Refused, drawn_of};
 ghost use Rattle.indicatif_board.specs.BoardValues.{id_of};
-ghost use Rattle.indicatif_board.specs.Calls.{call_of, answer_of};
-ghost use Rattle.indicatif_board.specs.Multi.{LeadsBy};
+ghost use Rattle.indicatif_board.specs.Calls.{call_of, answer_of, entrant_of, place_at};
 ghost use Rattle.indicatif_board.specs.Recorded.{IsOneRun};
 ghost use Rattle.indicatif.specs.Fronts.{CanClear};
-ghost use Rattle.indicatif.specs.Inside.AnyBoard.{BoardMakes, BoardDraws, BoardRemoves, BoardTurns, BoardMoves, BoardMovesTo, refused_with};
+ghost use Rattle.indicatif.specs.Inside.AnyBoard.{BoardMakes, BoardDraws, BoardRemoves, BoardTakes, BoardTurns, BoardMoves, BoardMovesTo, refused_with};
 ghost use Rattle.indicatif.specs.Inside.SharedBoards.{SharedAnswers, SharedDraws, given_by, on_board};
 
 use indicatif_bar::lone::LoneCall;
 use indicatif_bar::state::{BarState, Text, own_text};
 use indicatif_bar::style::Tracks;
-use indicatif_board::multi::{Answer, BarId, Board, Call, Recorded};
+use indicatif_board::multi::{Answer, BarId, Board, Call, Candidate, InsertLocation, Recorded};
 use indicatif_term::draw_target::ProgressDrawTarget;
 use indicatif_term::term_like::TermLike;
 use indicatif_text::columns::{Drawn, Moment, Refusal};
@@ -69,7 +68,11 @@ impl<K: Tracks, T: TermLike + Drop> AnyBoard<K, T> {
         match self {
             AnyBoard::Open(board) => {
                 board.order();
-                tell_board(board, id, call, now)
+                match call {
+                    LoneCall::Bar(command) => board.tell(id, command, now),
+                    LoneCall::Log(text) => board.bar_println(id, text.as_text(), now),
+                    LoneCall::Clear => board.clear(now),
+                }
             }
             AnyBoard::Recorded(_) => {
                 let kept = call_of_bar(id, &call, alloc);
@@ -103,6 +106,20 @@ impl<K: Tracks, T: TermLike + Drop> AnyBoard<K, T> {
             Ok(call) => self.draw(call, now),
             Err(_) => Err(Refusal::Memory),
         }
+    }
+
+    /// Takes a bar in.
+    pub fn insert(
+        &mut self,
+        at: InsertLocation,
+        candidate: Candidate<K>,
+        now: Moment,
+    ) -> Result<BarId, Refusal>
+        ensures made { MatchResult result (λ id. BoardTakes K.means T.view self.old (place_at at) (entrant_of candidate) now (Ok (id_of id)) self.new)
+            (λ e. BoardTakes K.means T.view self.old (place_at at) (entrant_of candidate) now (Err e) self.new) }
+        ensures can { IfErr result (λ e. SharedAnswers K (Insert (place_at at) (entrant_of candidate)) (Refused e)) }
+    {
+        id_given(self.call(Call::Insert { at, candidate }, now))
     }
 
     /// Takes a bar out of the order and hands it back; `None` where it isn't there.
@@ -187,22 +204,6 @@ impl<K: Tracks, T: TermLike + Drop> AnyBoard<K, T> {
     }
 }
 
-/// A call of a bar that is on a board without a history.
-fn tell_board<K: Tracks, T: TermLike + Drop, S: Text>(
-    board: &mut Board<K, T>,
-    id: BarId,
-    call: LoneCall<K, S>,
-    now: Moment,
-) -> Result<Drawn, Refusal>
-    ensures { LeadsBy K.means T.view board.old board.new (on_board (id_of id) (lone_call_as S.bytes call)) now (says result) }
-{
-    match call {
-        LoneCall::Bar(command) => board.tell(id, command, now),
-        LoneCall::Log(text) => board.bar_println(id, text.as_text(), now),
-        LoneCall::Clear => board.clear(now),
-    }
-}
-
 /// Lines above the bars, as a value that a history keeps.
 fn log_of<K: Tracks>(text: &str, alloc: Global) -> Result<Call<K>, Refusal>
     ensures { IfOk result (λ kept. call_of kept ≡ Log text.now) }
@@ -258,7 +259,7 @@ fn drawn_of(answer: Answer) -> Result<Drawn, Refusal>
 }
 
 /// What an answer gives of a bar that was to be taken in; an insertion gives a bar or refuses it.
-pub fn id_given(answer: Answer) -> Result<BarId, Refusal>
+fn id_given(answer: Answer) -> Result<BarId, Refusal>
     ensures ok { IfOk result (λ id. given_by (answer_of answer) ≡ Ok (id_of id)) }
     ensures err { IfErr result (λ e. given_by (answer_of answer) ≡ Err e) }
 {

@@ -6,6 +6,7 @@ ghost use Rattle.indicatif_bar.specs.Lone as Lone;
 ghost use Rattle.indicatif.specs.Fronts.{CanAnswer};
 
 use crate::progress_bar::ProgressBar;
+use indicatif_bar::lone::LoneCall;
 use indicatif_bar::state::{BarCommand, ProgressFinish};
 use indicatif_bar::style::{ProgressStyle, Tracks};
 use indicatif_term::term_like::TermLike;
@@ -31,13 +32,13 @@ impl<T: TermLike + Drop, C: Clock + Drop, R: Wait + Clone + Drop, K: Tracks> Pro
         }
     }
 
-    /// With so many spaces for a tab.
+    /// With so many spaces for a tab, in the message, the prefix and the style.
     ///
     /// Refused: `Memory`; this owner is given up.
     pub fn with_tab_width(self, tab: usize) -> Result<Self, Refusal>
         ensures { IfErr result (λ e. CanAnswer K (Lone.Obey (Command.WithTabWidth tab)) (Err e)) }
     {
-        match self.tell(BarCommand::WithTabWidth(tab)) {
+        match self.tell(LoneCall::Bar(BarCommand::WithTabWidth(tab))) {
             Ok(_) => Ok(self),
             Err(refusal) => Err(refusal),
         }
@@ -49,7 +50,7 @@ impl<T: TermLike + Drop, C: Clock + Drop, R: Wait + Clone + Drop, K: Tracks> Pro
     pub fn with_prefix(self, text: &str) -> Result<Self, Refusal>
         ensures { IfErr result (λ e. CanAnswer K (Lone.Obey (Command.WithPrefix text.now)) (Err e)) }
     {
-        match self.tell(BarCommand::WithPrefix(text)) {
+        match self.tell(LoneCall::Bar(BarCommand::WithPrefix(text))) {
             Ok(_) => Ok(self),
             Err(refusal) => Err(refusal),
         }
@@ -61,7 +62,7 @@ impl<T: TermLike + Drop, C: Clock + Drop, R: Wait + Clone + Drop, K: Tracks> Pro
     pub fn with_message(self, text: &str) -> Result<Self, Refusal>
         ensures { IfErr result (λ e. CanAnswer K (Lone.Obey (Command.WithMessage text.now)) (Err e)) }
     {
-        match self.tell(BarCommand::WithMessage(text)) {
+        match self.tell(LoneCall::Bar(BarCommand::WithMessage(text))) {
             Ok(_) => Ok(self),
             Err(refusal) => Err(refusal),
         }
@@ -82,16 +83,16 @@ impl<T: TermLike + Drop, C: Clock + Drop, R: Wait + Clone + Drop, K: Tracks> Pro
     pub fn with_position(self, position: u64) -> Result<Self, Refusal>
         ensures { IfErr result (λ e. CanAnswer K (Lone.Obey (Command.WithPosition position)) (Err e)) }
     {
-        match self.tell(BarCommand::WithPosition(position)) {
+        match self.tell(LoneCall::Bar(BarCommand::WithPosition(position))) {
             Ok(_) => Ok(self),
             Err(refusal) => Err(refusal),
         }
     }
 
-    /// So many nanoseconds after its start. Neither the rate nor the time left counts them; where a position comes with them, see
-    /// `with_position`.
+    /// As `set_elapsed`. Until the bar is finished, neither its rate nor its time left counts these nanoseconds. A finished bar shows its
+    /// position over all of the elapsed time. Where a position comes with them, see `with_position`.
     ///
-    /// Refused: `ElapsedBeyondClock`, where they are more than the moment; this owner is given up.
+    /// Refused: `ElapsedBeyondClock`, where that is more than the moment; this owner is given up.
     pub fn with_elapsed(self, nanos: u64) -> Result<Self, Refusal>
         ensures { IfErr result (λ e. CanAnswer K (Lone.Obey (Command.SetElapsed nanos)) (Err e)) }
     {
@@ -108,7 +109,7 @@ impl<T: TermLike + Drop, C: Clock + Drop, R: Wait + Clone + Drop, K: Tracks> Pro
     pub fn with_finish(self, finish: ProgressFinish) -> Result<Self, Refusal>
         ensures { IfErr result (λ e. CanAnswer K (Lone.Obey (Command.WithFinish (finish_of finish))) (Err e)) }
     {
-        match self.tell(BarCommand::WithFinish(finish)) {
+        match self.tell(LoneCall::Bar(BarCommand::WithFinish(finish))) {
             Ok(_) => Ok(self),
             Err(refusal) => Err(refusal),
         }

@@ -121,7 +121,12 @@ impl<K: Tracks, T: TermLike + Drop, C: Clock + Drop> LockedBar<K, T, C> {
                 bar.bar();
                 Tried::Made(bar.tell(call, now))
             }
-            AnyBar::Member(member) => member.tell(rt, call, now),
+            AnyBar::Member(member) => match member.board.try_turn(rt) {
+                Some(mut locked) => {
+                    Tried::Made(locked.board.tell(member.id, call, member.alloc, now))
+                }
+                None => Tried::ComeAgain(call),
+            },
         }
     }
 
@@ -152,13 +157,15 @@ impl<K: Tracks, T: TermLike + Drop, C: Clock + Drop> LockedBar<K, T, C> {
         if self.paused {
             return Tried::ComeAgain(());
         }
-        let now = self.clock.now();
-        match &mut self.bar {
-            AnyBar::Alone(bar) => {
-                bar.bar();
-                Tried::Made(change.apply_to(bar, now))
-            }
-            AnyBar::Member(member) => member.move_by(rt, change, now),
+        if let AnyBar::Alone(bar) = &mut self.bar {
+            let now = self.clock.now();
+            bar.bar();
+            return Tried::Made(change.apply_to(bar, now));
+        }
+        let call: LoneCall<K> = LoneCall::Bar(change.command());
+        match self.tell(rt, call) {
+            Tried::Made(answer) => Tried::Made(answer),
+            Tried::ComeAgain(_) => Tried::ComeAgain(()),
         }
     }
 
@@ -459,7 +466,10 @@ impl<K: Tracks, T: TermLike + Drop, C: Clock + Drop> LockedBar<K, T, C> {
         let Ok(candidate) = self.bar.candidate() else {
             return Err(Refusal::Memory);
         };
-        let taken = board.lock(rt).insert(at, candidate);
+        let mut locked = board.lock(rt);
+        let now = locked.now();
+        let taken = locked.board.insert(at, candidate, now);
+        drop(locked);
         let id = taken?;
         if self.bar.id().is_none() {
             self.stand(AnyBar::Member(MemberBar { board, id, alloc }));
@@ -475,7 +485,10 @@ impl<K: Tracks, T: TermLike + Drop, C: Clock + Drop> LockedBar<K, T, C> {
         let Some(id) = self.bar.id() else {
             return Ok(());
         };
-        let removed = board.lock(rt).remove(id);
+        let mut locked = board.lock(rt);
+        let now = locked.now();
+        let removed = locked.board.remove(id, now);
+        drop(locked);
         if let Some(bar) = removed? {
             let alone = LoneBar::new(bar, ProgressDrawTarget::hidden());
             self.stand(AnyBar::Alone(alone));

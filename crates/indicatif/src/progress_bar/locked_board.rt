@@ -1,21 +1,15 @@
 //! What the lock of a shared board keeps.
-ghost use Rattle.std.specs.Prelude.{◌≡◌, ◌⊎◌, ℕ, Some, None, IfOk, IfErr, Ok, Err, MatchResult};
-ghost use Rattle.indicatif_board.specs.Boards.{Insert, Remove, Log, Clear, Redraw, Refused};
-ghost use Rattle.indicatif_board.specs.BoardValues.{id_of};
-ghost use Rattle.indicatif_board.specs.Calls.{call_of, entrant_of, place_at};
-ghost use Rattle.indicatif.specs.Fronts.{CanClear, CanDraw};
-ghost use Rattle.indicatif.specs.Inside.AnyBoard.{BoardDraws, BoardTakes, BoardRemoves, BoardMovesTo};
-ghost use Rattle.indicatif.specs.Inside.SharedBoards.{SharedAnswers, SharedDraws};
+ghost use Rattle.std.specs.Prelude.{◌≡◌, IfOk, IfErr, Err};
+ghost use Rattle.indicatif_board.specs.Boards.{Clear, Redraw};
+ghost use Rattle.indicatif.specs.Fronts.{CanDraw};
+ghost use Rattle.indicatif.specs.Inside.AnyBoard.{BoardDraws};
 
-use crate::progress_bar::any_board::{AnyBoard, id_given};
+use crate::progress_bar::any_board::AnyBoard;
 use crate::progress_bar::pause::Pause;
-use indicatif_bar::state::BarState;
 use indicatif_bar::style::Tracks;
-use indicatif_board::multi::{BarId, Call, Candidate, InsertLocation};
-use indicatif_term::draw_target::ProgressDrawTarget;
+use indicatif_board::multi::Call;
 use indicatif_term::term_like::TermLike;
 use indicatif_text::columns::{Clock, Drawn, Moment, Refusal};
-use std::alloc::Global;
 
 /// A board, its clock, and whether it is in a pause.
 #[derive(Drop)]
@@ -67,52 +61,11 @@ impl<K: Tracks, T: Drop, C: Clone> LockedBoard<K, T, C> {
 }
 
 impl<K: Tracks, T: TermLike + Drop, C: Clock + Drop> LockedBoard<K, T, C> {
-    /// A call that draws.
-    pub fn draw(&mut self, call: Call<K>) -> Result<Drawn, Refusal>
-        ensures made { (now : ℕ) × BoardDraws K.means T.view self.old.board (call_of call) now result self.new.board }
-        ensures can { SharedDraws K (call_of call) result }
+    /// The moment that its clock tells.
+    pub fn now(&mut self) -> Moment
+        ensures { self.new.board ≡ self.old.board }
     {
-        let now = self.clock.now();
-        self.board.draw(call, now)
-    }
-
-    /// Lines of text above the bars. The text is copied, by `alloc`, only where a history keeps it.
-    pub fn println(&mut self, text: &str, alloc: Global) -> Result<Drawn, Refusal>
-        ensures made { (now : ℕ) × BoardDraws K.means T.view self.old.board (Log text.now) now result self.new.board }
-        ensures can { SharedDraws K (Log text.now) result }
-    {
-        let now = self.clock.now();
-        self.board.println(text, alloc, now)
-    }
-
-    /// Takes a bar in.
-    pub fn insert(&mut self, at: InsertLocation, candidate: Candidate<K>) -> Result<BarId, Refusal>
-        ensures made { MatchResult result
-            (λ id. (now : ℕ) × BoardTakes K.means T.view self.old.board (place_at at) (entrant_of candidate) now (Ok (id_of id)) self.new.board)
-            (λ e. (now : ℕ) × BoardTakes K.means T.view self.old.board (place_at at) (entrant_of candidate) now (Err e) self.new.board) }
-        ensures can { IfErr result (λ e. SharedAnswers K (Insert (place_at at) (entrant_of candidate)) (Refused e)) }
-    {
-        let now = self.clock.now();
-        id_given(self.board.call(Call::Insert { at, candidate }, now))
-    }
-
-    /// Takes a bar out of the order and hands it back; `None` where it isn't there.
-    pub fn remove(&mut self, id: BarId) -> Result<Option<BarState<K>>, Refusal>
-        ensures made { MatchResult result (λ _. (now : ℕ) × BoardRemoves K.means T.view self.old.board (id_of id) now None self.new.board)
-            (λ e. (now : ℕ) × BoardRemoves K.means T.view self.old.board (id_of id) now (Some e) self.new.board) }
-        ensures can { IfErr result (λ e. SharedAnswers K (Remove (id_of id)) (Refused e)) }
-    {
-        let now = self.clock.now();
-        self.board.remove(id, now)
-    }
-
-    /// Takes the bars' rows back and is on another target from now on, at one moment.
-    pub fn move_to(&mut self, target: ProgressDrawTarget<T>) -> Result<Drawn, Refusal>
-        ensures moves { (now : ℕ) × BoardMovesTo K.means T.view self.old.board target now result self.new.board }
-        ensures can { CanClear result ⊎ (result ≡ Err Refusal.RecordedTarget) }
-    {
-        let now = self.clock.now();
-        self.board.move_to(target, now)
+        self.clock.now()
     }
 
     /// Begins a pause: the bars' rows are taken back.

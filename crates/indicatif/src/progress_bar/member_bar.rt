@@ -2,24 +2,21 @@
 ghost use Rattle.std.specs.Prelude.{◌≡◌, ◌⊎◌, ℕ};
 ghost use Rattle.std.specs.Fn.{FnOnceReturnsAt};
 ghost use Rattle.indicatif_bar.specs.Commands.{Update, SetPosition, SetTicker};
-ghost use Rattle.indicatif_bar.specs.LoneBars.{lone_call_as};
 ghost use Rattle.indicatif_bar.specs.Progress.{Progress};
 ghost use Rattle.indicatif_bar.specs.declared.state.commands.Change.{Change as Changed};
 ghost use Rattle.indicatif_board.specs.Boards.{Tell, Drop as Dropped};
 ghost use Rattle.indicatif_board.specs.BoardValues.{id_of};
 ghost use Rattle.indicatif.specs.Fronts.{CanDraw, unchanged};
 ghost use Rattle.indicatif.specs.Inside.Requests.{IfMade, LeavesSo, MatchTried};
-ghost use Rattle.indicatif.specs.Inside.PositionChange.{position_command};
-ghost use Rattle.indicatif.specs.Inside.SharedBoards.{SharedDraws, on_board};
+ghost use Rattle.indicatif.specs.Inside.SharedBoards.{SharedDraws};
 ghost use Rattle.indicatif.specs.Seek.{after_move};
 
 use crate::progress_bar::any_board::AnyBoard;
 use crate::progress_bar::board_cell::SharedBoard;
-use crate::progress_bar::position_change::PositionChange;
 use crate::progress_bar::request::Tried;
 use crate::seek::SeekMax;
 use indicatif_bar::lone::LoneCall;
-use indicatif_bar::state::{BarCommand, BarState, Change, ProgressState, Text};
+use indicatif_bar::state::{BarCommand, BarState, Change, ProgressState};
 use indicatif_bar::style::Tracks;
 use indicatif_board::multi::{BarId, Call};
 use indicatif_term::term_like::TermLike;
@@ -89,21 +86,6 @@ pub enum Leaving<K: Tracks> {
 
 /// Each call is handed back where the board is in a pause.
 impl<K: Tracks, T: TermLike + Drop, C: Clock + Drop> MemberBar<K, T, C> {
-    /// A call of the bar.
-    pub fn tell<R: Wait, S: Text>(
-        &self,
-        rt: &R,
-        call: LoneCall<K, S>,
-        now: Moment,
-    ) -> Tried<Result<Drawn, Refusal>, LoneCall<K, S>>
-        ensures { MatchTried result (λ answer. SharedDraws K (on_board (id_of self.now.id) (lone_call_as S.bytes call)) answer) (λ again. again ≡ call) }
-    {
-        match self.board.try_turn(rt) {
-            Some(mut locked) => Tried::Made(locked.board.tell(self.id, call, self.alloc, now)),
-            None => Tried::ComeAgain(call),
-        }
-    }
-
     /// Whether a ticker is installed: told also in a pause, since it asks for no draw.
     pub fn set_ticker<R: Wait>(
         &self,
@@ -118,22 +100,6 @@ impl<K: Tracks, T: TermLike + Drop, C: Clock + Drop> MemberBar<K, T, C> {
             .lock(rt)
             .board
             .tell(self.id, call, self.alloc, now)
-    }
-
-    /// A change of the position.
-    pub fn move_by<R: Wait>(
-        &self,
-        rt: &R,
-        change: PositionChange,
-        now: Moment,
-    ) -> Tried<Result<Drawn, Refusal>, ()>
-        ensures { IfMade result (λ answer. SharedDraws K (Tell (id_of self.now.id) (position_command change)) answer) }
-    {
-        let call: LoneCall<K> = LoneCall::Bar(change.command());
-        match self.board.try_turn(rt) {
-            Some(mut locked) => Tried::Made(locked.board.tell(self.id, call, self.alloc, now)),
-            None => Tried::ComeAgain(()),
-        }
     }
 
     /// Draws the bars of the board by force, also in a pause.

@@ -22,7 +22,7 @@ use std::sync::{Arc, Wait};
 /// answers what that answers; what a call does and refuses is said there. A bar's own calls go on from its clock. A call of a bar
 /// takes the bar's lock first and then the board's, and no call takes them the other way.
 ///
-/// Boards are told apart by their ids alone: give those that live at one time ids of their own.
+/// Boards are told apart by their marks alone: give those that live at one time marks of their own.
 ///
 /// Only a board that keeps its history (`recorded`) takes memory for each call: one entry. Where its history has no room, the call
 /// answers `Memory`, and nothing has changed. On any other board a call takes what `Board` says, and for a text that isn't empty a copy.
@@ -59,17 +59,17 @@ impl<T: TermLike + Drop, C: Clock + Drop, R: Wait + Clone + Drop, K: Tracks> Dro
 
 /// Boards whose bars have no keys of the caller's own.
 impl<T: TermLike + Drop, C: Clock + Drop, R: Wait + Clone + Drop> MultiProgress<T, C, R> {
-    /// A board without bars, of this id. It writes nothing yet. Its bars come by `new_bar`, `new_spinner` and `add`.
+    /// A board without bars, of this mark. It writes nothing yet. Its bars come by `new_bar`, `new_spinner` and `add`.
     ///
     /// Refused: `Memory`; nothing is made, and what was handed in is given up.
-    pub fn new(rt: R, alloc: Global, setup: Setup<T, C>, board_id: u64) -> Result<Self, Refusal>
+    pub fn new(rt: R, alloc: Global, setup: Setup<T, C>, mark: u64) -> Result<Self, Refusal>
         ensures { IfErr result (λ e. e ≡ Refusal.Memory) }
     {
         let Setup { target, clock } = setup;
-        MultiProgress::with_draw_target(rt, alloc, target, clock, board_id)
+        MultiProgress::with_draw_target(rt, alloc, target, clock, mark)
     }
 
-    /// A board without bars on this target, by this clock, of this id.
+    /// A board without bars on this target, by this clock, of this mark.
     ///
     /// Refused: `Memory`; nothing is made, and what was handed in is given up.
     pub fn with_draw_target(
@@ -77,11 +77,11 @@ impl<T: TermLike + Drop, C: Clock + Drop, R: Wait + Clone + Drop> MultiProgress<
         alloc: Global,
         target: ProgressDrawTarget<T>,
         clock: C,
-        board_id: u64,
+        mark: u64,
     ) -> Result<Self, Refusal>
         ensures { IfErr result (λ e. e ≡ Refusal.Memory) }
     {
-        MultiProgress::keyed(rt, alloc, Setup { target, clock }, board_id)
+        MultiProgress::keyed(rt, alloc, Setup { target, clock }, mark)
     }
 
     /// The same, and the board keeps its history; `with_record` lends it. It grows with each call.
@@ -92,11 +92,11 @@ impl<T: TermLike + Drop, C: Clock + Drop, R: Wait + Clone + Drop> MultiProgress<
         alloc: Global,
         target: ProgressDrawTarget<T>,
         clock: C,
-        board_id: u64,
+        mark: u64,
     ) -> Result<Self, Refusal>
         ensures { IfErr result (λ e. e ≡ Refusal.Memory) }
     {
-        MultiProgress::keyed_recorded(rt, alloc, Setup { target, clock }, board_id)
+        MultiProgress::keyed_recorded(rt, alloc, Setup { target, clock }, mark)
     }
 }
 
@@ -113,11 +113,11 @@ impl<T: TermLike + Drop, C: Clock + Drop, R: Wait + Clone + Drop, K: Tracks> Mul
     /// ```
     ///
     /// Refused: `Memory`; nothing is made, and what was handed in is given up.
-    pub fn keyed(rt: R, alloc: Global, setup: Setup<T, C>, board_id: u64) -> Result<Self, Refusal>
+    pub fn keyed(rt: R, alloc: Global, setup: Setup<T, C>, mark: u64) -> Result<Self, Refusal>
         ensures { IfErr result (λ e. e ≡ Refusal.Memory) }
     {
         let Setup { target, clock } = setup;
-        let board = AnyBoard::Open(Board::new(alloc, target, board_id));
+        let board = AnyBoard::Open(Board::new(alloc, target, mark));
         MultiProgress::shared(rt, alloc, LockedBoard::new(board, clock))
     }
 
@@ -128,12 +128,12 @@ impl<T: TermLike + Drop, C: Clock + Drop, R: Wait + Clone + Drop, K: Tracks> Mul
         rt: R,
         alloc: Global,
         setup: Setup<T, C>,
-        board_id: u64,
+        mark: u64,
     ) -> Result<Self, Refusal>
         ensures { IfErr result (λ e. e ≡ Refusal.Memory) }
     {
         let Setup { target, clock } = setup;
-        let board = AnyBoard::Recorded(Recorded::new(alloc, target, board_id));
+        let board = AnyBoard::Recorded(Recorded::new(alloc, target, mark));
         MultiProgress::shared(rt, alloc, LockedBoard::new(board, clock))
     }
 
@@ -163,7 +163,7 @@ impl<T: TermLike + Drop, C: Clock + Drop, R: Wait + Clone + Drop, K: Tracks> Mul
     /// Adds a bar after all others, and hands its owner back. A bar that stood alone leaves its target, and what it drew there stays. A
     /// bar that is already on this board stays where it is.
     ///
-    /// Refused: `ForeignBar` for a bar of another board; `NotMember` if that has the same id, or if the bar was lost to such a one; `Memory`.
+    /// Refused: `ForeignBar` for a bar of another board; `NotMember` if that has the same mark, or if the bar was lost to such a one; `Memory`.
     /// The board is as before then, and this owner is given up as by `ProgressBar::release`: if it was the only one, its bar is finished by
     /// its stored finish, and leaves the board that has it.
     ///
@@ -263,7 +263,9 @@ impl<T: TermLike + Drop, C: Clock + Drop, R: Wait + Clone + Drop, K: Tracks> Mul
     pub fn println(&self, text: &str) -> Result<Drawn, Refusal>
         ensures { CanDraw result }
     {
-        self.board.turn(&self.rt).println(text, self.alloc)
+        let mut locked = self.board.turn(&self.rt);
+        let now = locked.now();
+        locked.board.println(text, self.alloc, now)
     }
 
     /// Takes the bars' rows back, by force. The next draw shows the bars again, but for those that were dropped.
@@ -274,7 +276,9 @@ impl<T: TermLike + Drop, C: Clock + Drop, R: Wait + Clone + Drop, K: Tracks> Mul
     pub fn clear(&self) -> Result<Drawn, Refusal>
         ensures { CanClear result }
     {
-        self.board.turn(&self.rt).draw(Call::Clear)
+        let mut locked = self.board.turn(&self.rt);
+        let now = locked.now();
+        locked.board.draw(Call::Clear, now)
     }
 
     /// Takes the bars' rows back, calls `f` once, and draws the bars again by force, at the moment of the clear. Answers what `f` gave, and
@@ -303,7 +307,9 @@ impl<T: TermLike + Drop, C: Clock + Drop, R: Wait + Clone + Drop, K: Tracks> Mul
     pub fn set_alignment(&self, alignment: MultiProgressAlignment) -> Result<(), Refusal>
         ensures { IfErr result (λ e. e ≡ Refusal.Memory) }
     {
-        self.board.turn(&self.rt).draw(Call::Align(alignment))?;
+        let mut locked = self.board.turn(&self.rt);
+        let now = locked.now();
+        locked.board.draw(Call::Align(alignment), now)?;
         Ok(())
     }
 
@@ -329,7 +335,9 @@ impl<T: TermLike + Drop, C: Clock + Drop, R: Wait + Clone + Drop, K: Tracks> Mul
     pub fn move_to(&self, target: ProgressDrawTarget<T>) -> Result<Drawn, Refusal>
         ensures { CanClear result ⊎ (result ≡ Err Refusal.RecordedTarget) }
     {
-        self.board.turn(&self.rt).move_to(target)
+        let mut locked = self.board.turn(&self.rt);
+        let now = locked.now();
+        locked.board.move_to(target, now)
     }
 
     /// Whether draws write the bars' lines over the old ones, by moves of the cursor alone: up to the first row, to its front, and each

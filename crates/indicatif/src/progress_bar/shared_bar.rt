@@ -3,7 +3,6 @@ ghost use Rattle.std.specs.Prelude.{◌≡◌, ◌⊎◌, ℕ};
 ghost use Rattle.std.specs.Fn.{FnOnceReturnsAt};
 ghost use Rattle.indicatif_bar.specs.Commands.{Update};
 ghost use Rattle.indicatif_bar.specs.Lone as Lone;
-ghost use Rattle.indicatif_bar.specs.LoneBars.{lone_call_as};
 ghost use Rattle.indicatif_bar.specs.Progress.{Progress};
 ghost use Rattle.indicatif_bar.specs.declared.state.commands.Change.{Change as Changed};
 ghost use Rattle.indicatif.specs.Fronts.{CanAnswer, CanDraw, CanMove, CanTurn, unchanged};
@@ -12,8 +11,7 @@ ghost use Rattle.indicatif.specs.Seek.{after_move};
 use crate::progress_bar::locked_bar::{Halt, LockedBar};
 use crate::progress_bar::request::Tried;
 use crate::seek::SeekMax;
-use indicatif_bar::lone::LoneCall;
-use indicatif_bar::state::{Change, ProgressState, Text};
+use indicatif_bar::state::{Change, ProgressState};
 use indicatif_bar::style::Tracks;
 use indicatif_term::draw_target::ProgressDrawTarget;
 use indicatif_term::term_like::TermLike;
@@ -38,23 +36,6 @@ impl<K: Tracks, T: TermLike + Drop, C: Clock + Drop> SharedBar<K, T, C> {
         }
         self.changed
             .wait_while(rt, locked, |locked| locked.is_paused())
-    }
-
-    /// A call of the bar. Its text may be lent.
-    #[tactic(auto, using(crate::proofs::FrontLemmas::place_answers))]
-    pub fn tell<R: Wait, S: Text>(&self, rt: &R, call: LoneCall<K, S>) -> Result<Drawn, Refusal>
-        ensures { CanAnswer K (lone_call_as S.bytes call) result }
-    {
-        let mut left = call;
-        for _ in rt.forever() {
-            let mut locked = self.turn(rt);
-            match locked.tell(rt, left) {
-                Tried::Made(answer) => return answer,
-                Tried::ComeAgain(again) => left = again,
-            }
-            wait_for_board(rt, locked);
-        }
-        unreachable!()
     }
 
     /// Sets what the closure answers of the bar's state; then as a tick.

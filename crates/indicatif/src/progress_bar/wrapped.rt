@@ -9,6 +9,7 @@ ghost use Rattle.indicatif.specs.Wrap.{Wraps};
 use crate::progress_bar::ProgressBar;
 use crate::wrap::ProgressBarIter;
 use futures::stream::Stream;
+use indicatif_bar::lone::LoneCall;
 use indicatif_bar::state::{BarCommand, ProgressFinish};
 use indicatif_bar::style::{ProgressStyle, Tracks};
 use indicatif_term::term_like::TermLike;
@@ -135,7 +136,10 @@ impl<
         ensures itself { IfOk result (λ wrapped. wrapped ≡ self) }
         ensures refused { IfErr result (λ e. CanAnswer K (Lone.Obey (WithPosition position)) (Err e)) }
     {
-        match self.progress.tell(BarCommand::WithPosition(position)) {
+        match self
+            .progress
+            .tell(LoneCall::Bar(BarCommand::WithPosition(position)))
+        {
             Ok(_) => Ok(self),
             Err(refusal) => Err(refusal),
         }
@@ -148,7 +152,10 @@ impl<
         ensures itself { IfOk result (λ wrapped. wrapped ≡ self) }
         ensures refused { IfErr result (λ e. CanAnswer K (Lone.Obey (WithFinish (finish_of finish))) (Err e)) }
     {
-        match self.progress.tell(BarCommand::WithFinish(finish)) {
+        match self
+            .progress
+            .tell(LoneCall::Bar(BarCommand::WithFinish(finish)))
+        {
             Ok(_) => Ok(self),
             Err(refusal) => Err(refusal),
         }
@@ -174,7 +181,10 @@ impl<
         ensures itself { IfOk result (λ wrapped. wrapped ≡ self) }
         ensures refused { IfErr result (λ e. CanAnswer K (Lone.Obey (WithPrefix text.now)) (Err e)) }
     {
-        match self.progress.tell(BarCommand::WithPrefix(text)) {
+        match self
+            .progress
+            .tell(LoneCall::Bar(BarCommand::WithPrefix(text)))
+        {
             Ok(_) => Ok(self),
             Err(refusal) => Err(refusal),
         }
@@ -187,7 +197,10 @@ impl<
         ensures itself { IfOk result (λ wrapped. wrapped ≡ self) }
         ensures refused { IfErr result (λ e. CanAnswer K (Lone.Obey (WithMessage text.now)) (Err e)) }
     {
-        match self.progress.tell(BarCommand::WithMessage(text)) {
+        match self
+            .progress
+            .tell(LoneCall::Bar(BarCommand::WithMessage(text)))
+        {
             Ok(_) => Ok(self),
             Err(refusal) => Err(refusal),
         }

@@ -19,7 +19,8 @@ use indicatif_term::term_like::TermLike;
 use indicatif_text::columns::{Drawn, Moment, Refusal};
 
 impl<K: Tracks, T: TermLike + Drop> LoneBar<K, T> {
-    /// One more tick, up to 2^64 - 1, unless a steady ticker is installed, and a draw: a spinner shows its next text.
+    /// Ticks once more, up to 2^64 - 1, and asks for a draw: a spinner shows its next text. While a steady ticker is installed, nothing
+    /// changes.
     pub fn tick(&mut self, now: Moment) -> Result<Drawn, Refusal>
         ensures { Obeys K.means T.view self.old self.new Tick now result }
     {
@@ -27,7 +28,7 @@ impl<K: Tracks, T: TermLike + Drop> LoneBar<K, T> {
         self.obey(ask, now)
     }
 
-    /// A steady ticker's own tick, and a draw.
+    /// Ticks once more, up to 2^64 - 1, as a steady ticker does, and asks for a draw.
     pub fn ticker_tick(&mut self, now: Moment) -> Result<Drawn, Refusal>
         ensures { Obeys K.means T.view self.old self.new TickerTick now result }
     {
@@ -44,8 +45,8 @@ impl<K: Tracks, T: TermLike + Drop> LoneBar<K, T> {
         self.obey(ask, now)
     }
 
-    /// The position goes up by `delta`, modulo 2^64; and a tick, as often as the position's limiter allows: 10 times at once, and once
-    /// more each millisecond.
+    /// Adds `delta` to the position, modulo 2^64. Also ticks, as often as the position's limiter allows: 10 times at once, and once more
+    /// each millisecond.
     #[inline(always)]
     pub fn inc(&mut self, delta: u64, now: Moment) -> Result<Drawn, Refusal>
         ensures { Obeys K.means T.view self.old self.new (Inc delta) now result }
@@ -54,7 +55,7 @@ impl<K: Tracks, T: TermLike + Drop> LoneBar<K, T> {
         self.obey(ask, now)
     }
 
-    /// The position goes down by `delta`, modulo 2^64; else as `inc`.
+    /// Subtracts `delta` from the position, modulo 2^64; otherwise as `inc`.
     #[inline(always)]
     pub fn dec(&mut self, delta: u64, now: Moment) -> Result<Drawn, Refusal>
         ensures { Obeys K.means T.view self.old self.new (Dec delta) now result }
@@ -63,7 +64,7 @@ impl<K: Tracks, T: TermLike + Drop> LoneBar<K, T> {
         self.obey(ask, now)
     }
 
-    /// Another position; else as `inc`.
+    /// Sets the position; otherwise as `inc`.
     #[inline(always)]
     pub fn set_position(&mut self, position: u64, now: Moment) -> Result<Drawn, Refusal>
         ensures { Obeys K.means T.view self.old self.new (SetPosition position) now result }
@@ -72,7 +73,7 @@ impl<K: Tracks, T: TermLike + Drop> LoneBar<K, T> {
         self.obey(ask, now)
     }
 
-    /// What workers have counted is added to the position; as `inc`.
+    /// Adds what workers have counted to the position, modulo 2^64; otherwise as `inc`.
     #[inline(always)]
     pub fn absorb(&mut self, sum: u64, now: Moment) -> Result<Drawn, Refusal>
         ensures { Obeys K.means T.view self.old self.new (Inc sum) now result }
@@ -89,7 +90,7 @@ impl<K: Tracks, T: TermLike + Drop> LoneBar<K, T> {
         self.obey(ask, now)
     }
 
-    /// Another length, and a draw: `{bar}`, `{percent}` and `{eta}` follow it.
+    /// Sets the length, and asks for a draw: `{bar}`, `{percent}` and `{eta}` follow it.
     pub fn set_length(&mut self, len: u64, now: Moment) -> Result<Drawn, Refusal>
         ensures { Obeys K.means T.view self.old self.new (SetLength len) now result }
     {
@@ -97,7 +98,7 @@ impl<K: Tracks, T: TermLike + Drop> LoneBar<K, T> {
         self.obey(ask, now)
     }
 
-    /// No length, and a draw: the bar is empty, `{len}` shows the position, and `{eta}` is 0.
+    /// Removes the length, and asks for a draw: the bar is empty, `{len}` shows the position, and `{eta}` is 0.
     pub fn unset_length(&mut self, now: Moment) -> Result<Drawn, Refusal>
         ensures { Obeys K.means T.view self.old self.new UnsetLength now result }
     {
@@ -105,7 +106,7 @@ impl<K: Tracks, T: TermLike + Drop> LoneBar<K, T> {
         self.obey(ask, now)
     }
 
-    /// A length that is longer by `delta`, up to 2^64 - 1, where there is one; and a draw.
+    /// Adds `delta` to the length, up to 2^64 - 1, if there is one; and asks for a draw.
     pub fn inc_length(&mut self, delta: u64, now: Moment) -> Result<Drawn, Refusal>
         ensures { Obeys K.means T.view self.old self.new (IncLength delta) now result }
     {
@@ -113,7 +114,7 @@ impl<K: Tracks, T: TermLike + Drop> LoneBar<K, T> {
         self.obey(ask, now)
     }
 
-    /// A length that is shorter by `delta`, down to 0, where there is one; and a draw.
+    /// Subtracts `delta` from the length, down to 0, if there is one; and asks for a draw.
     pub fn dec_length(&mut self, delta: u64, now: Moment) -> Result<Drawn, Refusal>
         ensures { Obeys K.means T.view self.old self.new (DecLength delta) now result }
     {
@@ -121,7 +122,7 @@ impl<K: Tracks, T: TermLike + Drop> LoneBar<K, T> {
         self.obey(ask, now)
     }
 
-    /// The rate, and the time that is left by it, are counted from this moment on, as after a pause. No draw is asked.
+    /// Counts the rate, and the time that is left, from now on: for instance after a pause. No draw is asked.
     pub fn reset_eta(&mut self, now: Moment) -> Result<Drawn, Refusal>
         ensures obeys { Obeys K.means T.view self.old self.new ResetEta now result }
         ensures limited { result ≡ Ok Drawn.Limited }
@@ -130,7 +131,7 @@ impl<K: Tracks, T: TermLike + Drop> LoneBar<K, T> {
         self.obey(ask, now)
     }
 
-    /// The rate and the time are counted from this moment on. No draw is asked.
+    /// Counts the rate and the elapsed time from now on. No draw is asked.
     pub fn reset_elapsed(&mut self, now: Moment) -> Result<Drawn, Refusal>
         ensures obeys { Obeys K.means T.view self.old self.new ResetElapsed now result }
         ensures limited { result ≡ Ok Drawn.Limited }
@@ -139,7 +140,7 @@ impl<K: Tracks, T: TermLike + Drop> LoneBar<K, T> {
         self.obey(ask, now)
     }
 
-    /// The bar goes on from position 0, its rate and its time from this moment on; and a draw.
+    /// Sets the position to 0, counts rate and time from now on, and asks for a draw.
     pub fn reset(&mut self, now: Moment) -> Result<Drawn, Refusal>
         ensures { Obeys K.means T.view self.old self.new Reset now result }
     {
@@ -147,7 +148,7 @@ impl<K: Tracks, T: TermLike + Drop> LoneBar<K, T> {
         self.obey(ask, now)
     }
 
-    /// The bar is finished at its length, where it has one, and stays on the screen. A draw by force.
+    /// Finishes the bar at its length, if it has one, and forces a draw: the bar stays on the screen.
     pub fn finish(&mut self, now: Moment) -> Result<Drawn, Refusal>
         ensures { Obeys K.means T.view self.old self.new (Finish AndLeave) now result }
     {
@@ -155,7 +156,7 @@ impl<K: Tracks, T: TermLike + Drop> LoneBar<K, T> {
         self.obey(ask, now)
     }
 
-    /// The bar is finished at its length, where it has one, and goes from the screen: it has no lines any more. A draw by force.
+    /// Finishes the bar at its length, if it has one, and forces a draw: the bar leaves the screen, and has no more lines.
     pub fn finish_and_clear(&mut self, now: Moment) -> Result<Drawn, Refusal>
         ensures { Obeys K.means T.view self.old self.new (Finish AndClear) now result }
     {
@@ -163,7 +164,7 @@ impl<K: Tracks, T: TermLike + Drop> LoneBar<K, T> {
         self.obey(ask, now)
     }
 
-    /// The bar is finished where it stands, for work that is given up, and stays on the screen. A draw by force.
+    /// Finishes the bar where it is, for work that is given up, and forces a draw: the bar stays on the screen.
     pub fn abandon(&mut self, now: Moment) -> Result<Drawn, Refusal>
         ensures { Obeys K.means T.view self.old self.new (Finish Abandon) now result }
     {
@@ -171,7 +172,8 @@ impl<K: Tracks, T: TermLike + Drop> LoneBar<K, T> {
         self.obey(ask, now)
     }
 
-    /// Another position. No draw is asked. The rate counts it with the next step, unless a tick and `reset_eta` follow.
+    /// At this position, for work that was begun before. No draw is asked. The rate counts it with the next step, unless a tick and
+    /// `reset_eta` follow.
     pub fn with_position(&mut self, position: u64, now: Moment) -> Result<Drawn, Refusal>
         ensures obeys { Obeys K.means T.view self.old self.new (WithPosition position) now result }
         ensures limited { result ≡ Ok Drawn.Limited }
@@ -180,7 +182,7 @@ impl<K: Tracks, T: TermLike + Drop> LoneBar<K, T> {
         self.obey(ask, now)
     }
 
-    /// What finishes the bar by `finish_using_style`. No draw is asked.
+    /// With this stored finish. It ends the bar by `finish_using_style`. No draw is asked.
     pub fn with_finish(&mut self, finish: ProgressFinish, now: Moment) -> Result<Drawn, Refusal>
         ensures obeys { Obeys K.means T.view self.old self.new (WithFinish (finish_of finish)) now result }
         ensures limited { result ≡ Ok Drawn.Limited }
@@ -189,7 +191,7 @@ impl<K: Tracks, T: TermLike + Drop> LoneBar<K, T> {
         self.obey(ask, now)
     }
 
-    /// A draw by force. Nothing of the bar changes.
+    /// Forces a draw, and changes nothing of the bar.
     pub fn force_draw(&mut self, now: Moment) -> Result<Drawn, Refusal>
         ensures { Obeys K.means T.view self.old self.new ForceDraw now result }
     {
@@ -197,7 +199,7 @@ impl<K: Tracks, T: TermLike + Drop> LoneBar<K, T> {
         self.obey(ask, now)
     }
 
-    /// Another message, and a draw. It shows only where the template has `{msg}` or `{wide_msg}`.
+    /// Sets the message, and asks for a draw. It shows only where the template has `{msg}` or `{wide_msg}`.
     ///
     /// Refused: `Memory`, only where the text isn't empty; nothing has changed then. Else as a draw.
     pub fn set_message(&mut self, text: &str, now: Moment) -> Result<Drawn, Refusal>
@@ -207,7 +209,7 @@ impl<K: Tracks, T: TermLike + Drop> LoneBar<K, T> {
         self.obey_unless(asked, now)
     }
 
-    /// Another prefix, and a draw. It shows only where the template has `{prefix}`.
+    /// Sets the prefix, and asks for a draw. It shows only where the template has `{prefix}`.
     ///
     /// Refused: `Memory`, only where the text isn't empty; nothing has changed then. Else as a draw.
     pub fn set_prefix(&mut self, text: &str, now: Moment) -> Result<Drawn, Refusal>
@@ -217,7 +219,7 @@ impl<K: Tracks, T: TermLike + Drop> LoneBar<K, T> {
         self.obey_unless(asked, now)
     }
 
-    /// Another style, with the bar's width of tabs. No draw is asked.
+    /// Sets the style, and gives it the bar's width of tabs. No draw is asked.
     ///
     /// Refused: `Memory`, where the style has another width of tabs; nothing has changed then, and the style is given up.
     pub fn set_style(&mut self, style: ProgressStyle<K>, now: Moment) -> Result<Drawn, Refusal>
@@ -231,7 +233,7 @@ impl<K: Tracks, T: TermLike + Drop> LoneBar<K, T> {
         self.obey_unless(asked, now)
     }
 
-    /// As `set_style`.
+    /// With this style, in which it is drawn next. Else as `set_style`.
     ///
     /// ```
     /// let style = ProgressStyle::with_template(alloc, "{pos} of {len}")?;
@@ -248,7 +250,7 @@ impl<K: Tracks, T: TermLike + Drop> LoneBar<K, T> {
         self.obey_unless(asked, now)
     }
 
-    /// Another message, which shows only where the template has `{msg}` or `{wide_msg}`. No draw is asked.
+    /// With this message, which shows only where the template has `{msg}` or `{wide_msg}`. No draw is asked.
     ///
     /// Refused: `Memory`, only where the text isn't empty; nothing has changed then.
     pub fn with_message(&mut self, text: &str, now: Moment) -> Result<Drawn, Refusal>
@@ -262,7 +264,7 @@ impl<K: Tracks, T: TermLike + Drop> LoneBar<K, T> {
         self.obey_unless(asked, now)
     }
 
-    /// Another prefix, which shows only where the template has `{prefix}`. No draw is asked.
+    /// With this prefix, which shows only where the template has `{prefix}`. No draw is asked.
     ///
     /// Refused: `Memory`, only where the text isn't empty; nothing has changed then.
     pub fn with_prefix(&mut self, text: &str, now: Moment) -> Result<Drawn, Refusal>
@@ -276,7 +278,7 @@ impl<K: Tracks, T: TermLike + Drop> LoneBar<K, T> {
         self.obey_unless(asked, now)
     }
 
-    /// As many spaces for a tab, in the message, the prefix and the style. No draw is asked.
+    /// With so many spaces for a tab, in the message, the prefix and the style. No draw is asked.
     ///
     /// Refused: `Memory`, only where the message or the prefix has a tab, or the style another width of tabs; nothing has changed then.
     pub fn with_tab_width(&mut self, tab: usize, now: Moment) -> Result<Drawn, Refusal>
@@ -290,7 +292,7 @@ impl<K: Tracks, T: TermLike + Drop> LoneBar<K, T> {
         self.obey_unless(asked, now)
     }
 
-    /// The same, and a draw by force.
+    /// Sets how many spaces a tab has in the message, the prefix and the style, and forces a draw.
     ///
     /// Refused: `Memory` as `with_tab_width`; nothing has changed then. Else as a draw.
     pub fn set_tab_width(&mut self, tab: usize, now: Moment) -> Result<Drawn, Refusal>
@@ -300,8 +302,9 @@ impl<K: Tracks, T: TermLike + Drop> LoneBar<K, T> {
         self.obey_unless(asked, now)
     }
 
-    /// So many nanoseconds have passed since the start: `ElapsedBeyondClock`, exactly where they are more than the moment, and
-    /// nothing has changed then. No draw is asked.
+    /// Sets the time since the start, in nanoseconds, as `{elapsed}` shows it: for work that began before the bar. No draw is asked.
+    ///
+    /// Refused: `ElapsedBeyondClock`, exactly where that is more than the moment; nothing has changed then.
     pub fn set_elapsed(&mut self, nanos: u64, now: Moment) -> Result<Drawn, Refusal>
         ensures obeys { ObeysOrNot K.means T.view self.old self.new (SetElapsed nanos) now result }
         ensures beyond { (result ≡ Err Refusal.ElapsedBeyondClock) ↔ (now < nanos) }
@@ -349,7 +352,7 @@ impl<K: Tracks, T: TermLike + Drop> LoneBar<K, T> {
         self.obey_unless(asked, now)
     }
 
-    /// The bar is finished by the finish that `with_finish` stored, at first `AndClear`. A draw by force.
+    /// Finishes the bar by its stored finish (`with_finish`; the default is `AndClear`), and forces a draw.
     ///
     /// Refused: `Memory`, only where that finish has a message that isn't empty; nothing has changed then. Else as a draw.
     pub fn finish_using_style(&mut self, now: Moment) -> Result<Drawn, Refusal>
@@ -384,7 +387,7 @@ impl<K: Tracks, T: TermLike + Drop> LoneBar<K, T> {
         self.draw(Ask::Forced, Writing::NoFrame, now)
     }
 
-    /// Sets what the closure answers of the state that it is shown; then as `tick`.
+    /// Sets what the closure answers of the bar's state; then as `tick`.
     pub fn update<F: FnOnce(&ProgressState) -> Change>(
         &mut self,
         f: F,

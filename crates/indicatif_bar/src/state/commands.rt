@@ -143,7 +143,8 @@ impl<K: Tracks, S: Text> BarCommand<K, S> {
 }
 
 impl<K: Tracks> BarState<K> {
-    /// One more tick, unless a steady ticker is installed: then nothing changes and no draw is asked.
+    /// Ticks once more, up to 2^64 - 1, and asks for a draw: a spinner shows its next text. While a steady ticker is installed, nothing
+    /// changes and no draw is asked.
     pub fn tick(&mut self, now: Moment) -> Ask
         ensures { (self.new, result) ≡ obeyed K.means Tick self.old now }
     {
@@ -153,7 +154,7 @@ impl<K: Tracks> BarState<K> {
         self.ticker_tick(now)
     }
 
-    /// A steady ticker's own tick: one more tick, up to 2^64 - 1, and a draw.
+    /// Ticks once more, up to 2^64 - 1, as a steady ticker does, and asks for a draw.
     pub fn ticker_tick(&mut self, now: Moment) -> Ask
         ensures { (self.new, result) ≡ obeyed K.means TickerTick self.old now }
     {
@@ -188,8 +189,8 @@ impl<K: Tracks> BarState<K> {
         Ask::No
     }
 
-    /// The position goes up by `delta`, modulo 2^64. It is looked at, as by a tick, as often as the position's limiter
-    /// allows: 10 times at once, and once more each millisecond, where moments don't go back.
+    /// Adds `delta` to the position, modulo 2^64. It is looked at, as by a tick, as often as the position's limiter allows: 10 times at
+    /// once, and once more each millisecond, where moments don't go back.
     #[inline(always)]
     pub fn inc(&mut self, delta: u64, now: Moment) -> Ask
         ensures { (self.new, result) ≡ obeyed K.means (Inc delta) self.old now }
@@ -198,7 +199,7 @@ impl<K: Tracks> BarState<K> {
         self.set_position(position, now)
     }
 
-    /// The position goes down by `delta`, modulo 2^64; else as `inc`.
+    /// Subtracts `delta` from the position, modulo 2^64; otherwise as `inc`.
     #[inline(always)]
     pub fn dec(&mut self, delta: u64, now: Moment) -> Ask
         ensures { (self.new, result) ≡ obeyed K.means (Dec delta) self.old now }
@@ -207,7 +208,7 @@ impl<K: Tracks> BarState<K> {
         self.set_position(position, now)
     }
 
-    /// Another position; else as `inc`.
+    /// Sets the position; otherwise as `inc`.
     #[inline(always)]
     pub fn set_position(&mut self, position: u64, now: Moment) -> Ask
         ensures { (self.new, result) ≡ obeyed K.means (SetPosition position) self.old now }
@@ -230,7 +231,7 @@ impl<K: Tracks> BarState<K> {
         Ask::No
     }
 
-    /// What workers have counted is added to the position; as `inc`.
+    /// Adds what workers have counted to the position, modulo 2^64; otherwise as `inc`.
     #[inline(always)]
     pub fn absorb(&mut self, sum: u64, now: Moment) -> Ask
         ensures { (self.new, result) ≡ obeyed K.means (Inc sum) self.old now }
@@ -238,7 +239,7 @@ impl<K: Tracks> BarState<K> {
         self.inc(sum, now)
     }
 
-    /// Sets what the closure answers of the state that it is shown; then as `tick`.
+    /// Sets what the closure answers of the bar's state; then as `tick`.
     pub fn update<F: FnOnce(&ProgressState) -> Change>(&mut self, f: F, now: Moment) -> Ask
         requires { F.IsAlwaysCallable f }
         ensures { (change : Change) × FnOnceReturnsAt F.FnOnce f self.old.progress change
@@ -261,21 +262,22 @@ impl<K: Tracks> BarState<K> {
         self.tick(now)
     }
 
-    /// Another length, and a draw: the position is recorded with the rate, and the trackers tick.
+    /// Sets the length, and asks for a draw: `{bar}`, `{percent}` and `{eta}` follow it. The position is recorded with the rate, and the
+    /// trackers tick.
     pub fn set_length(&mut self, len: u64, now: Moment) -> Ask
         ensures { (self.new, result) ≡ obeyed K.means (SetLength len) self.old now }
     {
         self.put_length(Some(len), now)
     }
 
-    /// No length: the bar is empty, and `{len}` shows the position; else as `set_length`.
+    /// Removes the length, and asks for a draw: the bar is empty, `{len}` shows the position, and `{eta}` is 0. Else as `set_length`.
     pub fn unset_length(&mut self, now: Moment) -> Ask
         ensures { (self.new, result) ≡ obeyed K.means UnsetLength self.old now }
     {
         self.put_length(None, now)
     }
 
-    /// A length that is longer by `delta`, up to 2^64 - 1; else as `set_length`. Where there is none, there stays none.
+    /// Adds `delta` to the length, up to 2^64 - 1, if there is one; and asks for a draw. Else as `set_length`.
     pub fn inc_length(&mut self, delta: u64, now: Moment) -> Ask
         ensures { (self.new, result) ≡ obeyed K.means (IncLength delta) self.old now }
     {
@@ -283,7 +285,7 @@ impl<K: Tracks> BarState<K> {
         self.put_length(len, now)
     }
 
-    /// A length that is shorter by `delta`, down to 0; else as `set_length`. Where there is none, there stays none.
+    /// Subtracts `delta` from the length, down to 0, if there is one; and asks for a draw. Else as `set_length`.
     pub fn dec_length(&mut self, delta: u64, now: Moment) -> Ask
         ensures { (self.new, result) ≡ obeyed K.means (DecLength delta) self.old now }
     {
@@ -299,7 +301,7 @@ impl<K: Tracks> BarState<K> {
         self.update_draw(now)
     }
 
-    /// Another message, which shows only where the template has `{msg}` or `{wide_msg}`; else as `set_length`.
+    /// Sets the message, and asks for a draw. It shows only where the template has `{msg}` or `{wide_msg}`. Else as `set_length`.
     ///
     /// Refused: `Memory`, only where the text isn't empty; nothing has changed then.
     pub fn set_message(&mut self, text: &str, now: Moment) -> Result<Ask, Refusal>
@@ -312,7 +314,7 @@ impl<K: Tracks> BarState<K> {
         Ok(self.update_draw(now))
     }
 
-    /// Another prefix, which shows only where the template has `{prefix}`; else as `set_length`.
+    /// Sets the prefix, and asks for a draw. It shows only where the template has `{prefix}`. Else as `set_length`.
     ///
     /// Refused: `Memory`, only where the text isn't empty; nothing has changed then.
     pub fn set_prefix(&mut self, text: &str, now: Moment) -> Result<Ask, Refusal>
@@ -325,7 +327,7 @@ impl<K: Tracks> BarState<K> {
         Ok(self.update_draw(now))
     }
 
-    /// Another style, with the bar's width of tabs. No draw is asked.
+    /// Sets the style, and gives it the bar's width of tabs. No draw is asked.
     ///
     /// Refused: `Memory`, where the style has another width of tabs; nothing has changed then, and the style is given up.
     pub fn set_style(&mut self, style: ProgressStyle<K>, now: Moment) -> Result<Ask, Refusal>
@@ -340,7 +342,7 @@ impl<K: Tracks> BarState<K> {
         Ok(Ask::No)
     }
 
-    /// As `set_style`.
+    /// With this style, in which it is drawn next. Else as `set_style`.
     pub fn with_style(&mut self, style: ProgressStyle<K>, now: Moment) -> Result<Ask, Refusal>
         ensures done { IfOk result (λ ask. (self.new, ask) ≡ obeyed K.means (SetStyle style) self.old now) }
         ensures unchanged { OnErr result (self.new ≡ self.old) }
@@ -350,7 +352,8 @@ impl<K: Tracks> BarState<K> {
         self.set_style(style, now)
     }
 
-    /// Another position. No draw is asked. The rate counts it with the next step, unless a tick and `reset_eta` follow.
+    /// At this position, for work that was begun before. No draw is asked. The rate counts it with the next step, unless a tick and
+    /// `reset_eta` follow.
     pub fn with_position(&mut self, position: u64, now: Moment) -> Ask
         ensures { (self.new, result) ≡ obeyed K.means (WithPosition position) self.old now }
     {
@@ -358,7 +361,7 @@ impl<K: Tracks> BarState<K> {
         Ask::No
     }
 
-    /// Another message, which shows only where the template has `{msg}` or `{wide_msg}`. No draw is asked.
+    /// With this message, which shows only where the template has `{msg}` or `{wide_msg}`. No draw is asked.
     ///
     /// Refused: `Memory`, only where the text isn't empty; nothing has changed then.
     pub fn with_message(&mut self, text: &str, now: Moment) -> Result<Ask, Refusal>
@@ -371,7 +374,7 @@ impl<K: Tracks> BarState<K> {
         Ok(Ask::No)
     }
 
-    /// Another prefix, which shows only where the template has `{prefix}`. No draw is asked.
+    /// With this prefix, which shows only where the template has `{prefix}`. No draw is asked.
     ///
     /// Refused: `Memory`, only where the text isn't empty; nothing has changed then.
     pub fn with_prefix(&mut self, text: &str, now: Moment) -> Result<Ask, Refusal>
@@ -384,7 +387,7 @@ impl<K: Tracks> BarState<K> {
         Ok(Ask::No)
     }
 
-    /// What finishes the bar when its owner is gone, or by `finish_using_style`.
+    /// With this stored finish. It ends the bar when its owner is gone, or by `finish_using_style`.
     pub fn with_finish(&mut self, finish: ProgressFinish, now: Moment) -> Ask
         ensures { (self.new, result) ≡ obeyed K.means (WithFinish (finish_of finish)) self.old now }
     {
@@ -392,7 +395,7 @@ impl<K: Tracks> BarState<K> {
         Ask::No
     }
 
-    /// As many spaces for a tab, in the message, the prefix and the style. No draw is asked.
+    /// With so many spaces for a tab, in the message, the prefix and the style. No draw is asked.
     ///
     /// Refused: `Memory`, only where the message or the prefix has a tab, or the style another width of tabs; nothing has changed
     /// then.
@@ -408,7 +411,7 @@ impl<K: Tracks> BarState<K> {
         Ok(Ask::No)
     }
 
-    /// The same, and a draw by force.
+    /// Sets how many spaces a tab has in the message, the prefix and the style, and forces a draw.
     ///
     /// Refused: as `with_tab_width`; nothing has changed then.
     pub fn set_tab_width(&mut self, tab: usize, now: Moment) -> Result<Ask, Refusal>
@@ -421,9 +424,9 @@ impl<K: Tracks> BarState<K> {
         Ok(Ask::Forced)
     }
 
-    /// So many nanoseconds have passed since the start. No draw is asked.
+    /// Sets the time since the start, in nanoseconds, as `{elapsed}` shows it: for work that began before the bar. No draw is asked.
     ///
-    /// Refused: `ElapsedBeyondClock`, exactly where they are more than the moment; nothing has changed then.
+    /// Refused: `ElapsedBeyondClock`, exactly where that is more than the moment; nothing has changed then.
     pub fn set_elapsed(&mut self, nanos: u64, now: Moment) -> Result<Ask, Refusal>
         ensures done { IfOk result (λ ask. (self.new, ask) ≡ obeyed K.means (SetElapsed nanos) self.old now) }
         ensures unchanged { OnErr result (self.new ≡ self.old) }
@@ -447,7 +450,7 @@ impl<K: Tracks> BarState<K> {
         self.set_elapsed(nanos, now)
     }
 
-    /// The rate is counted from this moment on. No draw is asked.
+    /// Counts the rate, and the time that is left, from now on: for instance after a pause. No draw is asked.
     pub fn reset_eta(&mut self, now: Moment) -> Ask
         ensures { (self.new, result) ≡ obeyed K.means ResetEta self.old now }
     {
@@ -455,7 +458,7 @@ impl<K: Tracks> BarState<K> {
         Ask::No
     }
 
-    /// The rate and the time are counted from this moment on. No draw is asked.
+    /// Counts the rate and the elapsed time from now on. No draw is asked.
     pub fn reset_elapsed(&mut self, now: Moment) -> Ask
         ensures { (self.new, result) ≡ obeyed K.means ResetElapsed self.old now }
     {
@@ -464,8 +467,7 @@ impl<K: Tracks> BarState<K> {
         Ask::No
     }
 
-    /// The bar goes on from position 0, with its rate and its time counted from this moment on; its trackers are reset. A
-    /// draw is asked.
+    /// Sets the position to 0, counts rate and time from now on, and asks for a draw. The trackers are reset.
     pub fn reset(&mut self, now: Moment) -> Ask
         ensures { (self.new, result) ≡ obeyed K.means Reset self.old now }
     {
@@ -475,7 +477,7 @@ impl<K: Tracks> BarState<K> {
         self.asked()
     }
 
-    /// The bar is finished at its length, where it has one, and stays on the screen. A draw is forced.
+    /// Finishes the bar at its length, if it has one, and forces a draw: the bar stays on the screen.
     pub fn finish(&mut self, now: Moment) -> Ask
         ensures { (self.new, result) ≡ obeyed K.means (Finish AndLeave) self.old now }
     {
@@ -483,7 +485,7 @@ impl<K: Tracks> BarState<K> {
         Ask::Forced
     }
 
-    /// The same, with this message.
+    /// As `finish`, with this message, which shows only where the template has `{msg}` or `{wide_msg}`.
     ///
     /// Refused: `Memory`, only where the message isn't empty; nothing has changed then.
     pub fn finish_with_message(&mut self, text: &str, now: Moment) -> Result<Ask, Refusal>
@@ -496,7 +498,7 @@ impl<K: Tracks> BarState<K> {
         Ok(self.finish(now))
     }
 
-    /// The bar is finished at its length, where it has one, and goes from the screen: it has no lines from then on. A draw is forced.
+    /// Finishes the bar at its length, if it has one, and forces a draw: the bar leaves the screen, and has no more lines.
     pub fn finish_and_clear(&mut self, now: Moment) -> Ask
         ensures { (self.new, result) ≡ obeyed K.means (Finish AndClear) self.old now }
     {
@@ -504,7 +506,7 @@ impl<K: Tracks> BarState<K> {
         Ask::Forced
     }
 
-    /// The bar is finished where it stands, for work that is given up, and stays on the screen. A draw is forced.
+    /// Finishes the bar where it is, for work that is given up, and forces a draw: the bar stays on the screen.
     pub fn abandon(&mut self, now: Moment) -> Ask
         ensures { (self.new, result) ≡ obeyed K.means (Finish Abandon) self.old now }
     {
@@ -512,7 +514,7 @@ impl<K: Tracks> BarState<K> {
         Ask::Forced
     }
 
-    /// The same, with this message.
+    /// As `abandon`, with this message.
     ///
     /// Refused: `Memory`, only where the message isn't empty; nothing has changed then.
     pub fn abandon_with_message(&mut self, text: &str, now: Moment) -> Result<Ask, Refusal>
@@ -542,7 +544,7 @@ impl<K: Tracks> BarState<K> {
         Ok(Ask::Forced)
     }
 
-    /// The bar is finished by the finish that `with_finish` stored, at first `AndClear`. A draw is forced.
+    /// Finishes the bar by its stored finish (`with_finish`; the default is `AndClear`), and forces a draw.
     ///
     /// Refused: `Memory`, only where that finish has a message that isn't empty; nothing has changed then.
     pub fn finish_using_style(&mut self, now: Moment) -> Result<Ask, Refusal>
@@ -571,14 +573,14 @@ impl<K: Tracks> BarState<K> {
         self.finish_using_style(now)
     }
 
-    /// Changes nothing; a draw is forced.
+    /// Forces a draw, and changes nothing of the bar.
     pub fn force_draw(&mut self, now: Moment) -> Ask
         ensures { (self.new, result) ≡ obeyed K.means ForceDraw self.old now }
     {
         Ask::Forced
     }
 
-    /// Does what the command says: the call that `BarCommand` names. The text may be lent, and is copied into the record alone.
+    /// Makes the call that this value names. Its text may be lent, and is copied into the record alone.
     ///
     /// Refused: `ElapsedBeyondClock`, exactly where an elapsed time is more than the moment; `Memory`, where the command takes
     /// some. Nothing has changed then.

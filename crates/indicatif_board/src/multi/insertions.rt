@@ -1,14 +1,16 @@
 //! How bars come into a board's order.
-ghost use Rattle.std.specs.Prelude.{◌≡◌, ◌≤◌, ℕ, is_some, IsTrue, IsFalse, IfErr};
+ghost use Rattle.std.specs.Prelude.{◌≡◌, ◌≤◌, ℕ, None, false, Some, Err, IsFalse, IfOk, IfErr, MatchResult};
 ghost use Rattle.std.specs.VecDeque.{deque_len};
 ghost use Rattle.indicatif_bar.specs.Commands.{BarRecord};
 ghost use Rattle.indicatif_bar.specs.Machines.{Target, Leads};
 ghost use Rattle.indicatif_bar.specs.Runs.{wrote};
 ghost use Rattle.indicatif_board.specs.BoardBars.{board_bars};
-ghost use Rattle.indicatif_board.specs.Boards.{BoardState, Insert, Location, End, Index, FromBack, Before, After, drawn_of, index_of, inserted, board};
+ghost use Rattle.indicatif_board.specs.Boards.{BoardState, Location, End, Index, FromBack, Before, After, anchor_turned_away, drawn_of, index_of, inserted, board};
 ghost use Rattle.indicatif_board.specs.BoardValues.{id_of};
-ghost use Rattle.indicatif_board.specs.Calls.{entrant_of, given, place_at, IsForeign, NamesForeign};
-ghost use Rattle.indicatif_board.specs.Multi.{IsIn, IsAbsent, EntersAbsent, TurnsAway, board_id_of, record_at, seat_in, RecordsTake, SlotsTake, LeadsBy, moves_of, slots_of, terminal_of};
+ghost use Rattle.indicatif_board.specs.Calls.{entrant_of, given, place_at, IsForeign};
+ghost use Rattle.indicatif_board.specs.Insertions.{Inserts, HasAnchor};
+ghost use Rattle.indicatif_board.specs.Inside.Anchors.{LacksAnchor};
+ghost use Rattle.indicatif_board.specs.Multi.{IsIn, EntersAbsent, TurnsAway, Keeps, mark_of, seat_in, RecordsTake, SlotsTake, slots_of};
 
 use crate::bar_id::BarId;
 use crate::calls::{Candidate, InsertLocation, Turned};
@@ -23,125 +25,57 @@ impl<K: Tracks, T: TermLike + Drop> Board<K, T> {
     /// Refused, with the candidate handed back and nothing changed: `ForeignBar` or `NotMember` for a bar that is not this board's; `Memory`,
     /// also where numbers ran out past 2^64 - 1.
     pub fn add(&mut self, candidate: Candidate<K>) -> Result<BarId, Turned<K>>
-        ensures terminal { terminal_of self.new ≡ terminal_of self.old }
-        ensures board_id { board_id_of self.new ≡ board_id_of self.old }
-        ensures moves { moves_of self.new ≡ moves_of self.old }
-        ensures turned { IfErr result (λ t. t.candidate ≡ candidate) }
-        ensures quiet { IsFalse (wrote (drawn_of (given result))) }
-        ensures leads { (now : ℕ) → LeadsBy K.means T.view self.old self.new (Insert End (entrant_of candidate)) now (given result) }
-        ensures foreign { NamesForeign (board_id_of self.old) (Insert End (entrant_of candidate)) → TurnsAway Refusal.ForeignBar (given result) self.old self.new }
-        ensures not_member { EntersAbsent self.old (entrant_of candidate) → TurnsAway Refusal.NotMember (given result) self.old self.new }
-        ensures records { RecordsTake (entrant_of candidate) (given result) self.old self.new }
-        ensures slot { SlotsTake End (entrant_of candidate) (given result) self.old self.new }
+        ensures { Inserts K.means T.view End candidate result self.old self.new }
     {
-        let at = self.shown.members.len();
-        self.insert_at(at, candidate)
+        self.insert_by(InsertLocation::End, candidate)
     }
 
     /// Takes a bar in where `index` bars stand before it, or behind all others where there are fewer. One that is there already stays.
     ///
-    /// Refused, with the candidate handed back and nothing changed: `ForeignBar` or `NotMember` for a bar that is not this board's; `Memory`,
-    /// also where numbers ran out past 2^64 - 1.
+    /// Refused: as `add`.
     pub fn insert(&mut self, index: usize, candidate: Candidate<K>) -> Result<BarId, Turned<K>>
-        ensures terminal { terminal_of self.new ≡ terminal_of self.old }
-        ensures board_id { board_id_of self.new ≡ board_id_of self.old }
-        ensures moves { moves_of self.new ≡ moves_of self.old }
-        ensures turned { IfErr result (λ t. t.candidate ≡ candidate) }
-        ensures quiet { IsFalse (wrote (drawn_of (given result))) }
-        ensures leads { (now : ℕ) → LeadsBy K.means T.view self.old self.new (Insert (Index index) (entrant_of candidate)) now (given result) }
-        ensures foreign { NamesForeign (board_id_of self.old) (Insert (Index index) (entrant_of candidate)) → TurnsAway Refusal.ForeignBar (given result) self.old self.new }
-        ensures not_member { EntersAbsent self.old (entrant_of candidate) → TurnsAway Refusal.NotMember (given result) self.old self.new }
-        ensures records { RecordsTake (entrant_of candidate) (given result) self.old self.new }
-        ensures slot { SlotsTake (Index index) (entrant_of candidate) (given result) self.old self.new }
+        ensures { Inserts K.means T.view (Index index) candidate result self.old self.new }
     {
-        let at = index.min(self.shown.members.len());
-        self.insert_at(at, candidate)
+        self.insert_by(InsertLocation::Index(index), candidate)
     }
 
     /// Takes a bar in where `count` bars stand behind it, or before all others where there are fewer. One that is there already stays.
     ///
-    /// Refused, with the candidate handed back and nothing changed: `ForeignBar` or `NotMember` for a bar that is not this board's; `Memory`,
-    /// also where numbers ran out past 2^64 - 1.
+    /// Refused: as `add`.
     pub fn insert_from_back(
         &mut self,
         count: usize,
         candidate: Candidate<K>,
     ) -> Result<BarId, Turned<K>>
-        ensures terminal { terminal_of self.new ≡ terminal_of self.old }
-        ensures board_id { board_id_of self.new ≡ board_id_of self.old }
-        ensures moves { moves_of self.new ≡ moves_of self.old }
-        ensures turned { IfErr result (λ t. t.candidate ≡ candidate) }
-        ensures quiet { IsFalse (wrote (drawn_of (given result))) }
-        ensures leads { (now : ℕ) → LeadsBy K.means T.view self.old self.new (Insert (FromBack count) (entrant_of candidate)) now (given result) }
-        ensures foreign { NamesForeign (board_id_of self.old) (Insert (FromBack count) (entrant_of candidate)) → TurnsAway Refusal.ForeignBar (given result) self.old self.new }
-        ensures not_member { EntersAbsent self.old (entrant_of candidate) → TurnsAway Refusal.NotMember (given result) self.old self.new }
-        ensures records { RecordsTake (entrant_of candidate) (given result) self.old self.new }
-        ensures slot { SlotsTake (FromBack count) (entrant_of candidate) (given result) self.old self.new }
+        ensures { Inserts K.means T.view (FromBack count) candidate result self.old self.new }
     {
-        let at = self.shown.members.len().saturating_sub(count);
-        self.insert_at(at, candidate)
+        self.insert_by(InsertLocation::FromBack(count), candidate)
     }
 
     /// Takes a bar in right before the anchor. One that is there already stays where it is.
     ///
-    /// Refused, with the candidate handed back and nothing changed: `ForeignBar` or `NotMember` for the anchor, then for a bar that is not this
-    /// board's; `Memory`, also where numbers ran out past 2^64 - 1.
+    /// Refused, with the candidate handed back and nothing changed: `ForeignBar` or `NotMember` for the anchor, then as `add`.
     pub fn insert_before(
         &mut self,
         anchor: BarId,
         candidate: Candidate<K>,
     ) -> Result<BarId, Turned<K>>
-        ensures terminal { terminal_of self.new ≡ terminal_of self.old }
-        ensures board_id { board_id_of self.new ≡ board_id_of self.old }
-        ensures moves { moves_of self.new ≡ moves_of self.old }
-        ensures turned { IfErr result (λ t. t.candidate ≡ candidate) }
-        ensures quiet { IsFalse (wrote (drawn_of (given result))) }
-        ensures leads { (now : ℕ) → LeadsBy K.means T.view self.old self.new (Insert (Before (id_of anchor)) (entrant_of candidate)) now (given result) }
-        ensures foreign { NamesForeign (board_id_of self.old) (Insert (Before (id_of anchor)) (entrant_of candidate)) → TurnsAway Refusal.ForeignBar (given result) self.old self.new }
-        ensures not_member { IsAbsent self.old (id_of anchor) → TurnsAway Refusal.NotMember (given result) self.old self.new }
-        ensures beside { IsTrue (is_some (record_at anchor.number self.old)) → IsForeign (board_id_of self.old) (entrant_of candidate) →
-            TurnsAway Refusal.ForeignBar (given result) self.old self.new }
-        ensures absent { anchor.board ≡ board_id_of self.old → IsTrue (is_some (record_at anchor.number self.old)) → EntersAbsent self.old (entrant_of candidate) →
-            TurnsAway Refusal.NotMember (given result) self.old self.new }
-        ensures records { RecordsTake (entrant_of candidate) (given result) self.old self.new }
-        ensures slot { SlotsTake (Before (id_of anchor)) (entrant_of candidate) (given result) self.old self.new }
+        ensures { Inserts K.means T.view (Before (id_of anchor)) candidate result self.old self.new }
     {
-        let at = match self.find(anchor) {
-            Ok(at) => at,
-            Err(refusal) => return Err(Turned { candidate, refusal }),
-        };
-        self.insert_at(at, candidate)
+        self.insert_by(InsertLocation::Before(anchor), candidate)
     }
 
     /// Takes a bar in right after the anchor. One that is there already stays where it is.
     ///
-    /// Refused, with the candidate handed back and nothing changed: `ForeignBar` or `NotMember` for the anchor, then for a bar that is not this
-    /// board's; `Memory`, also where numbers ran out past 2^64 - 1.
+    /// Refused: as `insert_before`.
     pub fn insert_after(
         &mut self,
         anchor: BarId,
         candidate: Candidate<K>,
     ) -> Result<BarId, Turned<K>>
-        ensures terminal { terminal_of self.new ≡ terminal_of self.old }
-        ensures board_id { board_id_of self.new ≡ board_id_of self.old }
-        ensures moves { moves_of self.new ≡ moves_of self.old }
-        ensures turned { IfErr result (λ t. t.candidate ≡ candidate) }
-        ensures quiet { IsFalse (wrote (drawn_of (given result))) }
-        ensures leads { (now : ℕ) → LeadsBy K.means T.view self.old self.new (Insert (After (id_of anchor)) (entrant_of candidate)) now (given result) }
-        ensures foreign { NamesForeign (board_id_of self.old) (Insert (After (id_of anchor)) (entrant_of candidate)) → TurnsAway Refusal.ForeignBar (given result) self.old self.new }
-        ensures not_member { IsAbsent self.old (id_of anchor) → TurnsAway Refusal.NotMember (given result) self.old self.new }
-        ensures beside { IsTrue (is_some (record_at anchor.number self.old)) → IsForeign (board_id_of self.old) (entrant_of candidate) →
-            TurnsAway Refusal.ForeignBar (given result) self.old self.new }
-        ensures absent { anchor.board ≡ board_id_of self.old → IsTrue (is_some (record_at anchor.number self.old)) → EntersAbsent self.old (entrant_of candidate) →
-            TurnsAway Refusal.NotMember (given result) self.old self.new }
-        ensures records { RecordsTake (entrant_of candidate) (given result) self.old self.new }
-        ensures slot { SlotsTake (After (id_of anchor)) (entrant_of candidate) (given result) self.old self.new }
+        ensures { Inserts K.means T.view (After (id_of anchor)) candidate result self.old self.new }
     {
-        let at = match self.find(anchor) {
-            Ok(at) => at,
-            Err(refusal) => return Err(Turned { candidate, refusal }),
-        };
-        self.insert_at(at + 1, candidate)
+        self.insert_by(InsertLocation::After(anchor), candidate)
     }
 
     /// Takes a bar in at a place.
@@ -150,40 +84,50 @@ impl<K: Tracks, T: TermLike + Drop> Board<K, T> {
         at: InsertLocation,
         candidate: Candidate<K>,
     ) -> Result<BarId, Turned<K>>
-        ensures terminal { terminal_of self.new ≡ terminal_of self.old }
-        ensures board_id { board_id_of self.new ≡ board_id_of self.old }
-        ensures moves { moves_of self.new ≡ moves_of self.old }
-        ensures turned { IfErr result (λ t. t.candidate ≡ candidate) }
-        ensures quiet { IsFalse (wrote (drawn_of (given result))) }
-        ensures leads { (now : ℕ) → LeadsBy K.means T.view self.old self.new (Insert (place_at at) (entrant_of candidate)) now (given result) }
-        ensures foreign { NamesForeign (board_id_of self.old) (Insert (place_at at) (entrant_of candidate)) → TurnsAway Refusal.ForeignBar (given result) self.old self.new }
-        ensures slot { SlotsTake (place_at at) (entrant_of candidate) (given result) self.old self.new }
-        ensures records { RecordsTake (entrant_of candidate) (given result) self.old self.new }
+        ensures { Inserts K.means T.view (place_at at) candidate result self.old self.new }
     {
+        match self.seat(at) {
+            Ok(seat) => self.insert_at(seat, candidate),
+            Err(refusal) => Err(Turned { candidate, refusal }),
+        }
+    }
+
+    /// How many bars are to stand before a place. Its anchor is looked for, if it has one.
+    fn seat(&self, at: InsertLocation) -> Result<usize, Refusal>
+        ensures within { IfOk result (λ seat. seat ≤ deque_len self.now.shown.members) }
+        ensures seat { IfOk result (λ seat. seat ≡ seat_in (place_at at) (slots_of self.now).order) }
+        ensures found { (mark : ℕ) (s : BoardState (BarRecord K)) → IsIn mark self.now s →
+            MatchResult result (λ seat. (anchor_turned_away mark (place_at at) s ≡ None) × (seat ≡ index_of (place_at at) s.members))
+            (λ e. anchor_turned_away mark (place_at at) s ≡ Some e) }
+        ensures anchor { MatchResult result (λ _. HasAnchor self.now (place_at at)) (λ e. LacksAnchor self.now (place_at at) e) }
+        ensures quiet { IfErr result (λ e. IsFalse (wrote (Err e))) }
+    {
+        let bars = self.shown.members.len();
         match at {
-            InsertLocation::End => self.add(candidate),
-            InsertLocation::Index(index) => self.insert(index, candidate),
-            InsertLocation::FromBack(count) => self.insert_from_back(count, candidate),
-            InsertLocation::Before(anchor) => self.insert_before(anchor, candidate),
-            InsertLocation::After(anchor) => self.insert_after(anchor, candidate),
+            InsertLocation::End => Ok(bars),
+            InsertLocation::Index(index) => Ok(index.min(bars)),
+            InsertLocation::FromBack(count) => Ok(bars.saturating_sub(count)),
+            InsertLocation::Before(anchor) => self.find(anchor),
+            InsertLocation::After(anchor) => match self.find(anchor) {
+                Ok(at) => Ok(at + 1),
+                Err(refusal) => Err(refusal),
+            },
         }
     }
 
     /// Takes a bar in where so many bars stand before it.
     fn insert_at(&mut self, at: usize, candidate: Candidate<K>) -> Result<BarId, Turned<K>>
         requires within { at ≤ deque_len self.old.shown.members }
-        ensures terminal { terminal_of self.new ≡ terminal_of self.old }
-        ensures board_id { board_id_of self.new ≡ board_id_of self.old }
-        ensures moves { moves_of self.new ≡ moves_of self.old }
+        ensures keeps { Keeps T.view false self.old self.new }
         ensures turned { IfErr result (λ t. t.candidate ≡ candidate) }
         ensures quiet { IsFalse (wrote (drawn_of (given result))) }
-        ensures foreign { IsForeign (board_id_of self.old) (entrant_of candidate) → TurnsAway Refusal.ForeignBar (given result) self.old self.new }
+        ensures foreign { IsForeign (mark_of self.old) (entrant_of candidate) → TurnsAway Refusal.ForeignBar (given result) self.old self.new }
         ensures not_member { EntersAbsent self.old (entrant_of candidate) → TurnsAway Refusal.NotMember (given result) self.old self.new }
         ensures records { RecordsTake (entrant_of candidate) (given result) self.old self.new }
         ensures slot { (spot : Location) → at ≡ seat_in spot (slots_of self.old).order → SlotsTake spot (entrant_of candidate) (given result) self.old self.new }
-        ensures inserted { (board_id : ℕ) (s : BoardState (BarRecord K)) (spot : Location) → IsIn board_id self.old s → at ≡ index_of spot s.members →
-            (next : BoardState (BarRecord K)) × IsIn board_id self.new next × (next.lists ≡ s.lists)
-            × ((target : Target) → Leads (board (board_bars K.means) board_id) target s (inserted board_id spot (entrant_of candidate) s) (given result) next) }
+        ensures inserted { (mark : ℕ) (s : BoardState (BarRecord K)) (spot : Location) → IsIn mark self.old s → at ≡ index_of spot s.members →
+            (next : BoardState (BarRecord K)) × IsIn mark self.new next × (next.lists ≡ s.lists)
+            × ((target : Target) → Leads (board (board_bars K.means) mark) target s (inserted mark spot (entrant_of candidate) s) (given result) next) }
     {
         match candidate {
             Candidate::Member(id) => match self.find(id) {
@@ -195,8 +139,8 @@ impl<K: Tracks, T: TermLike + Drop> Board<K, T> {
             },
             Candidate::New(bar) => match self.shown.take_in(at, bar) {
                 Ok(number) => {
-                    let board = self.board_id;
-                    Ok(BarId { board, number })
+                    let mark = self.mark;
+                    Ok(BarId { mark, number })
                 }
                 Err(bar) => {
                     let candidate = Candidate::New(bar);

@@ -1,5 +1,5 @@
 //! How bars leave a board: removed, or dropped by their owner.
-ghost use Rattle.std.specs.Prelude.{◌≡◌, ◌≢◌, ◌↔◌, ℕ, Some, None, Ok, Err, IsFalse, IfOk, if◌then◌else◌};
+ghost use Rattle.std.specs.Prelude.{◌≡◌, ◌≢◌, ◌↔◌, ℕ, false, Some, None, Ok, Err, IsFalse, IfOk, if◌then◌else◌};
 ghost use Rattle.indicatif_term.specs.Lists.{fate, kept_of};
 ghost use Rattle.indicatif_bar.specs.Commands.{BarRecord};
 ghost use Rattle.indicatif_bar.specs.Machines.{target_of};
@@ -9,7 +9,7 @@ ghost use Rattle.indicatif_board.specs.BoardValues.{id_of};
 ghost use Rattle.indicatif_board.specs.Members.{is_member, said_of};
 ghost use Rattle.indicatif_board.specs.Inside.Parting.{parted, RestsOn};
 ghost use Rattle.indicatif_board.specs.Calls.{removal};
-ghost use Rattle.indicatif_board.specs.Multi.{IsIn, IsNowhere, board_id_of, record_at, OtherRecordsStay, SlotsGive, SlotsLeft, LeadsBy, known, moves_of, terminal_of};
+ghost use Rattle.indicatif_board.specs.Multi.{IsIn, Keeps, mark_of, record_at, OtherRecordsStay, SlotsGive, SlotsLeft, LeadsBy, known};
 
 use crate::bar_id::BarId;
 use crate::calls::is_undisturbed;
@@ -25,22 +25,20 @@ impl<K: Tracks, T: TermLike + Drop> Board<K, T> {
     /// Takes a bar out of the order and hands it back; `None` where it was removed, dropped or never given. What it shows stays
     /// until the next draw.
     ///
-    /// Refused: `ForeignBar`, exactly where the bar has another board's id.
+    /// Refused: `ForeignBar`, exactly where the bar has another board's mark.
     pub fn remove(&mut self, id: BarId) -> Result<Option<BarState<K>>, Refusal>
-        ensures terminal { terminal_of self.new ≡ terminal_of self.old }
-        ensures board_id { board_id_of self.new ≡ board_id_of self.old }
-        ensures moves { moves_of self.new ≡ moves_of self.old }
+        ensures keeps { Keeps T.view false self.old self.new }
         ensures quiet { IsFalse (wrote (drawn_of (removal result))) }
         ensures leads { (now : ℕ) → LeadsBy K.means T.view self.old self.new (Remove (id_of id)) now (removal result) }
-        ensures foreign { id.board ≢ board_id_of self.old → (result ≡ Err Refusal.ForeignBar) × (self.new ≡ self.old) }
-        ensures bar { (board_id : ℕ) (s : BoardState (BarRecord K)) (other : BarRecord K) → IsIn board_id self.old s →
+        ensures foreign { id.mark ≢ mark_of self.old → (result ≡ Err Refusal.ForeignBar) × (self.new ≡ self.old) }
+        ensures bar { (mark : ℕ) (s : BoardState (BarRecord K)) (other : BarRecord K) → IsIn mark self.old s →
             IfOk result (λ bar. bar ≡ (if is_member id.number s.members then Some (said_of other (λ b. b) id.number s.members) else None)) }
-        ensures record { id.board ≡ board_id_of self.old → result ≡ Ok (record_at id.number self.old) }
-        ensures gone { id.board ≡ board_id_of self.old → record_at id.number self.new ≡ None }
+        ensures record { id.mark ≡ mark_of self.old → result ≡ Ok (record_at id.number self.old) }
+        ensures gone { id.mark ≡ mark_of self.old → record_at id.number self.new ≡ None }
         ensures slots { IfOk result (λ bar. SlotsGive bar self.old self.new) }
         ensures others { OtherRecordsStay id.number self.old self.new }
     {
-        if id.board != self.board_id {
+        if id.mark != self.mark {
             return Err(Refusal::ForeignBar);
         }
         match self.find(id) {
@@ -58,15 +56,12 @@ impl<K: Tracks, T: TermLike + Drop> Board<K, T> {
     /// `Memory` the bar is ownerless and waits, also where it is the first: it is as it was where its finish's own text found no memory,
     /// and finished where its lines found none. After `NoColumns` or `TooWide` it has left or is ownerless, as if it had been drawn.
     pub fn drop_bar(&mut self, id: BarId, now: Moment) -> Result<Drawn, Refusal>
-        ensures silent { IsFalse (wrote result) → terminal_of self.new ≡ terminal_of self.old }
-        ensures nowhere { IsNowhere T.view self.old → IsFalse (wrote result) }
-        ensures board_id { board_id_of self.new ≡ board_id_of self.old }
-        ensures moves { moves_of self.new ≡ moves_of self.old }
+        ensures keeps { Keeps T.view (wrote result) self.old self.new }
         ensures leads { LeadsBy K.means T.view self.old self.new (Drop (id_of id)) now (says result) }
-        ensures foreign { id.board ≢ board_id_of self.old → (result ≡ Err Refusal.ForeignBar) × (self.new ≡ self.old) }
-        ensures not_member { id.board ≡ board_id_of self.old → (result ≡ Err Refusal.NotMember) ↔ (record_at id.number self.old ≡ None) }
+        ensures foreign { id.mark ≢ mark_of self.old → (result ≡ Err Refusal.ForeignBar) × (self.new ≡ self.old) }
+        ensures not_member { id.mark ≡ mark_of self.old → (result ≡ Err Refusal.NotMember) ↔ (record_at id.number self.old ≡ None) }
         ensures unchanged { result ≡ Err Refusal.NotMember → self.new ≡ self.old }
-        ensures gone { id.board ≡ board_id_of self.old → record_at id.number self.new ≡ None }
+        ensures gone { id.mark ≡ mark_of self.old → record_at id.number self.new ≡ None }
         ensures slots { SlotsLeft self.old self.new }
         ensures others { OtherRecordsStay id.number self.old self.new }
     {
@@ -87,13 +82,11 @@ impl<K: Tracks, T: TermLike + Drop> Board<K, T> {
 
     /// A bar leaves or is ownerless, once it was drawn for the last time, or that draw was refused so.
     fn part(&mut self, number: u64, drawn: &Result<Drawn, Refusal>)
-        ensures terminal { terminal_of self.new ≡ terminal_of self.old }
-        ensures board_id { board_id_of self.new ≡ board_id_of self.old }
-        ensures moves { moves_of self.new ≡ moves_of self.old }
-        ensures parted { (board_id : ℕ) (s : BoardState (BarRecord K)) → IsIn board_id self.old s →
+        ensures keeps { Keeps T.view false self.old self.new }
+        ensures parted { (mark : ℕ) (s : BoardState (BarRecord K)) → IsIn mark self.old s →
             let target = target_of (known T.view self.old) in
             let next = parted target number drawn.now s in
-            IsIn board_id self.new next × RestsOn target.columns s.lists next.lists }
+            IsIn mark self.new next × RestsOn target.columns s.lists next.lists }
         ensures slots { SlotsLeft self.old self.new }
         ensures gone { record_at number self.new ≡ None }
         ensures others { OtherRecordsStay number self.old self.new }
@@ -117,13 +110,11 @@ impl<K: Tracks, T: TermLike + Drop> Board<K, T> {
     /// A bar's rows are kept, if they are the first that are live.
     fn keep(&mut self, number: u64) -> Keep
         ensures shown { self.new.shown ≡ self.old.shown }
-        ensures terminal { terminal_of self.new ≡ terminal_of self.old }
-        ensures board_id { board_id_of self.new ≡ board_id_of self.old }
-        ensures moves { moves_of self.new ≡ moves_of self.old }
-        ensures kept { (board_id : ℕ) (s : BoardState (BarRecord K)) → IsIn board_id self.old s →
+        ensures keeps { Keeps T.view false self.old self.new }
+        ensures kept { (mark : ℕ) (s : BoardState (BarRecord K)) → IsIn mark self.old s →
             let columns = (target_of (known T.view self.old)).columns in
             let lists = kept_of columns number s.lists in
-            (result ≡ fate number s.lists) × IsIn board_id self.new (record s { lists = lists }) × RestsOn columns s.lists lists }
+            (result ≡ fate number s.lists) × IsIn mark self.new (record s { lists = lists }) × RestsOn columns s.lists lists }
     {
         match &mut self.stage.engine {
             Some(engine) => engine.keep(number),

@@ -8,7 +8,7 @@ ghost use Rattle.indicatif_board.specs.Boards.{BoardState, drawn_of, board};
 ghost use Rattle.indicatif_board.specs.Slots.{slot_of};
 ghost use Rattle.indicatif_board.specs.Recorded.{handed_back};
 ghost use Rattle.indicatif_board.specs.Calls.{answer_of, call_of, timed, NamesForeign, AreTurnedAway, acts_on};
-ghost use Rattle.indicatif_board.specs.Multi.{IsIn, IsNowhere, TurnsAway, board_id_of, SlotsChange, StaysInSlot, RecordsChange, StaysOrComes, LeadsBy, known, moves_of, slots_of, terminal_of};
+ghost use Rattle.indicatif_board.specs.Multi.{IsIn, Keeps, TurnsAway, mark_of, SlotsChange, StaysInSlot, RecordsChange, StaysOrComes, LeadsBy, known, slots_of};
 
 use crate::calls::{Answer, Call, draw_answer, insertion_answer, removal_answer};
 use crate::multi::Board;
@@ -26,15 +26,12 @@ impl<K: Tracks, T: TermLike + Drop> Board<K, T> {
     /// ```
     #[inline(always)]
     pub fn apply(&mut self, call: Call<K>, now: Moment) -> (Answer, Option<BarState<K>>)
-        ensures silent { IsFalse (wrote (drawn_of (answer_of result.0))) → terminal_of self.new ≡ terminal_of self.old }
-        ensures nowhere { IsNowhere T.view self.old → IsFalse (wrote (drawn_of (answer_of result.0))) }
-        ensures board_id { board_id_of self.new ≡ board_id_of self.old }
-        ensures moves { moves_of self.new ≡ moves_of self.old }
+        ensures keeps { Keeps T.view (wrote (drawn_of (answer_of result.0))) self.old self.new }
         ensures leads { LeadsBy K.means T.view self.old self.new (call_of call) now (answer_of result.0) }
-        ensures foreign { NamesForeign (board_id_of self.old) (call_of call) → TurnsAway Refusal.ForeignBar (answer_of result.0) self.old self.new }
+        ensures foreign { NamesForeign (mark_of self.old) (call_of call) → TurnsAway Refusal.ForeignBar (answer_of result.0) self.old self.new }
         ensures slots { SlotsChange (call_of call) (answer_of result.0) self.old self.new }
         ensures records { RecordsChange K.means (call_of call) now (answer_of result.0) self.old self.new }
-        ensures back { (board_id : ℕ) (s : BoardState (BarRecord K)) (other : BarRecord K) → IsIn board_id self.old s →
+        ensures back { (mark : ℕ) (s : BoardState (BarRecord K)) (other : BarRecord K) → IsIn mark self.old s →
             result.1 ≡ handed_back (call_of call) (answer_of result.0) other s.members }
     {
         match call {
@@ -55,12 +52,9 @@ impl<K: Tracks, T: TermLike + Drop> Board<K, T> {
 
     /// As `apply`. A bar that is removed or turned away is given up.
     pub fn call(&mut self, call: Call<K>, now: Moment) -> Answer
-        ensures silent { IsFalse (wrote (drawn_of (answer_of result))) → terminal_of self.new ≡ terminal_of self.old }
-        ensures nowhere { IsNowhere T.view self.old → IsFalse (wrote (drawn_of (answer_of result))) }
-        ensures board_id { board_id_of self.new ≡ board_id_of self.old }
-        ensures moves { moves_of self.new ≡ moves_of self.old }
+        ensures keeps { Keeps T.view (wrote (drawn_of (answer_of result))) self.old self.new }
         ensures leads { LeadsBy K.means T.view self.old self.new (call_of call) now (answer_of result) }
-        ensures foreign { NamesForeign (board_id_of self.old) (call_of call) → TurnsAway Refusal.ForeignBar (answer_of result) self.old self.new }
+        ensures foreign { NamesForeign (mark_of self.old) (call_of call) → TurnsAway Refusal.ForeignBar (answer_of result) self.old self.new }
         ensures slots { SlotsChange (call_of call) (answer_of result) self.old self.new }
         ensures records { RecordsChange K.means (call_of call) now (answer_of result) self.old self.new }
     {
@@ -74,20 +68,15 @@ impl<K: Tracks, T: TermLike + Drop> Board<K, T> {
     ///
     /// Refused: `Memory` for the answers alone, and nothing is run; the calls are given up.
     pub fn run(&mut self, calls: Vec<(Call<K>, Moment)>) -> Result<Vec<Answer>, Refusal>
-        ensures run { (board_id : ℕ) (s : BoardState (BarRecord K)) → IsIn board_id self.old s →
+        ensures run { (mark : ℕ) (s : BoardState (BarRecord K)) → IsIn mark self.old s →
             let old = known T.view self.old in let new = known T.view self.new in
-            IfOk result (λ answers. (next : BoardState (BarRecord K)) × IsIn board_id self.new next
-            × (run : Runs (board (board_bars K.means) board_id) (map timed calls.items) (map answer_of answers.items) old s new next)
-            × Headline (board (board_bars K.means) board_id) (map timed calls.items) (map answer_of answers.items) old s new next run) }
+            IfOk result (λ answers. (next : BoardState (BarRecord K)) × IsIn mark self.new next
+            × (run : Runs (board (board_bars K.means) mark) (map timed calls.items) (map answer_of answers.items) old s new next)
+            × Headline (board (board_bars K.means) mark) (map timed calls.items) (map answer_of answers.items) old s new next run) }
         ensures count { IfOk result (λ answers. vec_len answers ≡ vec_len calls) }
-        ensures silent { IfOk result (λ answers. IsFalse (list_any (λ answer. wrote (drawn_of (answer_of answer))) answers.items) →
-            terminal_of self.new ≡ terminal_of self.old) }
-        ensures nowhere { IfOk result (λ answers. IsNowhere T.view self.old →
-            IsFalse (list_any (λ answer. wrote (drawn_of (answer_of answer))) answers.items)) }
-        ensures board_id { board_id_of self.new ≡ board_id_of self.old }
-        ensures moves { moves_of self.new ≡ moves_of self.old }
-        ensures foreign { IfOk result (λ answers. AreTurnedAway (board_id_of self.old) (map timed calls.items) (map answer_of answers.items)) }
-        ensures records { (number : ℕ) → IsFalse (list_any (λ call. acts_on (board_id_of self.old) number (call_of call.0)) calls.items) →
+        ensures keeps { IfOk result (λ answers. Keeps T.view (list_any (λ answer. wrote (drawn_of (answer_of answer))) answers.items) self.old self.new) }
+        ensures foreign { IfOk result (λ answers. AreTurnedAway (mark_of self.old) (map timed calls.items) (map answer_of answers.items)) }
+        ensures records { (number : ℕ) → IsFalse (list_any (λ call. acts_on (mark_of self.old) number (call_of call.0)) calls.items) →
             IfOk result (λ answers. StaysOrComes number answers.items self.old self.new) }
         ensures slots { (number slot : ℕ) → slot_of number (slots_of self.old) ≡ Some slot → StaysInSlot number slot self.new }
         ensures idle { vec_len calls ≡ 0 → IsTrue (is_ok result) × (self.new ≡ self.old) }

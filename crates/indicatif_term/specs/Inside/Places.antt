@@ -16,11 +16,11 @@ IsAt w ls at = at.row ≤ 65535 → drop at.row (standing_rows w ls) ≡ standin
 abbrev pub IsThere : ℕ → List StandingLine → ℕ → StandingLine → Type 0
 IsThere w ls start l = (start ≤ 65535) × (take l.rows (drop start (standing_rows w ls)) ≡ rows_of w (chars (string_bytes l.text)))
 
--- new lines sit on the rows of those that stand there, below the first ones; the next begins on that row, at a place or below it
-pub record AreNoted (w : ℕ) (on : List StandingLine) (skipped : ℕ) (new : List StandingLine) (start : ℕ) (at : Place) : Type 0 where
-  pub sits : AreSitting w (looks_of (drop skipped (standing_rows w on))) (placed new)
+-- new lines sit on the rows of those that stand there; the next begins on that row, at a place or below it
+pub record AreNoted (w : ℕ) (on new : List StandingLine) (start : ℕ) (at : Place) : Type 0 where
+  pub sits : AreSitting w (looks_of (standing_rows w on)) (placed new)
   pub is_at : IsAt w on at
-  pub start_is : start ≤ 65535 → start ≡ skipped + placed_height (placed new)
+  pub start_is : start ≤ 65535 → start ≡ placed_height (placed new)
 
 -- some lines from the front, and the rows that they leave of so many
 pub record IsWithin (ls : List StandingLine) (rows : ℕ) (room : Room) : Type 0 where

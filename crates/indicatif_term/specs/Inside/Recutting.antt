@@ -1,12 +1,12 @@
 -- Lines that are cut anew: each of their rows becomes lines of one row.
-use Rattle.std.specs.Prelude.{false, ◌≡◌, ◌<◌, ℕ, ◌+◌, ◌-◌, Bool, ◌&&◌, ◌==◌, nat_le, List, [], ◌∷◌, ◌++◌, map, filter, flat_map, length, suc, chars, string_bytes, sum, min, take, drop, if◌then◌else◌}
+use Rattle.std.specs.Prelude.{false, ◌≡◌, ℕ, ◌+◌, ◌-◌, Bool, ◌&&◌, ◌==◌, nat_le, List, [], ◌∷◌, ◌++◌, map, filter, flat_map, length, suc, chars, string_bytes, sum, min, take, drop, if◌then◌else◌}
 use Rattle.std.specs.List.{list_all}
 use Rattle.indicatif_text.specs.Columns.{Cell, Glyph, glyph_width, columns_in, glyphs_of, pieces_of, visible}
 use Rattle.indicatif_term.specs.Pictures.{is_empty}
 use Rattle.indicatif_term.specs.Lists.{Lists, all_rows}
 use Rattle.indicatif_term.specs.Resizes.{has_place, recut, recut_all}
-use Rattle.indicatif_term.specs.Standing.{standing_rows}
-use Rattle.indicatif_term.specs.Remembered.{AreRemembered, known_lines}
+use Rattle.indicatif_term.specs.Standing.{standing_rows, AreLines}
+use Rattle.indicatif_term.specs.Remembered.{AreRemembered}
 use Rattle.indicatif_term.specs.declared.remembered.Remembered.{Remembered}
 use Rattle.indicatif_term.specs.declared.counts.Counts.{Counts}
 use Rattle.indicatif_term.specs.declared.remembered.StandingLine.{StandingLine}
@@ -97,11 +97,12 @@ row_heights w rows = map (λ row. length (recut w row)) rows
 
 -- what is remembered of a terminal of w columns, cut anew for w' columns: of the last rows of lists it is known what they become,
 -- and how many rows each of them becomes
-pub record IsShownCut (w w' : ℕ) (old new : Remembered) (heights : List ℕ) : Type 0 where
+pub record IsShownCut (w w' : ℕ) (old : Remembered) (cut : CutLines) : Type 0 where
   pub rows : List (List Cell)
   pub known : (l : Lists) → AreRemembered old l → (front : List (List Cell)) × (front ++ rows ≡ all_rows w l)
-  pub heights_are : heights ≡ row_heights w' rows
-  pub remembered : 0 < new.width → (new.width ≡ w') × (standing_rows w' (known_lines new) ≡ recut_all w' rows)
+  pub heights_are : cut.heights.items ≡ row_heights w' rows
+  pub lines_are : standing_rows w' cut.lines.items ≡ recut_all w' rows
+  pub right : AreLines w' cut.lines.items
 
 -- ---- counts
 

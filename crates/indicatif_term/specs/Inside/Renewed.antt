@@ -4,6 +4,7 @@ use Rattle.indicatif_text.specs.Columns.{Cell, has_wide, rows_of, last_columns}
 use Rattle.indicatif_term.specs.Frames.{bar_lines, all_lines, some_wide}
 use Rattle.indicatif_term.specs.Shows.{looks_of}
 use Rattle.indicatif_term.specs.Standing.{placed_of, texts, IsLine}
+use Rattle.indicatif_term.specs.Remembered.{kept_lines, live_lines}
 use Rattle.indicatif_term.specs.Inside.Edits.{AreSingle}
 use Rattle.indicatif_term.specs.Inside.Changes.{Becomes, Ends}
 use Rattle.indicatif_term.specs.Inside.Parting.{IsTurned, IsReady}
@@ -78,9 +79,10 @@ AreOver w _ _ = ⊥
 -- what is remembered, with new lines in their places
 pub record Renews (r : Remembered) (new : List NewLine) (r' : Remembered) : Type 0 where
   pub width_is : r'.width ≡ r.width
-  pub kept_are : r'.kept.items ≡ r.kept.items
-  pub texts_are : texts r'.lines.items ≡ renewed (texts r.lines.items) new
-  pub in_place : AreInPlace r.width r.lines.items r'.lines.items
+  pub kept_is : r'.kept ≡ r.kept
+  pub kept_are : kept_lines r' ≡ kept_lines r
+  pub texts_are : texts (live_lines r') ≡ renewed (texts (live_lines r)) new
+  pub in_place : AreInPlace r.width (live_lines r) (live_lines r')
 
 -- ---- a frame beside the lines that stand
 
@@ -107,8 +109,8 @@ pub record IsSettled (w h : ℕ) (c : Counts) (r : Remembered) : Type 0 where
 pub record IsRenewed (w h : ℕ) (frame : List Segment) (c : Counts) (r : Remembered) (new : List NewLine) : Type 0 where
   pub narrow : IsFalse (some_wide w (all_lines (map bar_lines frame)))
   pub settled : IsSettled w h c r
-  pub fit : AreFitting w r.lines.items (length r.lines.items) new
-  pub texts_are : renewed (texts r.lines.items) new ≡ frame_lines frame
+  pub fit : AreFitting w (live_lines r) (length (live_lines r)) new
+  pub texts_are : renewed (texts (live_lines r)) new ≡ frame_lines frame
   pub plan : Plan
   pub plan_is : IsPlan w h 0 (map bar_lines frame) plan
   pub all_lines_are : plan.lines ≡ length (frame_lines frame)

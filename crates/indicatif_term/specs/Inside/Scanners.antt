@@ -1,7 +1,9 @@
 -- The reader of bytes as it is kept.
-use Rattle.std.specs.Prelude.{◌≡◌, ℕ, ◌<◌, ◌≤◌, true, List, [], ◌∷◌, length, take, encode_utf8, Option}
+use Rattle.std.specs.Prelude.{◌≡◌, ℕ, ◌<◌, ◌≤◌, true, List, [], ◌∷◌, length, take, encode_utf8, Option, option_to_list}
 use Rattle.std.specs.Str.{all_scalars}
-use Rattle.indicatif_term.specs.Terminal.{SequencePlace, OutsideSequence, Escaped, Sequence, idle, ops_of, reader_after, sequence_ops}
+use Rattle.indicatif_term.specs.Terminal.{SequencePlace, OutsideSequence, Escaped, Sequence, idle, sequence_op}
+use Rattle.indicatif_term.specs.Feeding.{ops_of}
+use Rattle.indicatif_term.specs.Inside.Reading.{reader_after}
 use Rattle.indicatif_term.specs.declared.in_memory.scanner.Stage.{Stage}
 use Rattle.indicatif_term.specs.declared.in_memory.scanner.Stage.TheVariants.{Outside, AfterEscape, InSequence}
 
@@ -23,7 +25,7 @@ pub record IsWholeChar (bytes : List ℕ) (c len : ℕ) : Type 0 where
 pub record IsWholeSequence (bytes : List ℕ) (number : Option ℕ) (last len : ℕ) : Type 0 where
   pub some : 0 < len
   pub within : len ≤ length bytes
-  pub asks : ops_of idle (take len bytes) ≡ sequence_ops number last
+  pub asks : ops_of idle (take len bytes) ≡ option_to_list (sequence_op number last)
   pub ends : reader_after idle (take len bytes) ≡ idle
 
 -- so many bytes at the front are a beginning of an escape sequence, up to the digits of this number

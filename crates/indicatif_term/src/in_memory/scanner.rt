@@ -1,7 +1,7 @@
 //! What bytes ask of a terminal: characters first, escape sequences next.
-ghost use Rattle.std.specs.Prelude.{◌≡◌, ◌<◌, ◌≤◌, map, length, slice_index, IsTrue, IfSome, option_to_list};
+ghost use Rattle.std.specs.Prelude.{◌≡◌, ◌<◌, ◌≤◌, length, slice_index, IsTrue, IfSome, option_map};
 ghost use Rattle.indicatif_text.specs.Columns.{is_parameter};
-ghost use Rattle.indicatif_term.specs.Terminal.{idle, byte_ops, byte_reader, char_ops, char_place, plain_ops, plain_place, sequence_ops, number_with};
+ghost use Rattle.indicatif_term.specs.Terminal.{idle, byte_step, char_step, plain_step, sequence_op, number_with};
 ghost use Rattle.indicatif_term.specs.Inside.Grids.{op_of};
 ghost use Rattle.indicatif_term.specs.Inside.Scanners.{stage_place, IsWholeSequence, IsSequenceFront};
 
@@ -22,67 +22,41 @@ pub(crate) enum Stage {
 }
 
 impl Stage {
-    /// What a character asks for.
-    pub(crate) fn op(self, c: char) -> Option<Op>
-        ensures { map op_of (option_to_list result) ≡ char_ops (stage_place self) c }
+    /// What a character asks for, and where the next one stands.
+    pub(crate) fn step(self, c: char) -> (Option<Op>, Stage)
+        ensures op { option_map op_of result.0 ≡ (char_step (stage_place self) c).0 }
+        ensures place { stage_place result.1 ≡ (char_step (stage_place self) c).1 }
     {
         match self {
-            Stage::Outside => plain_op(c),
-            Stage::AfterEscape => { if c == '[' { None } else { plain_op(c) } }
-            Stage::InSequence(number) => {
-                if is_parameter(c) {
-                    None
-                } else {
-                    sequence_op(number, c)
-                }
-            }
-        }
-    }
-
-    /// Where the character after this one stands.
-    pub(crate) fn after(self, c: char) -> Stage
-        ensures { stage_place result ≡ char_place (stage_place self) c }
-    {
-        match self {
-            Stage::Outside => plain_stage(c),
+            Stage::Outside => plain_step(c),
             Stage::AfterEscape => {
                 if c == '[' {
-                    Stage::InSequence(Some(0))
+                    (None, Stage::InSequence(Some(0)))
                 } else {
-                    plain_stage(c)
+                    plain_step(c)
                 }
             }
             Stage::InSequence(number) => {
                 if is_parameter(c) {
-                    Stage::InSequence(number_with(number, c))
+                    (None, Stage::InSequence(number_with(number, c)))
                 } else {
-                    Stage::Outside
+                    (sequence_op(number, c), Stage::Outside)
                 }
             }
         }
     }
 }
 
-/// What a character outside a sequence asks for.
-fn plain_op(c: char) -> Option<Op>
-    ensures { map op_of (option_to_list result) ≡ plain_ops c }
+/// What a character outside a sequence asks for, and where the next one stands.
+fn plain_step(c: char) -> (Option<Op>, Stage)
+    ensures op { option_map op_of result.0 ≡ (plain_step c).0 }
+    ensures place { stage_place result.1 ≡ (plain_step c).1 }
 {
     match c {
-        '\u{1B}' => None,
-        '\r' => Some(Op::Return),
-        '\n' => Some(Op::LineFeed),
-        _ => Some(Op::Put(c)),
-    }
-}
-
-/// Where the character after one outside a sequence stands.
-fn plain_stage(c: char) -> Stage
-    ensures { stage_place result ≡ plain_place c }
-{
-    if c == '\u{1B}' {
-        Stage::AfterEscape
-    } else {
-        Stage::Outside
+        '\u{1B}' => (None, Stage::AfterEscape),
+        '\r' => (Some(Op::Return), Stage::Outside),
+        '\n' => (Some(Op::LineFeed), Stage::Outside),
+        _ => (Some(Op::Put(c)), Stage::Outside),
     }
 }
 
@@ -101,7 +75,7 @@ fn number_with(number: Option<u16>, c: char) -> Option<u16>
 
 /// What the sequence with this number and this last character asks for.
 fn sequence_op(number: Option<u16>, c: char) -> Option<Op>
-    ensures { map op_of (option_to_list result) ≡ sequence_ops number c }
+    ensures { option_map op_of result ≡ sequence_op number c }
 {
     let n = number?;
     let count = if n == 0 { 1 } else { n };
@@ -149,7 +123,7 @@ impl WholeSequence {
 
     /// What it asks for.
     pub(crate) fn op(self) -> Option<Op>
-        ensures { map op_of (option_to_list result) ≡ sequence_ops self.number self.last }
+        ensures { option_map op_of result ≡ sequence_op self.number self.last }
     {
         sequence_op(self.number, self.last)
     }
@@ -223,12 +197,15 @@ impl Scanner {
 
     /// What a byte asks for, and the scanner after it.
     pub(crate) fn read(&self, byte: u8) -> Reading
-        ensures op { map op_of (option_to_list result.op) ≡ byte_ops self.now byte }
-        ensures next { result.next ≡ byte_reader self.now byte }
+        ensures op { option_map op_of result.op ≡ (byte_step self.now byte).0 }
+        ensures next { result.next ≡ (byte_step self.now byte).1 }
     {
         let spelling = self.spelling.with(byte);
         let (op, stage, spelling) = match spelling.character() {
-            Some(c) => (self.stage.op(c), self.stage.after(c), Spelling::empty()),
+            Some(c) => {
+                let (op, stage) = self.stage.step(c);
+                (op, stage, Spelling::empty())
+            }
             None => (None, self.stage, spelling.left_over()),
         };
         Reading {

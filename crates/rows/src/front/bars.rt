@@ -114,12 +114,12 @@ pub struct Maker<R> {
 }
 
 impl<R: Wait + Copy + Clone + Drop> Maker<R> {
-    /// A board of this id, which keeps its history if it is recorded.
-    pub fn board(&self, board_id: u64, is_recorded: bool) -> Result<Shared<R>, Bad> {
+    /// A board of this mark, which keeps its history if it is recorded.
+    pub fn board(&self, mark: u64, is_recorded: bool) -> Result<Shared<R>, Bad> {
         let Setup { target, clock } = self.room.setup(self.alloc)?;
         let board = match is_recorded {
-            true => MultiProgress::recorded(self.rt, self.alloc, target, clock, board_id),
-            false => MultiProgress::new(self.rt, self.alloc, Setup { target, clock }, board_id),
+            true => MultiProgress::recorded(self.rt, self.alloc, target, clock, mark),
+            false => MultiProgress::new(self.rt, self.alloc, Setup { target, clock }, mark),
         };
         match board {
             Ok(board) => Ok(Shared(board)),

@@ -1,5 +1,5 @@
 //! A bar that tells where it stands and counts its moves.
-use indicatif::{Drawn, Move, Moves, Reading, Refusal};
+use indicatif::{Drawn, Moves, Refusal};
 use scripts::got::Got;
 
 /// A bar without a length, so that finishing leaves its position.
@@ -33,23 +33,29 @@ impl Moves for Counted {
 
     ghost stands = { λ bar. Some (record { position = bar.position; finished = bar.finished; ends_at = None }) };
 
-    fn make_move(&mut self, step: Move) -> Result<Drawn, Refusal> {
+    fn advance(&mut self, n: u64) -> Result<Drawn, Refusal> {
         self.moves = self.moves.wrapping_add(1);
-        match step {
-            Move::Advance(n) => self.position = self.position.wrapping_add(n),
-            Move::PlaceAt(place) => self.position = place,
-            Move::FinishAsStored => {
-                self.finished = true;
-                return Ok(Drawn::Yes);
-            }
-        }
+        self.position = self.position.wrapping_add(n);
         Ok(Drawn::Limited)
     }
 
-    fn reading(&self) -> Reading {
-        Reading {
-            position: self.position,
-            finished: self.finished,
-        }
+    fn place(&mut self, place: u64) -> Result<Drawn, Refusal> {
+        self.moves = self.moves.wrapping_add(1);
+        self.position = place;
+        Ok(Drawn::Limited)
+    }
+
+    fn finish(&mut self) -> Result<Drawn, Refusal> {
+        self.moves = self.moves.wrapping_add(1);
+        self.finished = true;
+        Ok(Drawn::Yes)
+    }
+
+    fn position(&self) -> u64 {
+        self.position
+    }
+
+    fn finished(&self) -> bool {
+        self.finished
     }
 }

@@ -1,6 +1,6 @@
 //! Calls of a board as rows spell them: a style by its last text, a new bar by its message.
 use indicatif::{BarId, Call, Candidate, InsertLocation, MultiProgressAlignment, NoTracker};
-use scripts::boards::BOARD_ID;
+use scripts::boards::MARK;
 use scripts::commands::{push_command, push_number};
 use scripts::got::Got;
 
@@ -30,7 +30,7 @@ pub fn push_call(call: &Call<NoTracker>, got: &mut Got) {
 }
 
 fn push_id(id: BarId, got: &mut Got) {
-    if id.board != BOARD_ID {
+    if id.mark != MARK {
         got.text("x");
     }
     got.number(id.number);

@@ -173,8 +173,8 @@ impl<R: Wait + Copy + Clone + Drop> Fronts<R> {
     /// Another board, which keeps its history where it is recorded.
     fn begins(&mut self, is_recorded: bool, got: &mut Got) {
         let count = self.boards.len();
-        let board_id = (count as u64).wrapping_add(1);
-        match self.maker.board(board_id, is_recorded) {
+        let mark = (count as u64).wrapping_add(1);
+        match self.maker.board(mark, is_recorded) {
             Ok(board) => {
                 self.on = count;
                 if self.boards.push(board).is_err() {

@@ -121,7 +121,7 @@ struct Fresh(Board<NoTracker, InMemoryTerm>);
 /// Whether a fresh board makes the calls that were kept with the same answers, and then shows the same rows.
 fn is_replayed(look: &Look, recorded: &Recorded<NoTracker, InMemoryTerm>) -> Result<bool, Refusal> {
     let target = look.room.target(look.alloc)?;
-    let fresh = Fresh(Board::new(look.alloc, target, recorded.opening().board_id));
+    let fresh = Fresh(Board::new(look.alloc, target, recorded.opening().mark));
     match Box::new(look.alloc, fresh) {
         Ok(mut fresh) => replays(&mut fresh.0, look.alloc, recorded),
         Err(_) => Err(Refusal::Memory),

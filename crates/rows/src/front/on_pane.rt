@@ -13,7 +13,7 @@
 use crate::front::pane::{Pane, Wire};
 use indicatif::{Answer, Board, NoTracker, OwnRows, ProgressDrawTarget, Term, TermLike};
 use meter_parts::row_said;
-use scripts::boards::{BOARD_ID, board_call, push_answer};
+use scripts::boards::{MARK, board_call, push_answer};
 use scripts::got::{Bad, Got};
 use scripts::row::{At, headed};
 use scripts::screen::size;
@@ -47,7 +47,7 @@ pub fn begin(alloc: Global, name: &str, rest: &str) -> Result<Box<OnPane>, Bad> 
         _ => OwnRows::new(term),
     };
     let target = ProgressDrawTarget::term_like(term);
-    let board = at.boxed(Shown(Board::new(alloc, target, BOARD_ID)))?;
+    let board = at.boxed(Shown(Board::new(alloc, target, MARK)))?;
     at.boxed(OnPane { at, board, pane })
 }
 

@@ -10,7 +10,7 @@
 //! What answers with the bar counts as `limited`, since it draws nothing.
 use crate::front::bars::{Front, spinner};
 use indicatif::{
-    BarCommand, Change, Drawn, Move, Moves, NoTracker, ProgressFinish, ProgressState, Refusal,
+    BarCommand, Change, Drawn, Moves, NoTracker, ProgressFinish, ProgressState, Refusal,
 };
 use scripts::called;
 use scripts::commands::command;
@@ -32,7 +32,7 @@ pub fn tell<R: Wait + Copy + Clone + Drop>(
 ) -> Result<Told, Bad> {
     match text.split_once(' ') {
         None if text == "suspend" => Ok(bar.suspend(|| ()).1),
-        None if text == "at_end" => Ok(moved(bar, Move::FinishAsStored)),
+        None if text == "at_end" => Ok(moved(bar, text, 0)),
         Some((name @ ("log" | "set_style" | "with_style" | "template"), rest)) => {
             match unescaped(alloc, rest) {
                 Ok(text) => worded(bar, alloc, name, text.as_str()),
@@ -74,8 +74,7 @@ fn numbered<R: Wait + Copy + Clone + Drop>(
             }
             Err(refusal) => Err(refusal),
         }),
-        "advance" => Ok(moved(bar, Move::Advance(n))),
-        "place" => Ok(moved(bar, Move::PlaceAt(n))),
+        "advance" | "place" => Ok(moved(bar, name, n)),
         _ => build(bar, BarCommand::SetElapsed(n)),
     }
 }
@@ -89,11 +88,15 @@ pub fn further(state: &ProgressState, delta: u64) -> Change {
 }
 
 /// A move that something else makes, of another owner.
-fn moved<R: Wait + Copy + Clone + Drop>(bar: &Front<R>, step: Move) -> Told {
+fn moved<R: Wait + Copy + Clone + Drop>(bar: &Front<R>, name: &str, n: u64) -> Told {
     let other: Result<_, _> = bar.clone();
-    match other {
-        Ok(mut bar) => bar.make_move(step),
-        Err(_) => Err(Refusal::Memory),
+    let Ok(mut bar) = other else {
+        return Err(Refusal::Memory);
+    };
+    match name {
+        "advance" => bar.advance(n),
+        "place" => bar.place(n),
+        _ => Moves::finish(&mut bar),
     }
 }
 

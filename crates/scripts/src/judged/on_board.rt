@@ -10,8 +10,8 @@ use indicatif_term::term_like::Resize;
 use indicatif_text::columns::{Drawn, Refusal};
 use std::alloc::Global;
 
-/// The board's id.
-const BOARD_ID: u64 = 1;
+/// The board's mark.
+const MARK: u64 = 1;
 
 /// A board, all of whose calls are made at the moment 0.
 #[derive(Drop)]
@@ -21,10 +21,7 @@ pub struct OnBoard<T: Drop> {
 }
 
 fn id(number: u64) -> BarId {
-    BarId {
-        board: BOARD_ID,
-        number,
-    }
+    BarId { mark: MARK, number }
 }
 
 /// What a call answers that draws nothing.
@@ -47,7 +44,7 @@ impl<T: Resize + Drop> OnBoard<T> {
     /// A board without bars on this terminal.
     pub fn new(alloc: Global, term: T) -> Result<OnBoard<T>, Refusal> {
         let target = ProgressDrawTarget::term_like(term);
-        match Box::new(alloc, Board::new(alloc, target, BOARD_ID)) {
+        match Box::new(alloc, Board::new(alloc, target, MARK)) {
             Ok(board) => Ok(OnBoard { alloc, board }),
             Err(_) => Err(Refusal::Memory),
         }

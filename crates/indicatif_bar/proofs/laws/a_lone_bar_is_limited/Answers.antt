@@ -1,7 +1,6 @@
 use Rattle.indicatif_bar.specs.Bars.{bar_kind}
-use Rattle.indicatif_bar.specs.Lone.{asks}
 use Rattle.indicatif_bar.specs.LoneBars.{lone_bar}
-use Rattle.indicatif_bar.proofs.BoundLemmas.{runs_bounded, runs_bounded_from, run_spends, lone_limited, allowed_without}
+use Rattle.indicatif_bar.proofs.BoundLemmas.{runs_bounded, runs_bounded_from, run_spends, lone_limited, call_allowed}
 use Rattle.indicatif_bar.proofs.laws.a_lone_bar_is_limited.Goals as goal
 
 pub returns-clause-asks : goal.returns-clause-asks
@@ -17,4 +16,4 @@ pub returns-clause-spends : goal.returns-clause-spends
 returns-clause-spends g c = run_spends (lone_bar g.K.Tracks.means) (λ s. s.limiter) (lone_limited (bar_kind g.K.Tracks.means))
 
 pub returns-clause-free : goal.returns-clause-free
-returns-clause-free g c = λ target call now s none. allowed_without (asks (bar_kind g.K.Tracks.means) call now s.bar) now s.limiter none
+returns-clause-free g c = λ target call now s none. call_allowed (bar_kind g.K.Tracks.means) target call now s none

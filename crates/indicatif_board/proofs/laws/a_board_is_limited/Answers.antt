@@ -7,13 +7,13 @@ pub returns-clause-asks : goal.returns-clause-asks
 returns-clause-asks g c = board_limited
 
 pub returns-clause-bounded : goal.returns-clause-bounded
-returns-clause-bounded g c = λ kind board_id. runs_bounded (board kind board_id) (λ s. s.limiter) (board_limited kind board_id)
+returns-clause-bounded g c = λ kind mark. runs_bounded (board kind mark) (λ s. s.limiter) (board_limited kind mark)
 
 pub returns-clause-from_any : goal.returns-clause-from_any
-returns-clause-from_any g c = λ kind board_id. runs_bounded_from (board kind board_id) (λ s. s.limiter) (board_limited kind board_id)
+returns-clause-from_any g c = λ kind mark. runs_bounded_from (board kind mark) (λ s. s.limiter) (board_limited kind mark)
 
 pub returns-clause-spends : goal.returns-clause-spends
-returns-clause-spends g c = λ kind board_id. run_spends (board kind board_id) (λ s. s.limiter) (board_limited kind board_id)
+returns-clause-spends g c = λ kind mark. run_spends (board kind mark) (λ s. s.limiter) (board_limited kind mark)
 
 pub returns-clause-free : goal.returns-clause-free
 returns-clause-free g c = board_free

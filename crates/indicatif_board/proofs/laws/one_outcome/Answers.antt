@@ -3,4 +3,4 @@ use Rattle.indicatif_bar.proofs.RunLemmas.{one_outcome}
 use Rattle.indicatif_board.proofs.laws.one_outcome.Goals as goal
 
 pub returns : goal.returns
-returns g c = λ kind board_id. one_outcome (board kind board_id)
+returns g c = λ kind mark. one_outcome (board kind mark)

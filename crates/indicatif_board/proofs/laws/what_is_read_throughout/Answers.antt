@@ -3,4 +3,4 @@ use Rattle.indicatif_board.specs.Boards.{board}
 use Rattle.indicatif_board.proofs.laws.what_is_read_throughout.Goals as goal
 
 pub returns : goal.returns
-returns g c = λ kind board_id. bytes_read (board kind board_id)
+returns g c = λ kind mark. bytes_read (board kind mark)

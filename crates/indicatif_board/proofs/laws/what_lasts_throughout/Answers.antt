@@ -3,4 +3,4 @@ use Rattle.indicatif_board.specs.Boards.{board}
 use Rattle.indicatif_board.proofs.laws.what_lasts_throughout.Goals as goal
 
 pub returns : goal.returns
-returns g c = λ kind board_id. rows_last (board kind board_id)
+returns g c = λ kind mark. rows_last (board kind mark)

@@ -7,7 +7,7 @@ use Rattle.indicatif_term.proofs.BesideLemmas.{all_at, all_set, noted_line, one_
 use Rattle.indicatif_term.proofs.beside.note_standing.Goals as goal
 
 pub loop-at-init : goal.loop-at-init
-loop-at-init c = record { texts_same = refl; rest = refl; right = λ w all. all; ready = tt; noted = λ w on all like. none_noted w c.args.standing.now c.args.skipped }
+loop-at-init c = record { texts_same = refl; rest = refl; right = λ w all. all; ready = tt; noted = λ w on all like. none_noted w c.args.standing.now }
 
 pub loop-at-preserved : goal.loop-at-preserved
 loop-at-preserved c =
@@ -27,7 +27,7 @@ loop-at-preserved c =
       noted = λ w on all like.
           let is = c.passed_over-place.ensures w on (old.noted w on all like).is_at in
           let here = all_at (IsLine w) ys i x h e (old.right w all) in
-          rw c.of.ensures (one_noted w c.args.standing.now c.args.skipped ys i c.loop-at.start x c.is_there-stays.result c.loop-at.place c.passed_over-place.result
+          rw c.of.ensures (one_noted w c.args.standing.now ys i c.loop-at.start x c.is_there-stays.result c.loop-at.place c.passed_over-place.result
           h e (old.noted w on all like) is here
           (λ stays. rw same at (c.is_there-stays.ensures stays w on is (rw (← same) at here) (rw (← same) at (still_like c.args.standing.now ys c.args.lines.now.items i x h e old.rest like))))
           c.saturating_add-start.result (rw same at c.saturating_add-start.ensures));

@@ -10,5 +10,5 @@ invariant-loop-at l = record {
   rest : drop l.at l.lines.items ≡ drop l.at l.fn.lines.items;
   right : (w : ℕ) → AreLines w l.fn.lines.items → AreLines w l.lines.items;
   ready : AreReady (take l.at l.lines.items);
-  noted : (w : ℕ) → AreLines w l.standing → AreLines w l.fn.lines.items → AreLike l.standing l.fn.lines.items → AreNoted w l.standing l.fn.skipped (take l.at l.lines.items) l.start l.place;
+  noted : (w : ℕ) → AreLines w l.standing → AreLines w l.fn.lines.items → AreLike l.standing l.fn.lines.items → AreNoted w l.standing (take l.at l.lines.items) l.start l.place;
 }

@@ -1,8 +1,9 @@
 use Rattle.std.proofs.Common.{arith, ◌<◌, [], length, sym, ap, subst, ◌∙◌}
 use Rattle.indicatif_term.specs.Standing.{AreLines}
+use Rattle.indicatif_term.specs.Remembered.{live_lines}
 use Rattle.indicatif_term.specs.Inside.Plans.{frame_lines}
 use Rattle.indicatif_term.specs.Inside.Renewed.{AreCompared}
-use Rattle.indicatif_term.proofs.RememberedLemmas.{lines_right}
+use Rattle.indicatif_term.proofs.RememberedLemmas.{live_right}
 use Rattle.indicatif_term.proofs.RenewedLemmas.{renewed_frame}
 use Rattle.indicatif_term.proofs.renewed.is_same_frame.Goals as goal
 
@@ -11,19 +12,19 @@ compare_frame-requires c =
     let r = c.args.last.shown.now in
     let s = c.requires.settled in
     let some : 0 < r.width = omega (arith, s.same_width, c.args.window.some) in
-    let lines : AreLines c.args.window.columns r.lines.items = subst (λ n. AreLines n r.lines.items) s.same_width (lines_right r some) in
+    let lines : AreLines c.args.window.columns (live_lines r) = subst (λ n. AreLines n (live_lines r)) s.same_width (live_right r some) in
     record {
-      standing = subst (AreLines c.args.window.columns) (sym c.as_slice-standing.ensures.value) lines;
+      standing = subst (AreLines c.args.window.columns) (sym c.live-standing.ensures) lines;
       summed = c.requires.summed;
       laid = c.requires.laid;
-      compared = subst (λ xs. AreCompared c.args.window.columns xs c.args.made.now.changed.items [] c.args.made.now.plan) (sym c.as_slice-standing.ensures.value) c.requires.compared;
+      compared = subst (λ xs. AreCompared c.args.window.columns xs c.args.made.now.changed.items [] c.args.made.now.plan) (sym c.live-standing.ensures) c.requires.compared;
     }
 
 pub returns : goal.returns
 returns c = λ yes.
     let made = c.compare_frame.new.made in
     let all = c.if-not-compare_frame.false in
-    let standing = c.as_slice-standing.ensures.value in
+    let standing = c.live-standing.ensures in
     renewed_frame c.args.window.columns c.args.window.rows c.args.frame.now c.args.last.counts.now made.plan c.args.last.shown.now made.changed.items c.requires.settled
     (c.compare_frame.ensures.narrow all) (c.compare_frame.ensures.laid all)
     (subst (λ xs. AreCompared c.args.window.columns xs made.changed.items (frame_lines c.args.frame.now) made.plan) standing (c.compare_frame.ensures.compared all))

@@ -1,4 +1,4 @@
-use Rattle.std.proofs.Common.{arith, ◌<◌, refl, sym, ◌∙◌, ap, ◌≡◌, ◌∷◌, [], take, take_all, length, subst}
+use Rattle.std.proofs.Common.{arith, ◌<◌, refl, sym, ◌∙◌, ap, ◌≡◌, ◌∷◌, [], take, take_all, length, subst, get_or}
 use Rattle.std.specs.List.{AllByRecursion}
 use Rattle.std.specs.Prelude.{string_bytes}
 use Rattle.std.proofs.lemmas.List.{length-map, take_more_set}
@@ -13,13 +13,13 @@ loop-at-init c = record { texts_same = refl; right = λ w all. all; left = tt }
 
 pub loop-at-preserved : goal.loop-at-preserved
 loop-at-preserved c =
-    let ys = c.loop-at.lines.items in
+    let ys = c.loop-at.lines in
     let i = c.loop-at.at in
-    let x = c.index_mut.result.now in
+    let x = get_or ys i c.index-lines-at.result in
     let old = c.loop-at.invariant in
     let bytes = λ (l : StandingLine). string_bytes l.text in
-    let h : i < length ys = omega (arith, ap length old.texts_same, length-map ys bytes, length-map c.args.lines.now.items bytes, c.loop-at-test.true, c.len-at-end.ensures) in
-    let e = sym c.index_mut.ensures.value in
+    let h : i < length ys = omega (arith, ap length old.texts_same, length-map ys bytes, length-map c.args.lines.now bytes, c.loop-at-test.true) in
+    let e = ap (get_or ys i) (sym c.index-lines-at.is) in
     record {
       texts_same = texts_noted ys i x _ e ∙ old.texts_same;
       right = λ w all. all_set (IsLine w) ys i _ (noted_line w x _ (all_at (IsLine w) ys i x h e (old.right w all))) (old.right w all);
@@ -28,12 +28,12 @@ loop-at-preserved c =
 
 pub returns : goal.returns
 returns c =
-    let ys = c.loop-at.lines.items in
+    let ys = c.loop-at.lines in
     let bytes = λ (l : StandingLine). string_bytes l.text in
     let all : take c.loop-at.at ys ≡ ys = take_all c.loop-at.at ys
-    (omega (arith, ap length c.loop-at.invariant.texts_same, length-map ys bytes, length-map c.args.lines.now.items bytes, c.loop-at-test.false, c.len-at-end.ensures)) in
+    (omega (arith, ap length c.loop-at.invariant.texts_same, length-map ys bytes, length-map c.args.lines.now bytes, c.loop-at-test.false)) in
     record {
       texts = c.loop-at.invariant.texts_same;
-      in_place = λ w all. in_place w c.args.lines.now.items ys all (c.loop-at.invariant.right w all) c.loop-at.invariant.texts_same;
-      over = λ w. all_over w c.args.lines.now.items ys c.loop-at.invariant.texts_same (subst (AllByRecursion IsLeft) all c.loop-at.invariant.left);
+      in_place = λ w all. in_place w c.args.lines.now ys all (c.loop-at.invariant.right w all) c.loop-at.invariant.texts_same;
+      over = λ w. all_over w c.args.lines.now ys c.loop-at.invariant.texts_same (subst (AllByRecursion IsLeft) all c.loop-at.invariant.left);
     }

@@ -6,7 +6,7 @@ use Rattle.indicatif_term.proofs.renewed.leave_all.Given as goal
 
 abbrev pub invariant-loop-at : goal.invariant-loop-at
 invariant-loop-at l = record {
-  texts_same : texts l.lines.items ≡ texts l.fn.lines.items;
-  right : (w : ℕ) → AreLines w l.fn.lines.items → AreLines w l.lines.items;
-  left : AllByRecursion IsLeft (take l.at l.lines.items);
+  texts_same : texts l.lines ≡ texts l.fn.lines;
+  right : (w : ℕ) → AreLines w l.fn.lines → AreLines w l.lines;
+  left : AllByRecursion IsLeft (take l.at l.lines);
 }

@@ -13,9 +13,9 @@ loop-line-init c =
     let same = c.leave_all.ensures.texts in
     record {
       texts_are = ap (λ ts. renewed ts c.args.changed.items) same;
-      count = sym (length-map c.leave_all.new.lines.items bytes) ∙ ap length same ∙ length-map c.args.lines.now.items bytes;
+      count = sym (length-map c.leave_all.new.lines bytes) ∙ ap length same ∙ length-map c.args.lines.now bytes;
       in_place = λ w all f. c.leave_all.ensures.in_place w all;
-      pending = λ w f. (length c.args.lines.now.items, omega arith, f, λ i h. ap (λ ts. get_or ts i []) same);
+      pending = λ w f. (length c.args.lines.now, omega arith, f, λ i h. ap (λ ts. get_or ts i []) same);
       over = λ w f. c.leave_all.ensures.over w;
     }
 
@@ -23,7 +23,7 @@ pub put_line-requires : goal.put_line-requires
 put_line-requires c =
     let old = c.loop-line.invariant in
     let w = c.requires.within.0 in
-    let on = c.args.lines.now.items in
+    let on = c.args.lines.now in
     let popped = c.pop.ensures.items ∙ ap (λ o. c.pop.new.self.items ++ option_to_list o) c.in-Some.is in
     let p = old.pending w c.requires.within.1 in
     let front = fits_front w on 0 p.0 c.pop.new.self.items c.in-Some.line (subst (AreFitting w on p.0) popped p.2) in
@@ -32,9 +32,9 @@ put_line-requires c =
 pub loop-line-preserved : goal.loop-line-preserved
 loop-line-preserved c =
     let old = c.loop-line.invariant in
-    let on = c.args.lines.now.items in
-    let ys = c.loop-line.lines.items in
-    let zs = c.put_line.new.lines.items in
+    let on = c.args.lines.now in
+    let ys = c.loop-line.lines in
+    let zs = c.put_line.new.lines in
     let rest = c.pop.new.self.items in
     let line = c.in-Some.line in
     let bytes = λ (l : StandingLine). string_bytes l.text in

@@ -5,13 +5,13 @@ use Rattle.indicatif_term.proofs.renewed.put_new.Given as goal
 
 abbrev pub invariant-loop-line : goal.invariant-loop-line
 invariant-loop-line l = record {
-  texts_are : renewed (texts l.lines.items) l.changed.items ≡ renewed (texts l.fn.lines.items) l.fn.changed.items;
-  count : length l.lines.items ≡ length l.fn.lines.items;
-  in_place : (w : ℕ) → AreLines w l.fn.lines.items → AreFitting w l.fn.lines.items (length l.fn.lines.items) l.fn.changed.items → AreInPlace w l.fn.lines.items l.lines.items;
-  pending : (w : ℕ) → AreFitting w l.fn.lines.items (length l.fn.lines.items) l.fn.changed.items →
-      (bound : ℕ) × (bound ≤ length l.fn.lines.items) × AreFitting w l.fn.lines.items bound l.changed.items
-      × ((i : ℕ) → i < bound → get_or (texts l.lines.items) i [] ≡ get_or (texts l.fn.lines.items) i []);
-  over : (w : ℕ) → AreFitting w l.fn.lines.items (length l.fn.lines.items) l.fn.changed.items → AreOver w l.fn.lines.items l.lines.items;
+  texts_are : renewed (texts l.lines) l.changed.items ≡ renewed (texts l.fn.lines) l.fn.changed.items;
+  count : length l.lines ≡ length l.fn.lines;
+  in_place : (w : ℕ) → AreLines w l.fn.lines → AreFitting w l.fn.lines (length l.fn.lines) l.fn.changed.items → AreInPlace w l.fn.lines l.lines;
+  pending : (w : ℕ) → AreFitting w l.fn.lines (length l.fn.lines) l.fn.changed.items →
+      (bound : ℕ) × (bound ≤ length l.fn.lines) × AreFitting w l.fn.lines bound l.changed.items
+      × ((i : ℕ) → i < bound → get_or (texts l.lines) i [] ≡ get_or (texts l.fn.lines) i []);
+  over : (w : ℕ) → AreFitting w l.fn.lines (length l.fn.lines) l.fn.changed.items → AreOver w l.fn.lines l.lines;
 }
 
 abbrev pub decreases-loop-line : goal.decreases-loop-line

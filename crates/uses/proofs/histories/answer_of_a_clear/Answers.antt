@@ -19,19 +19,19 @@ drawn_is_said (Ok d) e = cc e
 drawn_is_said (Err refusal) e = cc e
 
 -- so that of a clear isn't
-clear_is_drawn : {K : Type 0} (m : Tracking K) (board_id now : ℕ) (s next : BoardState (BarRecord K)) (target : Target) (answer : Answer) →
-    Leads (board (board_bars m) board_id) target s ((board (board_bars m) board_id).deed target Clear now s) answer next → answer ≡ Done → ⊥
-clear_is_drawn m board_id now s next target answer (inl made) e = drawn_is_said (drawn_by target (draw_of target false Forced now NoFrame s s false)).0 (sym (ap (λ o. o.0) made) ∙ e)
-clear_is_drawn m board_id now s next target answer (inr (inl short)) e = drawn_is_said (Err Memory) (sym short.0 ∙ e)
-clear_is_drawn m board_id now s next target answer (inr (inr broken)) e = drawn_is_said (Err (Terminal broken.0)) (sym broken.1 ∙ e)
+clear_is_drawn : {K : Type 0} (m : Tracking K) (mark now : ℕ) (s next : BoardState (BarRecord K)) (target : Target) (answer : Answer) →
+    Leads (board (board_bars m) mark) target s ((board (board_bars m) mark).deed target Clear now s) answer next → answer ≡ Done → ⊥
+clear_is_drawn m mark now s next target answer (inl made) e = drawn_is_said (drawn_by target (draw_of target false Forced now NoFrame s s false)).0 (sym (ap (λ o. o.0) made) ∙ e)
+clear_is_drawn m mark now s next target answer (inr (inl short)) e = drawn_is_said (Err Memory) (sym short.0 ∙ e)
+clear_is_drawn m mark now s next target answer (inr (inr broken)) e = drawn_is_said (Err (Terminal broken.0)) (sym broken.1 ∙ e)
 
 pub returns : goal.returns
 returns g c = λ done. elim c.apply.ensures.grows [
   | inl adds ↦
-      let board_id = c.args.history.now.board_id in
+      let mark = c.args.history.now.mark in
       let begun = c.replays.ensures.2 in
       let target = target_of (known g.T.TermLike.view c.args.history.now.board) in
-      let made = adds.leads board_id begun.state begun.holds in
-      clear_is_drawn g.K.ProgressTracker.means board_id c.args.now begun.state made.0 target (answer_of c.apply.result.0) made.2.leads (ap answer_of done)
+      let made = adds.leads mark begun.state begun.holds in
+      clear_is_drawn g.K.ProgressTracker.means mark c.args.now begun.state made.0 target (answer_of c.apply.result.0) made.2.leads (ap answer_of done)
   | inr turned ↦ let z = sym turned.1 ∙ done in cc
 ]

@@ -14,9 +14,9 @@ pub returns-in-Remove-clause-leads : goal.returns-in-Remove-clause-leads
 returns-in-Remove-clause-leads g c = rw (c.in-Remove.is, c.removal_answer.ensures.answer) (c.remove.ensures.leads c.args.now)
 
 pub returns-in-Remove-clause-back : goal.returns-in-Remove-clause-back
-returns-in-Remove-clause-back g c = λ board_id s other inside.
+returns-in-Remove-clause-back g c = λ mark s other inside.
     rw (c.in-Remove.is, c.removal_answer.ensures.answer)
-    (c.removal_answer.ensures.back ∙ removed_is_back c.remove.result (id_of c.in-Remove.id) other s.members (c.remove.ensures.bar board_id s other inside))
+    (c.removal_answer.ensures.back ∙ removed_is_back c.remove.result (id_of c.in-Remove.id) other s.members (c.remove.ensures.bar mark s other inside))
 
 pub returns-in-Drop-clause-leads : goal.returns-in-Drop-clause-leads
 returns-in-Drop-clause-leads g c = rw (c.in-Drop.is, c.draw_answer.ensures) c.drop_bar.ensures.leads

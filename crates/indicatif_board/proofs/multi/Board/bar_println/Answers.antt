@@ -12,33 +12,33 @@ use Rattle.indicatif_board.proofs.LeavingLemmas.{none_left}
 use Rattle.indicatif_board.proofs.multi.Board.bar_println.Goals as goal
 
 pub returns-in_err-at-clause-leads : goal.returns-in_err-at-clause-leads
-returns-in_err-at-clause-leads g c = λ board_id s inside.
+returns-in_err-at-clause-leads g c = λ mark s inside.
     let tracks = g.K.Tracks.means in
     let old = known g.T.TermLike.view c.args.self.now in
     let id = id_of c.args.id in
     let x = err_from_is_err_and c.from_residual.result c.from_residual.ensures.1 in
-    let why = c.in_err-at.ensures.found board_id s inside in
+    let why = c.in_err-at.ensures.found mark s inside in
     let d = log_of (board_bars tracks) (target_of old) c.args.text.now c.args.now s (laid_out (board_bars tracks) (target_of old) c.args.now id.number s)
     (layout_takes (board_bars tracks) id.number s) in
     rw (x.1 ∙ ap Err x.2) (
       s,
       inside,
-      made_turned_away tracks board_id old old (BarLog id c.args.text.now) c.args.now s c.in_err-at.field-0.0 (ap (λ o. or_refused o (draws d) s) why)
-          (turned_quietly board_id id s c.in_err-at.field-0.0 why),
+      made_turned_away tracks mark old old (BarLog id c.args.text.now) c.args.now s c.in_err-at.field-0.0 (ap (λ o. or_refused o (draws d) s) why)
+          (turned_quietly mark id s c.in_err-at.field-0.0 why),
     )
 
 pub returns-clause-leads : goal.returns-clause-leads
-returns-clause-leads g c = λ board_id s inside.
+returns-clause-leads g c = λ mark s inside.
     let tracks = g.K.Tracks.means in
     let old = known g.T.TermLike.view c.args.self.now in
     let id = id_of c.args.id in
-    let f = c.in_ok-at.ensures.found board_id s inside in
-    let drawn = c.draw.ensures.drew board_id false s (Some id.number) inside f.1 in
+    let f = c.in_ok-at.ensures.found mark s inside in
+    let drawn = c.draw.ensures.drew mark false s (Some id.number) inside f.1 in
     let d = log_of (board_bars tracks) (target_of old) c.args.text.now c.args.now s (laid_out (board_bars tracks) (target_of old) c.args.now id.number s)
     (layout_takes (board_bars tracks) id.number s) in (
       drawn.0,
       drawn.1,
-      made_by_draw tracks board_id old (known g.T.TermLike.view c.draw.new.self) (BarLog id c.args.text.now) c.args.now s d s.lists c.draw.result drawn.0 (ap
+      made_by_draw tracks mark old (known g.T.TermLike.view c.draw.new.self) (BarLog id c.args.text.now) c.args.now s d s.lists c.draw.result drawn.0 (ap
           (λ o. or_refused o (draws d) s) f.0) refl drawn.2,
     )
 

@@ -1,42 +1,217 @@
-use Rattle.std.proofs.Common.{◌∙◌, refl, sym, ap, subst, Ok}
+use Rattle.std.proofs.Common.{◌≡◌, ◌<◌, ◌∙◌, refl, sym, ap, subst, arith, option_map, Ok, Err, Some, inl, inr}
+use Rattle.std.specs.Prelude.{MatchOption}
+use Rattle.std.proofs.lemmas.Result.{err_from_is_err_and}
 use Rattle.indicatif_text.specs.declared.refusal.Drawn.TheVariants.{Limited}
-use Rattle.indicatif_bar.specs.Machines.{target_of}
+use Rattle.indicatif_text.specs.declared.refusal.Refusal.TheVariants.{NoColumns}
+use Rattle.indicatif_term.specs.Engines.{engine_moves, engine_term, Fits}
+use Rattle.indicatif_term.specs.DrawTargets.{is_bottom}
+use Rattle.indicatif_term.specs.Lists.{opening_lists}
+use Rattle.indicatif_bar.specs.Machines.{Target, target_of}
+use Rattle.indicatif_bar.specs.Kinds.{asked_of}
 use Rattle.indicatif_bar.specs.Stages.{writing_as}
-use Rattle.indicatif_bar.proofs.OutcomeLemmas.{drew_none, outcome-unasked}
+use Rattle.indicatif_bar.proofs.OutcomeLemmas.{drew_none, outcome-unasked, drew_withheld, drew_limited}
+use Rattle.indicatif_bar.proofs.StageLemmas.{drew_staged, drew_hidden}
 use Rattle.indicatif_board.specs.BoardBars.{board_bars}
 use Rattle.indicatif_board.specs.Boards.{draw_of, board}
 use Rattle.indicatif_board.specs.Inside.Named.{named_laid_out, named_layout_takes}
 use Rattle.indicatif_board.specs.Multi.{IsIn, known}
-use Rattle.indicatif_board.specs.ShownBars.{AreShownAs}
-use Rattle.indicatif_board.specs.Slots.{LeavesHead}
-use Rattle.indicatif_board.proofs.LeavingLemmas.{none_left}
+use Rattle.indicatif_board.specs.ShownBars.{AreShownAs, record_on}
+use Rattle.indicatif_board.proofs.MemberLemmas.{laid_lists, laid_limiter}
+use Rattle.indicatif_board.proofs.BoardDrawLemmas.{ready_holds, asked_so}
+use Rattle.indicatif_board.proofs.LeavingLemmas.{same_left, left_after}
 use Rattle.indicatif_board.proofs.multi.Board.draw.Goals as goal
 
 pub returns-then-is_no-clause-drew : goal.returns-then-is_no-clause-drew
 unfolding IsIn
-returns-then-is_no-clause-drew g c = λ board_id takes s number inside placed.
+returns-then-is_no-clause-drew g c = λ mark takes s number inside placed.
     let tracks = g.K.Tracks.means in
     let old = known g.T.TermLike.view c.args.self.now in
     let target = target_of old in
     let d = draw_of target takes c.args.ask c.args.now (writing_as c.args.writing) s (named_laid_out tracks target c.args.now number s) (named_layout_takes tracks number s) in
     let shown : AreShownAs c.note_place.new.self s = subst (λ b. AreShownAs b s) (sym c.note_place.ensures) inside.1 in
-    (s, (inside.0, shown, inside.2), drew_none (board (board_bars tracks) board_id) old d s.lists (Ok Limited) s refl refl (outcome-unasked target d (sym c.is_no.ensures ∙ c.if-is_no.true)))
+    (s, (inside.0, shown, inside.2), drew_none (board (board_bars tracks) mark) old d s.lists (Ok Limited) s refl refl (outcome-unasked target d (sym c.is_no.ensures ∙ c.if-is_no.true)))
+
+pub returns-then-width-eq0-clause-drew : goal.returns-then-width-eq0-clause-drew
+unfolding IsIn
+returns-then-width-eq0-clause-drew g c = λ mark takes s number inside placed.
+    let asked = sym c.is_no.ensures ∙ c.if-is_no.false in
+    let holds : AreShownAs c.note_place.new.self s = subst (λ b. AreShownAs b s) (sym c.note_place.ensures) inside.1 in
+    let staged = inside.2 in
+    let tracks = g.K.Tracks.means in
+    let m = board (board_bars tracks) mark in
+    let view = g.T.TermLike.view in
+    let stage = c.args.self.now.stage in
+    let engine = c.in-Some.engine in
+    let drawing = λ (target : Target). draw_of target takes c.args.ask c.args.now (writing_as c.args.writing) s
+    (named_laid_out tracks target c.args.now number s) (named_layout_takes tracks number s) in
+    let fits = subst (λ o. MatchOption o (s.lists ≡ opening_lists) (λ e. Fits e s.lists)) c.in-Some.is staged.1 in
+    let none : (view (engine_term engine)).columns ≡ 0 = ap (λ t. (view t).columns) (sym c.term.ensures.terminal) ∙ sym c.width-width.ensures ∙ c.if-width-eq0.true in
+    let d = drew_staged m (AreShownAs c.note_place.new.self) (λ x. x.limiter) view stage (record stage { engine = Some engine }) engine engine drawing s.lists (Err NoColumns) c.in-Some.is refl
+    (drew_withheld m (λ x. AreShownAs c.note_place.new.self x × (stage.limiter ≡ x.limiter)) view engine (drawing (target_of (Some (view (engine_term engine))))) s.lists
+    NoColumns asked (inl (refl, none)) (λ e. cc) fits refl (holds, staged.0)) in
+    (d.0, (inside.0, d.1, d.2), d.3)
+
+pub returns-in_err-lay_out-clause-drew : goal.returns-in_err-lay_out-clause-drew
+unfolding IsIn
+returns-in_err-lay_out-clause-drew g c = λ mark takes s number inside placed.
+    let asked = sym c.is_no.ensures ∙ c.if-is_no.false in
+    let holds : AreShownAs c.note_place.new.self s = subst (λ b. AreShownAs b s) (sym c.note_place.ensures) inside.1 in
+    let staged = inside.2 in
+    let tracks = g.K.Tracks.means in
+    let m = board (board_bars tracks) mark in
+    let view = g.T.TermLike.view in
+    let stage = c.args.self.now.stage in
+    let engine = c.in-Some.engine in
+    let drawing = λ (target : Target). draw_of target takes c.args.ask c.args.now (writing_as c.args.writing) s
+    (named_laid_out tracks target c.args.now number s) (named_layout_takes tracks number s) in
+    let fits = subst (λ o. MatchOption o (s.lists ≡ opening_lists) (λ e. Fits e s.lists)) c.in-Some.is staged.1 in
+    let some : 0 < (view (engine_term engine)).columns = omega (arith, ap (λ t. (view t).columns) c.term.ensures.terminal, c.width-width.ensures, c.if-width-eq0.false) in
+    let x = err_from_is_err_and c.from_residual.result c.from_residual.ensures.1 in
+    let memory = c.in_err-lay_out.ensures.memory in
+    let e = c.in_err-lay_out.field-0.0 in
+    rw (x.1 ∙ ap Err x.2, c.in_err-lay_out.ensures.unchanged)
+    (let d = drew_staged m (AreShownAs c.note_place.new.self) (λ x. x.limiter) view stage (record stage { engine = Some engine }) engine engine drawing s.lists (Err e) c.in-Some.is refl
+    (drew_withheld m (λ x. AreShownAs c.note_place.new.self x × (stage.limiter ≡ x.limiter)) view engine (drawing (target_of (Some (view (engine_term engine))))) s.lists
+    e asked (inr (memory.0, some)) (λ e. memory.1 s number placed holds) fits refl (holds, staged.0)) in (d.0, (inside.0, d.1, d.2), d.3))
+
+pub returns-then-not-allows-clause-drew : goal.returns-then-not-allows-clause-drew
+unfolding IsIn
+returns-then-not-allows-clause-drew g c = λ mark takes s number inside placed.
+    let asked = sym c.is_no.ensures ∙ c.if-is_no.false in
+    let holds : AreShownAs c.note_place.new.self s = subst (λ b. AreShownAs b s) (sym c.note_place.ensures) inside.1 in
+    let staged = inside.2 in
+    let tracks = g.K.Tracks.means in
+    let m = board (board_bars tracks) mark in
+    let view = g.T.TermLike.view in
+    let stage = c.args.self.now.stage in
+    let engine = c.in-Some.engine in
+    let b = c.lay_out.new.self in
+    let writing = writing_as c.args.writing in
+    let drawing = λ (target : Target). draw_of target takes c.args.ask c.args.now writing s (named_laid_out tracks target c.args.now number s) (named_layout_takes tracks number s) in
+    let target = target_of (Some (view (engine_term engine))) in
+    let fits = subst (λ o. MatchOption o (s.lists ≡ opening_lists) (λ e. Fits e s.lists)) c.in-Some.is staged.1 in
+    let some : 0 < (view (engine_term engine)).columns = omega (arith, ap (λ t. (view t).columns) c.term.ensures.terminal, c.width-width.ensures, c.if-width-eq0.false) in
+    let laid = c.in_ok-lay_out.ensures.laid target s number (ap (λ t. (view t).columns) (sym c.term.ensures.terminal) ∙ sym c.width-width.ensures) placed holds in
+    let after = named_laid_out tracks target c.args.now number s in
+    let same = staged.0 ∙ sym (laid_limiter tracks target c.args.now number s) in
+    let withheld = sym (c.allows.ensures.answer ∙ ap (λ l. (asked_of c.args.ask c.args.now l).0) same) ∙ c.if-not-allows.true in
+    let d = drew_staged m (AreShownAs b) (λ x. x.limiter) view stage (record stage { engine = Some engine; limiter = c.allows.new.limiter }) engine engine drawing s.lists (Ok Limited)
+    c.in-Some.is refl
+    (drew_limited m (λ x. AreShownAs b x × (c.allows.new.limiter ≡ x.limiter)) view engine (drawing target) s.lists asked some withheld fits (laid_lists tracks target c.args.now number s) (
+      ready_holds tracks view mark takes c.args.ask c.args.now writing s after (named_layout_takes tracks number s) engine b.frame.items b.members.items b.table.made (is_bottom b.alignment) laid,
+      c.allows.ensures.next ∙ ap (λ l. (asked_of c.args.ask c.args.now l).1) same,
+    )) in
+    (d.0, (inside.0, d.1, d.2), d.3)
 
 pub returns-clause-drew : goal.returns-clause-drew
 unfolding IsIn
-returns-clause-drew g c = λ board_id takes s number inside placed.
-    let shown : AreShownAs c.note_place.new.self s = subst (λ b. AreShownAs b s) (sym c.note_place.ensures) inside.1 in
-    let d = c.draw_on.ensures.drew board_id takes s number (sym c.is_no.ensures ∙ c.if-is_no.false) shown placed inside.2 in
+returns-clause-drew g c = λ mark takes s number inside placed.
+    let asked = sym c.is_no.ensures ∙ c.if-is_no.false in
+    let holds : AreShownAs c.note_place.new.self s = subst (λ b. AreShownAs b s) (sym c.note_place.ensures) inside.1 in
+    let staged = inside.2 in
+    let tracks = g.K.Tracks.means in
+    let m = board (board_bars tracks) mark in
+    let view = g.T.TermLike.view in
+    let stage = c.args.self.now.stage in
+    let engine = c.in-Some.engine in
+    let writing = writing_as c.args.writing in
+    let drawing = λ (target : Target). draw_of target takes c.args.ask c.args.now writing s (named_laid_out tracks target c.args.now number s) (named_layout_takes tracks number s) in
+    let target = target_of (Some (view (engine_term engine))) in
+    let fits = subst (λ o. MatchOption o (s.lists ≡ opening_lists) (λ e. Fits e s.lists)) c.in-Some.is staged.1 in
+    let some : 0 < (view (engine_term engine)).columns = omega (arith, ap (λ t. (view t).columns) c.term.ensures.terminal, c.width-width.ensures, c.if-width-eq0.false) in
+    let laid = c.in_ok-lay_out.ensures.laid target s number (ap (λ t. (view t).columns) (sym c.term.ensures.terminal) ∙ sym c.width-width.ensures) placed holds in
+    let after = named_laid_out tracks target c.args.now number s in
+    let same = staged.0 ∙ sym (laid_limiter tracks target c.args.now number s) in
+    let next = c.allows.new.limiter in
+    let allows = asked_so c.args.ask c.args.now stage.limiter after.limiter next same (sym c.allows.ensures.answer ∙ c.if-not-allows.false) c.allows.ensures.next in
+    let d = drew_staged m (AreShownAs c.write.new.self) (λ x. x.limiter) view stage (record stage { engine = Some c.write.new.engine; limiter = next }) engine c.write.new.engine
+    drawing s.lists c.write.result c.in-Some.is refl
+    (c.write.ensures.drew mark c.args.now takes (named_layout_takes tracks number s) c.args.ask next s after asked some allows laid (laid_lists tracks target c.args.now number s) fits) in
     (d.0, (inside.0, d.1, d.2), d.3)
 
+pub returns-in_default-clause-drew : goal.returns-in_default-clause-drew
+unfolding IsIn
+returns-in_default-clause-drew g c = λ mark takes s number inside placed.
+    let asked = sym c.is_no.ensures ∙ c.if-is_no.false in
+    let holds : AreShownAs c.note_place.new.self s = subst (λ b. AreShownAs b s) (sym c.note_place.ensures) inside.1 in
+    let staged = inside.2 in
+    let tracks = g.K.Tracks.means in
+    let drawing = λ (target : Target). draw_of target takes c.args.ask c.args.now (writing_as c.args.writing) s
+    (named_laid_out tracks target c.args.now number s) (named_layout_takes tracks number s) in
+    let d = drew_hidden (board (board_bars tracks) mark) (AreShownAs c.note_place.new.self) (λ x. x.limiter) g.T.TermLike.view c.args.self.now.stage drawing s
+    c.in_default.not-Some asked refl holds staged in
+    (d.0, (inside.0, d.1, d.2), d.3)
+
+-- ---- what is kept
+
+pub returns-then-width-eq0-clause-keeps : goal.returns-then-width-eq0-clause-keeps
+returns-then-width-eq0-clause-keeps g c =
+    (refl, ap (option_map engine_moves) (sym c.in-Some.is), λ off. ap (option_map engine_term) (sym c.in-Some.is), λ none. refl)
+
+pub returns-in_err-lay_out-clause-keeps : goal.returns-in_err-lay_out-clause-keeps
+returns-in_err-lay_out-clause-keeps g c =
+    let x = err_from_is_err_and c.from_residual.result c.from_residual.ensures.1 in
+    (refl, ap (option_map engine_moves) (sym c.in-Some.is), λ off. ap (option_map engine_term) (sym c.in-Some.is), λ none. rw (x.1 ∙ ap Err (x.2 ∙ c.in_err-lay_out.ensures.memory.0)) refl)
+
+pub returns-then-not-allows-clause-keeps : goal.returns-then-not-allows-clause-keeps
+returns-then-not-allows-clause-keeps g c =
+    (refl, ap (option_map engine_moves) (sym c.in-Some.is), λ off. ap (option_map engine_term) (sym c.in-Some.is), λ none. refl)
+
+pub returns-clause-keeps : goal.returns-clause-keeps
+returns-clause-keeps g c = (
+  refl,
+  ap Some c.write.ensures.moves ∙ ap (option_map engine_moves) (sym c.in-Some.is),
+  λ off. ap (λ e. Some (engine_term e)) (c.write.ensures.silent off) ∙ ap (option_map engine_term) (sym c.in-Some.is),
+  λ none.
+      let view = g.T.TermLike.view in
+      let here : (view (engine_term c.in-Some.engine)).columns ≡ 0 = subst (λ o. (target_of (option_map view (option_map engine_term o))).columns ≡ 0) c.in-Some.is none in
+      absurd (c.if-width-eq0.false (c.width-width.ensures ∙ ap (λ t. (view t).columns) c.term.ensures.terminal ∙ here)),
+)
+
 pub returns-then-is_no-clause-slots : goal.returns-then-is_no-clause-slots
-returns-then-is_no-clause-slots g c = subst (λ b. LeavesHead c.args.self.now.shown.table b.table) (sym c.note_place.ensures) (none_left c.args.self.now.shown.table)
+returns-then-is_no-clause-slots g c = same_left c.args.self.now.shown.table c.note_place.new.self.table (ap (λ b. b.table) c.note_place.ensures)
 
 pub returns-then-is_no-clause-stay : goal.returns-then-is_no-clause-stay
 returns-then-is_no-clause-stay g c = λ other. ap (λ b. b.table) c.note_place.ensures
 
+pub returns-in_default-clause-slots : goal.returns-in_default-clause-slots
+returns-in_default-clause-slots g c = same_left c.args.self.now.shown.table c.note_place.new.self.table (ap (λ b. b.table) c.note_place.ensures)
+
+pub returns-in_default-clause-stay : goal.returns-in_default-clause-stay
+returns-in_default-clause-stay g c = λ other. ap (λ b. b.table) c.note_place.ensures
+
+pub returns-then-width-eq0-clause-slots : goal.returns-then-width-eq0-clause-slots
+returns-then-width-eq0-clause-slots g c = same_left c.args.self.now.shown.table c.note_place.new.self.table (ap (λ b. b.table) c.note_place.ensures)
+
+pub returns-then-width-eq0-clause-stay : goal.returns-then-width-eq0-clause-stay
+returns-then-width-eq0-clause-stay g c = λ other. ap (λ b. b.table) c.note_place.ensures
+
+pub returns-in_err-lay_out-clause-slots : goal.returns-in_err-lay_out-clause-slots
+returns-in_err-lay_out-clause-slots g c = same_left c.args.self.now.shown.table c.lay_out.new.self.table (c.lay_out.ensures.slots ∙ ap (λ b. b.table) c.note_place.ensures)
+
+pub returns-in_err-lay_out-clause-head : goal.returns-in_err-lay_out-clause-head
+returns-in_err-lay_out-clause-head g c = λ yes.
+    let x = err_from_is_err_and c.from_residual.result c.from_residual.ensures.1 in
+    absurd (cc (sym (x.1 ∙ ap Err x.2) ∙ yes))
+
+pub returns-in_err-lay_out-clause-stay : goal.returns-in_err-lay_out-clause-stay
+returns-in_err-lay_out-clause-stay g c = λ other. c.lay_out.ensures.slots ∙ ap (λ b. b.table) c.note_place.ensures
+
+pub returns-then-not-allows-clause-slots : goal.returns-then-not-allows-clause-slots
+returns-then-not-allows-clause-slots g c = same_left c.args.self.now.shown.table c.lay_out.new.self.table (c.lay_out.ensures.slots ∙ ap (λ b. b.table) c.note_place.ensures)
+
+pub returns-then-not-allows-clause-stay : goal.returns-then-not-allows-clause-stay
+returns-then-not-allows-clause-stay g c = λ other. c.lay_out.ensures.slots ∙ ap (λ b. b.table) c.note_place.ensures
+
+pub returns-clause-slots : goal.returns-clause-slots
+returns-clause-slots g c =
+    left_after c.args.self.now.shown.table c.lay_out.new.self.table c.write.new.self.table (c.lay_out.ensures.slots ∙ ap (λ b. b.table) c.note_place.ensures) c.write.ensures.slots
+
 pub returns-clause-head : goal.returns-clause-head
-returns-clause-head g c = c.draw_on.ensures.head
+returns-clause-head g c = c.write.ensures.head
 
 pub returns-clause-stay : goal.returns-clause-stay
-returns-clause-stay g c = λ other. c.draw_on.ensures.stay other ∙ ap (λ b. b.table) c.note_place.ensures
+returns-clause-stay g c = λ other. c.write.ensures.stay other ∙ c.lay_out.ensures.slots ∙ ap (λ b. b.table) c.note_place.ensures
+
+pub returns-clause-records : goal.returns-clause-records
+returns-clause-records g c = λ number. c.write.ensures.records number ∙ c.lay_out.ensures.records number ∙ ap (record_on number) c.note_place.ensures

@@ -13,38 +13,38 @@ index-requires g c =
 
 pub returns-then-id-self-clause-found : goal.returns-then-id-self-clause-found
 unfolding IsIn
-returns-then-id-self-clause-found g c = λ board_id s inside. found_foreign board_id (id_of c.args.id) s (λ e. c.if-id-self.true (e ∙ sym inside.0))
+returns-then-id-self-clause-found g c = λ mark s inside. found_foreign mark (id_of c.args.id) s (λ e. c.if-id-self.true (e ∙ sym inside.0))
 
 pub returns-then-at-len-clause-found : goal.returns-then-at-len-clause-found
 unfolding IsIn
-returns-then-at-len-clause-found g c = λ board_id s inside.
+returns-then-at-len-clause-found g c = λ mark s inside.
     let b = c.args.self.now.shown in
     let at_is = c.place-at.ensures.seat ∙ sym (seat_is b.frame.items b.table.order c.args.id.number b.seated) in
-    found_none b.frame.items b.members.items b.table.made (is_bottom b.alignment) board_id (id_of c.args.id) s c.place-at.result (c.if-id-self.false ∙ inside.0) inside.1 at_is
+    found_none b.frame.items b.members.items b.table.made (is_bottom b.alignment) mark (id_of c.args.id) s c.place-at.result (c.if-id-self.false ∙ inside.0) inside.1 at_is
     (omega (arith, c.if-at-len.true, c.len.ensures, b.even, b.frame.ok))
 
 pub returns-then-is_dropped-clause-found : goal.returns-then-is_dropped-clause-found
 unfolding IsIn
-returns-then-is_dropped-clause-found g c = λ board_id s inside.
+returns-then-is_dropped-clause-found g c = λ mark s inside.
     let b = c.args.self.now.shown in
     let at_is = c.place-at.ensures.seat ∙ sym (seat_is b.frame.items b.table.order c.args.id.number b.seated) in
     let size = frame_length b.frame.items s.members inside.1.frame_is in
     let within : c.place-at.result < length s.members =
     omega (arith, size, c.place-at.ensures.most, c.len.ensures, c.if-at-len.false, b.even, b.frame.ok) in
-    found_gone b.frame.items b.members.items b.table.made (is_bottom b.alignment) board_id (id_of c.args.id) s c.place-at.result (c.if-id-self.false ∙ inside.0) inside.1 at_is
+    found_gone b.frame.items b.members.items b.table.made (is_bottom b.alignment) mark (id_of c.args.id) s c.place-at.result (c.if-id-self.false ∙ inside.0) inside.1 at_is
     c.index.result.now within c.index.ensures (sym c.is_dropped.ensures ∙ c.if-is_dropped.true)
 
 pub returns-clause-found : goal.returns-clause-found
 unfolding IsIn
-returns-clause-found g c = λ board_id s inside.
+returns-clause-found g c = λ mark s inside.
     let b = c.args.self.now.shown in
     let at_is = c.place-at.ensures.seat ∙ sym (seat_is b.frame.items b.table.order c.args.id.number b.seated) in
     let size = frame_length b.frame.items s.members inside.1.frame_is in
     let within : c.place-at.result < length s.members =
     omega (arith, size, c.place-at.ensures.most, c.len.ensures, c.if-at-len.false, b.even, b.frame.ok) in (
-      found_there b.frame.items b.members.items b.table.made (is_bottom b.alignment) board_id (id_of c.args.id) s c.place-at.result (c.if-id-self.false ∙ inside.0) inside.1 at_is
+      found_there b.frame.items b.members.items b.table.made (is_bottom b.alignment) mark (id_of c.args.id) s c.place-at.result (c.if-id-self.false ∙ inside.0) inside.1 at_is
           c.index.result.now within c.index.ensures (sym c.is_dropped.ensures ∙ c.if-is_dropped.false),
-      (placed_at b.frame.items b.members.items b.table.made (is_bottom b.alignment) board_id (id_of c.args.id) s c.place-at.result (c.if-id-self.false ∙ inside.0) inside.1 at_is, within),
+      (placed_at b.frame.items b.members.items b.table.made (is_bottom b.alignment) mark (id_of c.args.id) s c.place-at.result (c.if-id-self.false ∙ inside.0) inside.1 at_is, within),
     )
 
 pub returns-clause-within : goal.returns-clause-within

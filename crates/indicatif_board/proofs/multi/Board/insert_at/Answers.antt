@@ -13,13 +13,13 @@ returns-in-Ok-clause-not_member g c =
 
 pub returns-in-Ok-take_in-clause-inserted : goal.returns-in-Ok-take_in-clause-inserted
 unfolding IsIn
-returns-in-Ok-take_in-clause-inserted g c = λ board_id s spot inside here.
+returns-in-Ok-take_in-clause-inserted g c = λ mark s spot inside here.
     let tracks = g.K.Tracks.means in
     let t = c.in-Ok-take_in.ensures.taken s spot inside.1 here in (
       taken_in spot c.in-New.bar s,
       (inside.0, t.2, inside.2),
       refl,
-      λ target. rw (c.in-New.is, inside.0) (new_leads tracks board_id s spot c.in-New.bar c.in-Ok-take_in.number target t.0 t.1),
+      λ target. rw (c.in-New.is, inside.0) (new_leads tracks mark s spot c.in-New.bar c.in-Ok-take_in.number target t.0 t.1),
     )
 
 pub returns-in-Err-take_in-clause-turned : goal.returns-in-Err-take_in-clause-turned
@@ -27,10 +27,10 @@ returns-in-Err-take_in-clause-turned g c = ap New-value c.in-Err-take_in.ensures
 
 pub returns-in-Err-take_in-clause-inserted : goal.returns-in-Err-take_in-clause-inserted
 unfolding IsIn
-returns-in-Err-take_in-clause-inserted g c = λ board_id s spot inside here.
+returns-in-Err-take_in-clause-inserted g c = λ mark s spot inside here.
     let tracks = g.K.Tracks.means in
     let t = c.in-Err-take_in.ensures.taken s spot inside.1 here in
-    (s, (inside.0, t.1, inside.2), refl, λ target. rw c.in-New.is (new_refused tracks board_id s spot c.in-New.bar target))
+    (s, (inside.0, t.1, inside.2), refl, λ target. rw c.in-New.is (new_refused tracks mark s spot c.in-New.bar target))
 
 pub returns-in-Ok-take_in-clause-records : goal.returns-in-Ok-take_in-clause-records
 returns-in-Ok-take_in-clause-records g c =

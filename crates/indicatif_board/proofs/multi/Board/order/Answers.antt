@@ -8,7 +8,7 @@ use Rattle.indicatif_board.proofs.multi.Board.order.Goals as goal
 
 pub returns-clause-order : goal.returns-clause-order
 unfolding IsIn
-returns-clause-order g c = λ board_id s inside.
+returns-clause-order g c = λ mark s inside.
     let b = c.args.self.now.shown in
     c.order.ensures.order ∙ sym b.seated ∙ order_is b.frame.items s.members inside.1.frame_is
 

@@ -7,13 +7,13 @@ use Rattle.indicatif_board.proofs.BoardCallLemmas.{made_by_draw}
 use Rattle.indicatif_board.proofs.multi.Board.println.Goals as goal
 
 pub returns-clause-leads : goal.returns-clause-leads
-returns-clause-leads g c = λ board_id s inside.
+returns-clause-leads g c = λ mark s inside.
     let tracks = g.K.Tracks.means in
     let old = known g.T.TermLike.view c.args.self.now in
-    let d = c.draw.ensures.drew board_id false s None inside tt in (
+    let d = c.draw.ensures.drew mark false s None inside tt in (
       d.0,
       d.1,
-      made_by_draw tracks board_id old (known g.T.TermLike.view c.draw.new.self) (Log c.args.text.now) c.args.now s (log_of (board_bars tracks)
+      made_by_draw tracks mark old (known g.T.TermLike.view c.draw.new.self) (Log c.args.text.now) c.args.now s (log_of (board_bars tracks)
           (target_of old) c.args.text.now c.args.now s s false) s.lists c.draw.result d.0 refl refl d.2,
     )
 

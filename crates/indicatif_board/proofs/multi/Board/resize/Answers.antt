@@ -8,14 +8,14 @@ use Rattle.indicatif_board.proofs.multi.Board.resize.Goals as goal
 
 pub returns-clause-plays : goal.returns-clause-plays
 unfolding IsIn
-returns-clause-plays g c = λ board_id s inside.
+returns-clause-plays g c = λ mark s inside.
     let tracks = g.K.Tracks.means in
     let b = c.args.self.now.shown in
-    size_played (board (board_bars tracks) board_id) (board_sizing tracks board_id) g.T.TermLike.view c.args.cols c.args.rows c.args.self.now.stage c.resize.new.self s.limiter
-    (λ x. IsIn board_id (record c.args.self.now { stage = c.resize.new.self }) x) s c.resize.result c.resize.ensures.zero_size inside.2
+    size_played (board (board_bars tracks) mark) (board_sizing tracks mark) g.T.TermLike.view c.args.cols c.args.rows c.args.self.now.stage c.resize.new.self s.limiter
+    (λ x. IsIn mark (record c.args.self.now { stage = c.resize.new.self }) x) s c.resize.result c.resize.ensures.zero_size inside.2
     (λ staged. (inside.0, held_with b.frame.items b.members.items b.table.made (is_bottom b.alignment) s s.limiter _ inside.1, staged))
     c.resize.ensures.sized c.resize.ensures.staged
 
 pub returns-clause-takes : goal.returns-clause-takes
 unfolding IsIn
-returns-clause-takes g c = λ refused board_id s inside. c.resize.ensures.takes refused s.limiter s.lists inside.2
+returns-clause-takes g c = λ refused mark s inside. c.resize.ensures.takes refused s.limiter s.lists inside.2

@@ -7,7 +7,7 @@ use Rattle.indicatif_board.proofs.multi.Board.set_alignment.Goals as goal
 
 pub returns-clause-leads : goal.returns-clause-leads
 unfolding IsIn
-returns-clause-leads g c = λ now board_id s inside.
+returns-clause-leads g c = λ now mark s inside.
     let tracks = g.K.Tracks.means in
     let bottom = is_bottom c.args.alignment in
     let holds = inside.1 in
@@ -19,5 +19,5 @@ returns-clause-leads g c = λ now board_id s inside.
         record { members_are = holds.members_are; frame_is = holds.frame_is; made_is = holds.made_is; bottom_is = refl },
         inside.2,
       ),
-      made_at_once tracks board_id old old (Align bottom) now s false Done next refl refl refl,
+      made_at_once tracks mark old old (Align bottom) now s false Done next refl refl refl,
     )

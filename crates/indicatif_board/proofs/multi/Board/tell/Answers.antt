@@ -22,32 +22,32 @@ use Rattle.indicatif_board.proofs.LeavingLemmas.{none_left}
 use Rattle.indicatif_board.proofs.multi.Board.tell.Goals as goal
 
 pub returns-in_err-at-clause-leads : goal.returns-in_err-at-clause-leads
-returns-in_err-at-clause-leads g c = λ board_id s inside.
+returns-in_err-at-clause-leads g c = λ mark s inside.
     let tracks = g.K.Tracks.means in
     let old = known g.T.TermLike.view c.args.self.now in
     let id = id_of c.args.id in
     let command = command_as g.S.Text.bytes c.args.command in
     let x = err_from_is_err_and c.from_residual.result c.from_residual.ensures.1 in
-    let why = c.in_err-at.ensures.found board_id s inside in
+    let why = c.in_err-at.ensures.found mark s inside in
     let d = draws (draw_of_command (board_bars tracks) (target_of old) id.number command c.args.now s) in
     rw (x.1 ∙ ap Err x.2) (
       s,
       inside,
-      made_turned_away tracks board_id old old (Tell id command) c.args.now s c.in_err-at.field-0.0
+      made_turned_away tracks mark old old (Tell id command) c.args.now s c.in_err-at.field-0.0
           (ap (λ o. or_refused o (or_refused (said_of None (λ bar. (board_bars tracks).bars.refused command bar c.args.now) id.number s.members) d s) s) why)
-          (turned_quietly board_id id s c.in_err-at.field-0.0 why),
+          (turned_quietly mark id s c.in_err-at.field-0.0 why),
     )
 
 pub returns-in_err-ask-clause-leads : goal.returns-in_err-ask-clause-leads
 unfolding IsIn
-returns-in_err-ask-clause-leads g c = λ board_id s inside.
+returns-in_err-ask-clause-leads g c = λ mark s inside.
     let tracks = g.K.Tracks.means in
     let b = c.args.self.now.shown in
     let old = known g.T.TermLike.view c.args.self.now in
     let id = id_of c.args.id in
     let now = c.args.now in
     let command = command_as g.S.Text.bytes c.args.command in
-    let f = c.in_ok-at.ensures.found board_id s inside in
+    let f = c.in_ok-at.ensures.found mark s inside in
     let item = c.index_mut.result.now in
     let x = err_from_is_err_and c.from_residual-in_err-ask.result c.from_residual-in_err-ask.ensures.1 in
     let there : place_of id.number s.members < length s.members = subst (λ k. k < length s.members) f.1.0 f.1.1 in
@@ -59,20 +59,20 @@ returns-in_err-ask-clause-leads g c = λ board_id s inside.
       s,
       (inside.0, same, inside.2),
       elim c.in_err-ask.ensures.no_other [
-        | inl late ↦ rw late (made_at_once tracks board_id old old (Tell id command) now s false (Refused ElapsedBeyondClock) s (late_deed tracks board_id old id command now s f.0 there
+        | inl late ↦ rw late (made_at_once tracks mark old old (Tell id command) now s false (Refused ElapsedBeyondClock) s (late_deed tracks mark old id command now s f.0 there
             (c.in_err-ask.ensures.beyond.0 (ap Err late))) refl refl)
         | inr short ↦
             let text = sym (said_of_place false (λ bar. takes_memory command bar) b.members.items s.members id.number c.in_ok-at.at item inside.1.members_are f.1.0 within c.index_mut.ensures.value)
             ∙ c.in_err-ask.ensures.memory (ap Err short) in
             let in_time = in_time_of (is_beyond_clock command now) (Err c.in_err-ask.field-0.0) c.in_err-ask.ensures.beyond (λ e. cc) in
-            rw short (made_short tracks board_id old old (Tell id command) now s (draw_of_command (board_bars tracks) (target_of old) id.number command now s)
-            (command_deed tracks board_id old id command now s f.0 in_time) text)
+            rw short (made_short tracks mark old old (Tell id command) now s (draw_of_command (board_bars tracks) (target_of old) id.number command now s)
+            (command_deed tracks mark old id command now s f.0 in_time) text)
       ],
     )
 
 pub returns-clause-leads : goal.returns-clause-leads
 unfolding IsIn
-returns-clause-leads g c = λ board_id s inside.
+returns-clause-leads g c = λ mark s inside.
     let tracks = g.K.Tracks.means in
     let b = c.args.self.now.shown in
     let view = g.T.TermLike.view in
@@ -82,24 +82,24 @@ returns-clause-leads g c = λ board_id s inside.
     let command = command_as g.S.Text.bytes c.args.command in
     let now = c.args.now in
     let item = c.index_mut.result.now in
-    let f = c.in_ok-at.ensures.found board_id s inside in
+    let f = c.in_ok-at.ensures.found mark s inside in
     let change = λ (bar : BarRecord g.row.K.Denot). (obeyed tracks command bar now).0 in
     let next = bar_changed id.number change s in
     let size = members_length b.frame.items b.members.items b.table.made (is_bottom b.alignment) s inside.1 in
     let within : c.in_ok-at.at < length b.members.items = omega (arith, size, f.1.1) in
-    let holds = told_at change b.frame.items b.members.items b.table.made (is_bottom b.alignment) board_id s id.number c.in_ok-at.at item c.obey.new.self c.obey.ensures.stays
+    let holds = told_at change b.frame.items b.members.items b.table.made (is_bottom b.alignment) mark s id.number c.in_ok-at.at item c.obey.new.self c.obey.ensures.stays
     inside.1 f.1.0 f.1.1 c.index_mut.ensures.value (ap (λ r. r.0) c.in_ok-ask.ensures.done) in
     let placed = told_placed change id.number c.in_ok-at.at s.members f.1 in
     let takes_is = said_of false (λ bar. takes_memory command bar) id.number s.members in
-    let drawn = c.draw.ensures.drew board_id takes_is next (Some id.number) (inside.0, holds, inside.2) placed in
+    let drawn = c.draw.ensures.drew mark takes_is next (Some id.number) (inside.0, holds, inside.2) placed in
     let ask_is = ap (λ r. r.1) c.in_ok-ask.ensures.done
     ∙ said_of_place No (λ bar. (obeyed tracks command bar now).1) b.members.items s.members id.number c.in_ok-at.at item inside.1.members_are f.1.0 within c.index_mut.ensures.value in
     let in_time = in_time_of (is_beyond_clock command now) (Ok c.in_ok-ask.ask) c.in_ok-ask.ensures.beyond (λ e. cc) in
     let d = draw_of_command (board_bars tracks) (target_of old) id.number command now s in (
       drawn.0,
       drawn.1,
-      made_by_draw tracks board_id old new (Tell id command) now s d next.lists c.draw.result drawn.0 (command_deed tracks board_id old id command now s f.0 in_time) refl
-          (subst (λ ask. DrewOn (board (board_bars tracks) board_id) old new (draw_of (target_of old) takes_is ask now Frame next (laid_out (board_bars tracks)
+      made_by_draw tracks mark old new (Tell id command) now s d next.lists c.draw.result drawn.0 (command_deed tracks mark old id command now s f.0 in_time) refl
+          (subst (λ ask. DrewOn (board (board_bars tracks) mark) old new (draw_of (target_of old) takes_is ask now Frame next (laid_out (board_bars tracks)
           (target_of old) now id.number next) (layout_takes (board_bars tracks) id.number next)) next.lists c.draw.result drawn.0) ask_is drawn.2),
     )
 
@@ -212,25 +212,20 @@ pub returns-in_err-ask-clause-stay : goal.returns-in_err-ask-clause-stay
 returns-in_err-ask-clause-stay g c = λ other. refl
 
 pub returns-in_err-at-clause-untouched : goal.returns-in_err-at-clause-untouched
-returns-in_err-at-clause-untouched g c = λ late. (refl, refl, refl, λ number. refl)
+returns-in_err-at-clause-untouched g c = λ late number. refl
 
 pub returns-in_err-ask-clause-untouched : goal.returns-in_err-ask-clause-untouched
-returns-in_err-ask-clause-untouched g c = λ late. (
-  refl,
-  refl,
-  refl,
-  λ number.
-      let b = c.args.self.now.shown in
-      let id = c.args.id.number in
-      let item = c.index_mut.result.now in
-      let own = c.in_ok-at.ensures.own in
-      elim (cases_Bool (number == id)) [
-        | inl here ↦ subst (λ n. record_in n b.table.order (set b.members.items c.in_ok-at.at c.obey.new.self) ≡ record_on n b) (sym (eqb-true number id here))
-            (told_on b id c.in_ok-at.at own item c.obey.new.self c.obey.ensures.stays c.index_mut.ensures.value
-            ∙ ap Some c.in_err-ask.ensures.unchanged ∙ sym (record_stands b id c.in_ok-at.at own item c.index_mut.ensures.value))
-        | inr apart ↦ told_apart b id c.in_ok-at.at own c.obey.new.self number (λ e. false≢true (sym apart ∙ eq-eqb number id e))
-      ],
-)
+returns-in_err-ask-clause-untouched g c = λ late number.
+    let b = c.args.self.now.shown in
+    let id = c.args.id.number in
+    let item = c.index_mut.result.now in
+    let own = c.in_ok-at.ensures.own in
+    elim (cases_Bool (number == id)) [
+      | inl here ↦ subst (λ n. record_in n b.table.order (set b.members.items c.in_ok-at.at c.obey.new.self) ≡ record_on n b) (sym (eqb-true number id here))
+          (told_on b id c.in_ok-at.at own item c.obey.new.self c.obey.ensures.stays c.index_mut.ensures.value
+          ∙ ap Some c.in_err-ask.ensures.unchanged ∙ sym (record_stands b id c.in_ok-at.at own item c.index_mut.ensures.value))
+      | inr apart ↦ told_apart b id c.in_ok-at.at own c.obey.new.self number (λ e. false≢true (sym apart ∙ eq-eqb number id e))
+    ]
 
 pub returns-in_err-ask-clause-unchanged : goal.returns-in_err-ask-clause-unchanged
 returns-in_err-ask-clause-unchanged g c = λ e.

@@ -13,7 +13,7 @@ invariant_of-self-2 g c =
     let items : c.push_reserved.new.self.items ≡ c.self.inside.entries.items ++ entry ∷ [] = c.push_reserved.ensures.items ∙ ap (λ xs. xs ++ entry ∷ []) c.reserve.ensures.items in
     let size : target_of (known g.T.TermLike.view c.self.inside.board) ≡ target_by c.self.inside.opening.size =
     sym c.size_of.ensures ∙ ap target_by (c.is_as_large.ensures c.if-not-is_as_large.false) in
-    run_grows g.K.Tracks.means g.T.TermLike.view c.self.inside.opening.board_id c.self.inside.opening.limiter (target_by c.self.inside.opening.size) c.self.inside.board c.apply-answer.new.self
+    run_grows g.K.Tracks.means g.T.TermLike.view c.self.inside.opening.mark c.self.inside.opening.limiter (target_by c.self.inside.opening.size) c.self.inside.board c.apply-answer.new.self
     (map step_of c.self.inside.entries.items) (map step_of c.push_reserved.new.self.items) (call_of c.args.call) c.args.now (answer_of c.apply-answer.result.0)
     (steps_more c.self.inside.entries.items c.push_reserved.new.self.items entry _ _ _ items c.in-Ok.ensures.same refl (ap answer_of c.same.ensures))
     size c.apply-answer.ensures.leads c.self.invariant
@@ -23,7 +23,7 @@ returns-clause-grows g c =
     let entry : Entry g.row.K.Denot = record { call = c.in-Ok.copy; now = c.args.now; answer = c.same.result } in
     let items : c.push_reserved.new.self.items ≡ c.self.inside.entries.items ++ entry ∷ [] = c.push_reserved.ensures.items ∙ ap (λ xs. xs ++ entry ∷ []) c.reserve.ensures.items in
     let now : Record g.row.K.Denot g.row.T.Denot = record {
-      board_id = c.self.inside.opening.board_id;
+      mark = c.self.inside.opening.mark;
       limiter = c.self.inside.opening.limiter;
       target = target_by c.self.inside.opening.size;
       board = c.apply-answer.new.self;
@@ -32,7 +32,7 @@ returns-clause-grows g c =
     let size : target_of (known g.T.TermLike.view c.self.inside.board) ≡ target_by c.self.inside.opening.size =
     sym c.size_of.ensures ∙ ap target_by (c.is_as_large.ensures c.if-not-is_as_large.false) in
     inl (subst (λ old. AddsCall g.K.Tracks.means g.T.TermLike.view old (call_of c.args.call) c.args.now (answer_of c.apply-answer.result.0) now) c.self.view_is
-    (grown_so g.K.Tracks.means g.T.TermLike.view c.self.inside.opening.board_id c.self.inside.opening.limiter (target_by c.self.inside.opening.size) c.self.inside.board c.apply-answer.new.self
+    (grown_so g.K.Tracks.means g.T.TermLike.view c.self.inside.opening.mark c.self.inside.opening.limiter (target_by c.self.inside.opening.size) c.self.inside.board c.apply-answer.new.self
     (map step_of c.self.inside.entries.items) (map step_of c.push_reserved.new.self.items) (call_of c.args.call) c.args.now (answer_of c.apply-answer.result.0)
     (steps_more c.self.inside.entries.items c.push_reserved.new.self.items entry _ _ _ items c.in-Ok.ensures.same refl (ap answer_of c.same.ensures))
     size c.apply-answer.ensures.leads c.apply-answer.ensures.slots c.apply-answer.ensures.records))
@@ -42,14 +42,14 @@ returns-clause-goes_on g c =
     let entry : Entry g.row.K.Denot = record { call = c.in-Ok.copy; now = c.args.now; answer = c.same.result } in
     let items : c.push_reserved.new.self.items ≡ c.self.inside.entries.items ++ entry ∷ [] = c.push_reserved.ensures.items ∙ ap (λ xs. xs ++ entry ∷ []) c.reserve.ensures.items in
     let now : Record g.row.K.Denot g.row.T.Denot = record {
-      board_id = c.self.inside.opening.board_id;
+      mark = c.self.inside.opening.mark;
       limiter = c.self.inside.opening.limiter;
       target = target_by c.self.inside.opening.size;
       board = c.apply-answer.new.self;
       steps = map step_of c.push_reserved.new.self.items;
     } in
     λ opened was.
-    run_goes_on g.K.Tracks.means g.T.TermLike.view c.self.inside.opening.board_id c.self.inside.opening.limiter (target_by c.self.inside.opening.size) c.self.inside.board c.apply-answer.new.self
+    run_goes_on g.K.Tracks.means g.T.TermLike.view c.self.inside.opening.mark c.self.inside.opening.limiter (target_by c.self.inside.opening.size) c.self.inside.board c.apply-answer.new.self
     (map step_of c.self.inside.entries.items) (map step_of c.push_reserved.new.self.items) (call_of c.args.call) c.args.now (answer_of c.apply-answer.result.0)
     (steps_more c.self.inside.entries.items c.push_reserved.new.self.items entry _ _ _ items c.in-Ok.ensures.same refl (ap answer_of c.same.ensures))
     c.apply-answer.ensures.leads opened (subst (λ (old : Record g.row.K.Denot g.row.T.Denot). IsRun g.K.Tracks.means opened old (known g.T.TermLike.view old.board)) (sym c.self.view_is) was)

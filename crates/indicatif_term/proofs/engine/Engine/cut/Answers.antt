@@ -15,6 +15,7 @@ returns-clause-suits g c = λ l s sound.
     let last : take (length d - at) (drop at d) ≡ drop (length hs - standing) hs =
     take_all (length d - at) (drop at d) (omega (arith, length-drop at d)) ∙ ap (drop at) c.deref.ensures.value ∙ ap (λ k. drop k hs) at_is in
     let x = c.in_ok-cut.ensures.cut in
-    resized_suits w c.args.cols c.args.rows l e.counts c.in_ok-counts.counts e.failed e.shown c.in_ok-cut.cut.shown hs s sound c.requires.rows x enough
-    (c.in_ok-counts.ensures.counts w c.args.cols l s.counted
-    (last ∙ last_heights w c.args.cols c.args.rows l e.counts c.in_ok-counts.counts e.failed e.shown c.in_ok-cut.cut.shown hs s sound c.requires.rows x enough))
+    let counted = c.in_ok-counts.ensures.counts w c.args.cols l s.counted
+    (last ∙ last_heights w c.args.cols c.args.rows l e.counts c.in_ok-counts.counts e.failed e.shown c.of-2.result c.in_ok-cut.cut s sound c.requires.rows x enough) in
+    resized_suits w c.args.cols c.args.rows l e.counts c.in_ok-counts.counts e.failed e.shown c.of-2.result c.in_ok-cut.cut s sound c.requires.rows x enough counted
+    (c.of-2.ensures.lines ∙ c.of.ensures) c.of-2.ensures.marked

@@ -1,26 +1,30 @@
-use Rattle.std.proofs.Common.{map, arith, ◌<◌, ◌∙◌, false, [], ◌++◌, replicate, take, sym, ap, subst, refl}
+use Rattle.std.proofs.Common.{map, arith, ◌∙◌, ◌≡◌, ◌≤◌, ◌+◌, ℕ, List, false, [], ◌++◌, replicate, take, drop, length, sym, ap, subst, length-append, length-take}
+use Rattle.std.specs.Prelude.{string_bytes}
 use Rattle.std.proofs.Math.Logic.{∥∥₁_map}
-use Rattle.std.proofs.lemmas.Bool.{ltb-true}
-use Rattle.std.proofs.lemmas.List.{length-map}
-use Rattle.indicatif_term.specs.Inside.Remembering.{Draws}
+use Rattle.std.proofs.lemmas.List.{length-map, length-replicate}
+use Rattle.indicatif_term.specs.Inside.Remembering.{Draws, lines_drawn}
+use Rattle.indicatif_term.specs.Inside.Places.{IsWithin}
 use Rattle.indicatif_term.specs.Lists.{Lists, drawn, live_rows}
 use Rattle.indicatif_term.specs.Counts.{CountsOf}
+use Rattle.indicatif_term.specs.Remembered.{Suits}
 use Rattle.indicatif_term.specs.Shows.{looks_of}
 use Rattle.indicatif_term.specs.Inside.Bytes.{paint_bytes, reach_bytes}
 use Rattle.indicatif_term.specs.Inside.Changes.{change_bytes, AreSitting}
-use Rattle.indicatif_term.specs.Standing.{placed_of, placed, AreLines}
+use Rattle.indicatif_term.specs.Standing.{placed_of, placed, IsLine, AreLines, AreReady}
 use Rattle.indicatif_term.specs.Inside.Moves.{moved_bytes, AreEven}
 use Rattle.indicatif_term.proofs.LastLineLemmas.{fill_bytes}
 use Rattle.indicatif_term.specs.Inside.Plans.{frame_lines}
 use Rattle.indicatif_term.specs.Inside.Layouts.{AreLike}
-use Rattle.indicatif_term.specs.declared.remembered.Remembered.{Remembered}
+use Rattle.indicatif_term.specs.declared.counts.Counts.{Counts}
+use Rattle.indicatif_term.specs.declared.remembered.StandingLine.{StandingLine}
 use Rattle.indicatif_term.specs.Frames.{bar_lines, is_fault}
-use Rattle.indicatif_term.specs.Engines.{engine_term}
+use Rattle.indicatif_term.specs.Engines.{engine_term, Fits, Paints, is_failure, lists_after}
 use Rattle.indicatif_term.specs.DrawTargets.{is_bottom}
 use Rattle.indicatif_term.proofs.DrawingLemmas.{drawn-adds, drawn-known, drawn-sound}
 use Rattle.indicatif_term.proofs.LineEndLemmas.{draw_fill}
+use Rattle.indicatif_term.proofs.BesideLemmas.{all_append}
 use Rattle.indicatif_term.proofs.EngineLemmas.{within_rows, paints_refused, paints_by, led, fits_counts, fits_failed, fits_forgets, fits_by, fits_shown, draw_paints}
-use Rattle.indicatif_term.proofs.SkippingLemmas.{drawn_shown, drawn_suits, sits_live, draw_changes, split_at, counted_by, some_lines}
+use Rattle.indicatif_term.proofs.SkippingLemmas.{drawn_shown, drawn_suits, sits_live, draw_changes, split_at, counted_by, some_lines, counted_refused, fits_refused, some_is}
 use Rattle.indicatif_term.proofs.OverLemmas.{AreWide}
 use Rattle.indicatif_term.proofs.MovingLemmas.{live_wide, draw_moves}
 use Rattle.indicatif_term.proofs.ShownRowLemmas.{frame_lines_le}
@@ -43,20 +47,49 @@ pub returns-in_err-lines-clause-paints : goal.returns-in_err-lines-clause-paints
 returns-in_err-lines-clause-paints g c = λ l fits plain.
     paints_refused _ c.from_residual-in_err-lines.result c.in_err-lines.field-0.0 l _ c.from_residual-in_err-lines.ensures.1 (ap is_fault c.in_err-lines.ensures.memory.0)
 
-pub returns-in_err-kept-clause-memory : goal.returns-in_err-kept-clause-memory
-returns-in_err-kept-clause-memory g c = λ e.
+pub next_with-requires-clause-right : goal.next_with-requires-clause-right
+next_with-requires-clause-right g c = λ some.
+    let w = c.in_ok-planned.planned.window.columns in
+    all_append (IsLine w) (drop c.above-above.result.from (take c.above-above.result.to c.args.self.now.shown.lines)) c.in_ok-lines.lines.items (c.above-above.ensures.right some)
+    (c.in_ok-lines.ensures.right w c.in_ok-planned.ensures.lines.measured)
+
+pub returns-in_err-next-clause-memory : goal.returns-in_err-next-clause-memory
+returns-in_err-next-clause-memory g c = λ e.
     let s = g.T.TermLike.view (engine_term c.args.self.now) in
     let p = c.in_ok-planned.ensures.planned in
+    let plan = c.in_ok-planned.planned.plan in
+    let ls = c.in_ok-lines.lines.items in
+    let own = c.in_ok-planned.planned.lines.items in
+    let bytes = λ (l : StandingLine). string_bytes l.text in
+    let k = c.blanks_of-blanks.result in
     let blanks = rw c.is_bottom.ensures at (c.blanks_of-blanks.ensures.blanks c.args.self.now.counts.live 0 (omega arith)) in
-    let some : 0 < c.in_ok-planned.planned.plan.lines = ltb-true 0 c.in_ok-planned.planned.plan.lines c.in_err-kept.ensures.memory.1 in (
+    let front : List (List ℕ) = replicate k [] in
+    let size : length ls ≡ k + length (take plan.lines (frame_lines c.args.frame.now)) =
+    sym (length-map ls bytes) ∙ ap length (c.in_ok-lines.ensures.lines ∙ ap (λ xs. front ++ xs) c.in_ok-planned.ensures.lines.texts_are)
+    ∙ length-append front (take plan.lines (frame_lines c.args.frame.now)) ∙ ap (λ n. n + length (take plan.lines (frame_lines c.args.frame.now))) (length-replicate k []) in (
       rw p.columns_are at c.in_ok-planned.planned.window.some,
-      some_lines s.columns s.rows c.args.pass c.blanks_of-blanks.result c.args.self.now.counts.live 0 (is_bottom c.args.alignment) c.args.frame.now c.in_ok-planned.planned.plan p.plan_is blanks
-          (omega (arith, some)),
+      some_lines s.columns s.rows c.args.pass k c.args.self.now.counts.live 0 (is_bottom c.args.alignment) c.args.frame.now plan p.plan_is blanks
+          (omega (arith, size, length-take plan.lines (frame_lines c.args.frame.now), c.in_err-next.ensures.refused.1)),
     )
 
-pub returns-in_err-kept-clause-paints : goal.returns-in_err-kept-clause-paints
-returns-in_err-kept-clause-paints g c = λ l fits plain.
-    paints_refused _ c.from_residual-in_err-kept.result c.in_err-kept.field-0.0 l _ c.from_residual-in_err-kept.ensures.1 (ap is_fault c.in_err-kept.ensures.memory.0)
+pub returns-in_err-next-clause-counted : goal.returns-in_err-next-clause-counted
+returns-in_err-next-clause-counted g c =
+    counted_refused _ _ c.from_residual-in_err-next.result c.in_err-next.field-0.0 (ap (λ t. g.T.TermLike.view t) c.next_with.ensures.terminal) c.from_residual-in_err-next.ensures.1
+    (ap is_fault c.in_err-next.ensures.refused.0)
+
+pub returns-in_err-next-clause-lists : goal.returns-in_err-next-clause-lists
+unfolding Fits
+returns-in_err-next-clause-lists g c = λ l fits.
+    fits_refused _ _ c.from_residual-in_err-next.result c.in_err-next.field-0.0 l _ c.in_err-next.ensures.refused.2 c.from_residual-in_err-next.ensures.1
+    (ap is_fault c.in_err-next.ensures.refused.0) fits
+
+pub returns-in_err-next-clause-paints : goal.returns-in_err-next-clause-paints
+returns-in_err-next-clause-paints g c = λ l fits plain.
+    let s = g.T.TermLike.view (engine_term c.args.self.now) in
+    let r = c.from_residual-in_err-next.result in
+    let l' = drawn s.columns s.rows (is_bottom c.args.alignment) c.args.pass (map bar_lines c.args.frame.now) l in
+    subst (λ t. Paints s (g.T.TermLike.view t) (is_failure r) l (lists_after r l l')) (sym c.next_with.ensures.terminal)
+    (paints_refused s r c.in_err-next.field-0.0 l l' c.from_residual-in_err-next.ensures.1 (ap is_fault c.in_err-next.ensures.refused.0))
 
 pub overwrite-requires : goal.overwrite-requires
 overwrite-requires g c =
@@ -68,23 +101,33 @@ overwrite-requires g c =
     let old = c.args.self.now.counts in
     let blanks = rw c.is_bottom.ensures at (c.blanks_of-blanks.ensures.blanks old.live 0 (omega arith)) in
     let t = c.in_ok-lines.ensures.lines ∙ ap (λ xs. replicate c.blanks_of-blanks.result [] ++ xs) c.in_ok-planned.ensures.lines.texts_are in
+    let n = c.in_ok-next.next in
+    let is = c.in_ok-next.ensures.next in
+    let above = c.above-above.ensures.above in
+    let ls = c.in_ok-lines.lines.items in
+    let kept = drop c.above-above.result.from (take c.above-above.result.to c.args.self.now.shown.lines) in
+    let next = λ (x : Lists) (o : CountsOf old x). rw p.rows_are at (c.drawn-counts.ensures s.columns c.args.pass bottom frame x o (rw (← p.rows_are) at p.plan_is) blanks) in
     record {
       suits = ∥∥₁_map c.args.self.now.some (λ x.
           let l = x.0 in
-          let next = rw p.rows_are at (c.drawn-next.ensures s.columns c.args.pass bottom frame l x.1.counted (rw (← p.rows_are) at p.plan_is) blanks) in (
-            drawn s.columns s.rows bottom c.args.pass frame l,
-            drawn_suits win.columns s.columns s.rows c.args.pass c.blanks_of-blanks.result bottom c.args.frame.now l old c.drawn-next.result c.in_ok-planned.planned.plan _ p.columns_are refl
-                x.1.counted p.plan_is blanks t (c.in_ok-kept.ensures.rows l x.1.remembered x.1.counted) next,
+          let l' = drawn s.columns s.rows bottom c.args.pass frame l in
+          let o = next l x.1.counted in (
+            l',
+            subst (λ k. Suits k false n.shown l') (sym is.counts_are)
+                (drawn_suits win.columns s.columns s.rows c.args.pass c.blanks_of-blanks.result bottom c.args.frame.now l old c.drawn-counts.result c.in_ok-planned.planned.plan kept ls n.shown
+                p.columns_are is.marked is.lines_are x.1.counted p.plan_is blanks t (above l win.some x.1.remembered) o),
           ));
     }
 
-pub returns-then-can_move-clause-counted : goal.returns-then-can_move-clause-counted
-returns-then-can_move-clause-counted g c =
-    counted_by (moved_bytes c.in_ok-planned.planned.window.columns c.args.self.now.counts.live (placed c.in_ok-lines.lines.items)) _ _ c.drawn-next.result _ c.overwrite.result c.overwrite.new.self
-    c.overwrite.ensures.remembers c.overwrite.ensures.writes
+pub returns-then-moves-clause-counted : goal.returns-then-moves-clause-counted
+returns-then-moves-clause-counted g c =
+    let v' = g.T.TermLike.view (engine_term c.overwrite.new.self) in
+    let bytes = moved_bytes c.in_ok-next.next.width c.args.self.now.counts.live (placed (lines_drawn c.in_ok-next.next)) in
+    counted_by bytes _ _ c.in_ok-next.next.counts _ c.overwrite.result c.overwrite.new.self
+    c.overwrite.ensures.remembers (subst (λ t. Draws bytes (g.T.TermLike.view t) v' c.overwrite.result) c.next_with.ensures.terminal c.overwrite.ensures.writes)
 
-pub returns-then-can_move-clause-lists : goal.returns-then-can_move-clause-lists
-returns-then-can_move-clause-lists g c = λ l fits.
+pub returns-then-moves-clause-lists : goal.returns-then-moves-clause-lists
+returns-then-moves-clause-lists g c = λ l fits.
     let s = g.T.TermLike.view (engine_term c.args.self.now) in
     let frame = map bar_lines c.args.frame.now in
     let bottom = is_bottom c.args.alignment in
@@ -94,57 +137,99 @@ returns-then-can_move-clause-lists g c = λ l fits.
     let o = fits_counts c.args.self.now l fits in
     let blanks = rw c.is_bottom.ensures at (c.blanks_of-blanks.ensures.blanks old.live 0 (omega arith)) in
     let t = c.in_ok-lines.ensures.lines ∙ ap (λ xs. replicate c.blanks_of-blanks.result [] ++ xs) c.in_ok-planned.ensures.lines.texts_are in
-    let shown : Remembered = record {
-      width = win.columns;
-      kept = c.in_ok-kept.kept;
-      lines = c.in_ok-lines.lines;
-      right =
-          ∣ (λ p. (c.in_ok-kept.ensures.right, c.in_ok-lines.ensures.right win.columns c.in_ok-planned.ensures.lines.measured)) ∣₁;
-    } in
-    fits_by c.drawn-next.result _ c.overwrite.result c.overwrite.new.self l (drawn s.columns s.rows bottom c.args.pass frame l) c.overwrite.ensures.remembers
-    (rw p.rows_are at (c.drawn-next.ensures s.columns c.args.pass bottom frame l o (rw (← p.rows_are) at p.plan_is) blanks))
+    let n = c.in_ok-next.next in
+    let is = c.in_ok-next.ensures.next in
+    let above = c.above-above.ensures.above in
+    let ls = c.in_ok-lines.lines.items in
+    let kept = drop c.above-above.result.from (take c.above-above.result.to c.args.self.now.shown.lines) in
+    let next = λ (x : Lists) (o : CountsOf old x). rw p.rows_are at (c.drawn-counts.ensures s.columns c.args.pass bottom frame x o (rw (← p.rows_are) at p.plan_is) blanks) in
+    let l' = drawn s.columns s.rows bottom c.args.pass frame l in
+    fits_by n.counts n.shown c.overwrite.result c.overwrite.new.self l l' c.overwrite.ensures.remembers (subst (λ k. CountsOf k l') (sym is.counts_are) (next l o))
     (drawn-sound s.columns s.rows bottom c.args.pass frame l)
-    (drawn_shown win.columns s.columns s.rows c.args.pass c.blanks_of-blanks.result bottom c.args.frame.now l old c.in_ok-planned.planned.plan shown p.columns_are refl o p.plan_is blanks t
-    (c.in_ok-kept.ensures.rows l (fits_shown c.args.self.now l fits) o))
+    (drawn_shown win.columns s.columns s.rows c.args.pass c.blanks_of-blanks.result bottom c.args.frame.now l old c.drawn-counts.result c.in_ok-planned.planned.plan kept ls n.shown p.columns_are
+    is.marked is.lines_are o p.plan_is blanks t (above l win.some (fits_shown c.args.self.now l fits)) (next l o))
 
-pub returns-then-can_move-clause-paints : goal.returns-then-can_move-clause-paints
-returns-then-can_move-clause-paints g c = λ l fits plain.
+pub returns-then-moves-clause-paints : goal.returns-then-moves-clause-paints
+returns-then-moves-clause-paints g c = λ l fits plain.
     let s = g.T.TermLike.view (engine_term c.args.self.now) in
     let v' = g.T.TermLike.view (engine_term c.overwrite.new.self) in
     let frame = map bar_lines c.args.frame.now in
     let bottom = is_bottom c.args.alignment in
-    let old = c.args.self.now.counts in
-    let o = fits_counts c.args.self.now l fits in
     let p = c.in_ok-planned.ensures.planned in
     let win = c.in_ok-planned.planned.window in
-    let plan = c.in_ok-planned.planned.plan in
-    let items = c.in_ok-lines.lines.items in
-    let can = c.can_move.ensures c.if-can_move.true in
+    let old = c.args.self.now.counts in
+    let o = fits_counts c.args.self.now l fits in
     let blanks = rw c.is_bottom.ensures at (c.blanks_of-blanks.ensures.blanks old.live 0 (omega arith)) in
     let t = c.in_ok-lines.ensures.lines ∙ ap (λ xs. replicate c.blanks_of-blanks.result [] ++ xs) c.in_ok-planned.ensures.lines.texts_are in
-    let next = λ (x : Lists) (is : CountsOf old x). rw p.rows_are at (c.drawn-next.ensures s.columns c.args.pass bottom frame x is (rw (← p.rows_are) at p.plan_is) blanks) in
-    let lines = subst (λ n. AreLines n items) p.columns_are (c.in_ok-lines.ensures.right win.columns c.in_ok-planned.ensures.lines.measured) in
-    let even = subst (λ n. AreEven n items) p.columns_are can.even in
+    let n = c.in_ok-next.next in
+    let is = c.in_ok-next.ensures.next in
+    let above = c.above-above.ensures.above in
+    let ls = c.in_ok-lines.lines.items in
+    let kept = drop c.above-above.result.from (take c.above-above.result.to c.args.self.now.shown.lines) in
+    let next = λ (x : Lists) (o : CountsOf old x). rw p.rows_are at (c.drawn-counts.ensures s.columns c.args.pass bottom frame x o (rw (← p.rows_are) at p.plan_is) blanks) in
+    let plan = c.in_ok-planned.planned.plan in
+    let can = rw c.deref.ensures.value at (c.can_move-moves.ensures c.if-moves.true) in
+    let lines = subst (λ k. AreLines k ls) p.columns_are (c.in_ok-lines.ensures.right win.columns c.in_ok-planned.ensures.lines.measured) in
+    let even = subst (λ k. AreEven k ls) p.columns_are can.even in
     let wide = live_wide win.columns s.columns c.args.self.now.shown l old p.columns_are win.some (fits_shown c.args.self.now l fits) o can.known in
-    let bytes = moved_bytes s.columns old.live (placed items) in
-    let writes : Draws bytes s v' c.overwrite.result = subst (λ n. Draws (moved_bytes n old.live (placed items)) s v' c.overwrite.result) p.columns_are c.overwrite.ensures.writes in
-    paints_by s v' old c.drawn-next.result _ c.overwrite.result c.overwrite.new.self c.args.self.now.failed l
+    let bytes = moved_bytes s.columns old.live (placed ls) in
+    let writes : Draws bytes s v' c.overwrite.result =
+    subst (λ k. Draws (moved_bytes k old.live (placed ls)) s v' c.overwrite.result) (is.width_is ∙ p.columns_are)
+    (subst (λ xs. Draws (moved_bytes n.width old.live (placed xs)) s v' c.overwrite.result) is.drawn_are
+    (subst (λ t. Draws (moved_bytes n.width old.live (placed (lines_drawn n))) (g.T.TermLike.view t) v' c.overwrite.result) c.next_with.ensures.terminal c.overwrite.ensures.writes)) in
+    paints_by s v' old n.counts _ c.overwrite.result c.overwrite.new.self c.args.self.now.failed l
     (drawn s.columns s.rows bottom c.args.pass frame) bytes c.overwrite.ensures.remembers (fits_failed c.args.self.now l fits)
     (subst (λ f. Draws (led f bytes) s v' c.overwrite.result) (sym can.sound) writes)
-    (λ x is. draw_moves s.columns s.rows x old c.drawn-next.result c.args.pass c.blanks_of-blanks.result bottom c.args.frame.now plan items
-    (rw p.columns_are at win.some) plain p.narrow_frame is.counts p.plan_is (next x is.counts) blanks (can.from_below, can.from_last) can.stays_on_row t lines even can.enough can.some
-    (subst (λ live. AreWide s.columns (live_rows s.columns live)) (sym is.live) wide) (λ u. within_rows old (placed items) (can.no_more u))) o
+    (λ x same. draw_moves s.columns s.rows x old c.drawn-counts.result c.args.pass c.blanks_of-blanks.result bottom c.args.frame.now plan ls
+    (rw p.columns_are at win.some) plain p.narrow_frame same.counts p.plan_is (next x same.counts) blanks (can.from_below, can.from_last) can.stays_on_row t lines even can.enough can.some
+    (subst (λ live. AreWide s.columns (live_rows s.columns live)) (sym same.live) wide) (λ u. within_rows old (placed ls) (can.no_more u))) o
     (fits_forgets c.args.self.now l fits) (drawn-sound s.columns s.rows bottom c.args.pass frame l) (drawn-adds s.columns s.rows bottom c.args.pass frame l)
     (drawn-known s.columns s.rows bottom c.args.pass frame l)
 
+pub rewrite-requires : goal.rewrite-requires
+rewrite-requires g c =
+    let s = g.T.TermLike.view (engine_term c.args.self.now) in
+    let frame = map bar_lines c.args.frame.now in
+    let bottom = is_bottom c.args.alignment in
+    let p = c.in_ok-planned.ensures.planned in
+    let win = c.in_ok-planned.planned.window in
+    let old = c.args.self.now.counts in
+    let blanks = rw c.is_bottom.ensures at (c.blanks_of-blanks.ensures.blanks old.live 0 (omega arith)) in
+    let t = c.in_ok-lines.ensures.lines ∙ ap (λ xs. replicate c.blanks_of-blanks.result [] ++ xs) c.in_ok-planned.ensures.lines.texts_are in
+    let n = c.in_ok-next.next in
+    let is = c.in_ok-next.ensures.next in
+    let above = c.above-above.ensures.above in
+    let ls = c.in_ok-lines.lines.items in
+    let kept = drop c.above-above.result.from (take c.above-above.result.to c.args.self.now.shown.lines) in
+    let next = λ (x : Lists) (o : CountsOf old x). rw p.rows_are at (c.drawn-counts.ensures s.columns c.args.pass bottom frame x o (rw (← p.rows_are) at p.plan_is) blanks) in
+    let has = some_is c.room_for-room.result c.in-Some.room _ c.in-Some.is (rw c.deref-2.ensures.value at c.room_for-room.ensures) in
+    let small : old.live ≤ 65535 = let f : old.kept + old.live ≤ old.reached = old.fits in let k : old.reached ≤ 65535 = old.small in omega arith in
+    record {
+      suits = ∥∥₁_map c.args.self.now.some (λ x.
+          let l = x.0 in
+          let l' = drawn s.columns s.rows bottom c.args.pass frame l in
+          let o = next l x.1.counted in (
+            l',
+            subst (λ k. Suits k false n.shown l') (sym is.counts_are)
+                (drawn_suits win.columns s.columns s.rows c.args.pass c.blanks_of-blanks.result bottom c.args.frame.now l old c.drawn-counts.result c.in_ok-planned.planned.plan kept ls n.shown
+                p.columns_are is.marked is.lines_are x.1.counted p.plan_is blanks t (above l win.some x.1.remembered) o),
+          ));
+      room = subst (λ xs. (rows : ℕ) × IsWithin xs rows c.in-Some.room × (rows ≤ 65535)) (sym is.drawn_are) (old.live, has.1, small);
+      ready = subst AreReady (sym is.drawn_are) c.in_ok-lines.ensures.ready;
+    }
+
 pub returns-in-Some-clause-counted : goal.returns-in-Some-clause-counted
 returns-in-Some-clause-counted g c =
-    let items = c.in_ok-lines.lines.items in
-    let room = c.in-Some.ensures.0 in
-    let within = c.in-Some.ensures.1 in
-    let parts = split_at (placed items) c.in-Some.room.lines within.some (omega (arith, within.in_lines, length-map items placed_of)) in
-    counted_by (change_bytes c.in_ok-planned.planned.window.columns c.in-Some.room.free parts.0 parts.1 parts.2) _ _ c.drawn-next.result _ c.rewrite.result c.rewrite.new.self
-    c.rewrite.ensures.remembers (c.rewrite.ensures.writes parts.0 parts.1 parts.2 parts.3 parts.4)
+    let n = c.in_ok-next.next in
+    let is = c.in_ok-next.ensures.next in
+    let ls = c.in_ok-lines.lines.items in
+    let has = some_is c.room_for-room.result c.in-Some.room _ c.in-Some.is (rw c.deref-2.ensures.value at c.room_for-room.ensures) in
+    let parts = split_at (placed ls) c.in-Some.room.lines has.1.some (omega (arith, has.1.in_lines, length-map ls placed_of)) in
+    let v' = g.T.TermLike.view (engine_term c.rewrite.new.self) in
+    let bytes = change_bytes n.width c.in-Some.room.free parts.0 parts.1 parts.2 in
+    counted_by bytes _ _ n.counts _ c.rewrite.result c.rewrite.new.self c.rewrite.ensures.remembers
+    (subst (λ t. Draws bytes (g.T.TermLike.view t) v' c.rewrite.result) c.next_with.ensures.terminal
+    (c.rewrite.ensures.writes parts.0 parts.1 parts.2 (ap placed is.drawn_are ∙ parts.3) parts.4))
 
 pub returns-in-Some-clause-lists : goal.returns-in-Some-clause-lists
 returns-in-Some-clause-lists g c = λ l fits.
@@ -157,18 +242,17 @@ returns-in-Some-clause-lists g c = λ l fits.
     let o = fits_counts c.args.self.now l fits in
     let blanks = rw c.is_bottom.ensures at (c.blanks_of-blanks.ensures.blanks old.live 0 (omega arith)) in
     let t = c.in_ok-lines.ensures.lines ∙ ap (λ xs. replicate c.blanks_of-blanks.result [] ++ xs) c.in_ok-planned.ensures.lines.texts_are in
-    let shown : Remembered = record {
-      width = c.in_ok-planned.planned.window.columns;
-      kept = c.in_ok-kept.kept;
-      lines = c.in_ok-lines.lines;
-      right =
-          ∣ (λ p. (c.in_ok-kept.ensures.right, c.in_ok-lines.ensures.right c.in_ok-planned.planned.window.columns c.in_ok-planned.ensures.lines.measured)) ∣₁;
-    } in
-    fits_by c.drawn-next.result _ c.rewrite.result c.rewrite.new.self l (drawn s.columns s.rows bottom c.args.pass frame l) c.rewrite.ensures.remembers
-    (rw p.rows_are at (c.drawn-next.ensures s.columns c.args.pass bottom frame l o (rw (← p.rows_are) at p.plan_is) blanks))
+    let n = c.in_ok-next.next in
+    let is = c.in_ok-next.ensures.next in
+    let above = c.above-above.ensures.above in
+    let ls = c.in_ok-lines.lines.items in
+    let kept = drop c.above-above.result.from (take c.above-above.result.to c.args.self.now.shown.lines) in
+    let next = λ (x : Lists) (o : CountsOf old x). rw p.rows_are at (c.drawn-counts.ensures s.columns c.args.pass bottom frame x o (rw (← p.rows_are) at p.plan_is) blanks) in
+    let l' = drawn s.columns s.rows bottom c.args.pass frame l in
+    fits_by n.counts n.shown c.rewrite.result c.rewrite.new.self l l' c.rewrite.ensures.remembers (subst (λ k. CountsOf k l') (sym is.counts_are) (next l o))
     (drawn-sound s.columns s.rows bottom c.args.pass frame l)
-    (drawn_shown win.columns s.columns s.rows c.args.pass c.blanks_of-blanks.result bottom c.args.frame.now l old c.in_ok-planned.planned.plan shown p.columns_are refl o p.plan_is blanks t
-    (c.in_ok-kept.ensures.rows l (fits_shown c.args.self.now l fits) o))
+    (drawn_shown win.columns s.columns s.rows c.args.pass c.blanks_of-blanks.result bottom c.args.frame.now l old c.drawn-counts.result c.in_ok-planned.planned.plan kept ls n.shown p.columns_are
+    is.marked is.lines_are o p.plan_is blanks t (above l win.some (fits_shown c.args.self.now l fits)) (next l o))
 
 pub returns-in-Some-clause-paints : goal.returns-in-Some-clause-paints
 returns-in-Some-clause-paints g c = λ l fits plain.
@@ -176,56 +260,41 @@ returns-in-Some-clause-paints g c = λ l fits plain.
     let v' = g.T.TermLike.view (engine_term c.rewrite.new.self) in
     let frame = map bar_lines c.args.frame.now in
     let bottom = is_bottom c.args.alignment in
+    let p = c.in_ok-planned.ensures.planned in
+    let win = c.in_ok-planned.planned.window in
     let old = c.args.self.now.counts in
     let shown = c.args.self.now.shown in
     let o = fits_counts c.args.self.now l fits in
-    let p = c.in_ok-planned.ensures.planned in
-    let win = c.in_ok-planned.planned.window in
-    let plan = c.in_ok-planned.planned.plan in
-    let items = c.in_ok-lines.lines.items in
-    let room = c.in-Some.ensures.0 in
-    let within = c.in-Some.ensures.1 in
-    let parts = split_at (placed items) c.in-Some.room.lines within.some (omega (arith, within.in_lines, length-map items placed_of)) in
     let blanks = rw c.is_bottom.ensures at (c.blanks_of-blanks.ensures.blanks old.live 0 (omega arith)) in
     let t = c.in_ok-lines.ensures.lines ∙ ap (λ xs. replicate c.blanks_of-blanks.result [] ++ xs) c.in_ok-planned.ensures.lines.texts_are in
-    let next = λ (x : Lists) (is : CountsOf old x). rw p.rows_are at (c.drawn-next.ensures s.columns c.args.pass bottom frame x is (rw (← p.rows_are) at p.plan_is) blanks) in
-    let lines = subst (λ n. AreLines n items) p.columns_are (c.in_ok-lines.ensures.right win.columns c.in_ok-planned.ensures.lines.measured) in
-    let sits = sits_live win.columns s.columns shown c.on.result.now l old (placed items) p.columns_are win.some room.same_width c.on.ensures.lines
-    (fits_shown c.args.self.now l fits) o room.known room.few
-    (c.in_ok-lines.ensures.sits win.columns (c.on.ensures.right win.some) c.in_ok-planned.ensures.lines.measured
-    (subst (λ xs. AreLike xs c.in_ok-planned.planned.lines.items) (sym c.on.ensures.lines) c.in_ok-planned.ensures.lines.alike)) in
+    let n = c.in_ok-next.next in
+    let is = c.in_ok-next.ensures.next in
+    let above = c.above-above.ensures.above in
+    let ls = c.in_ok-lines.lines.items in
+    let kept = drop c.above-above.result.from (take c.above-above.result.to c.args.self.now.shown.lines) in
+    let next = λ (x : Lists) (o : CountsOf old x). rw p.rows_are at (c.drawn-counts.ensures s.columns c.args.pass bottom frame x o (rw (← p.rows_are) at p.plan_is) blanks) in
+    let has = some_is c.room_for-room.result c.in-Some.room _ c.in-Some.is (rw c.deref-2.ensures.value at c.room_for-room.ensures) in
+    let plan = c.in_ok-planned.planned.plan in
+    let room = has.0 in
+    let within = has.1 in
+    let parts = split_at (placed ls) c.in-Some.room.lines within.some (omega (arith, within.in_lines, length-map ls placed_of)) in
+    let lines = subst (λ k. AreLines k ls) p.columns_are (c.in_ok-lines.ensures.right win.columns c.in_ok-planned.ensures.lines.measured) in
+    let sits = sits_live win.columns s.columns shown c.on-standing.result.now l (placed ls) p.columns_are win.some room.same_width c.on-standing.ensures.lines
+    (fits_shown c.args.self.now l fits)
+    (c.in_ok-lines.ensures.sits win.columns (c.on-standing.ensures.right win.some) c.in_ok-planned.ensures.lines.measured
+    (subst (λ xs. AreLike xs c.in_ok-planned.planned.lines.items) (sym c.on-standing.ensures.lines) c.in_ok-planned.ensures.lines.alike)) in
     let bytes = change_bytes s.columns c.in-Some.room.free parts.0 parts.1 parts.2 in
-    let writes : Draws bytes s v' c.rewrite.result = subst (λ n. Draws (change_bytes n c.in-Some.room.free parts.0 parts.1 parts.2) s v' c.rewrite.result) p.columns_are
-    (c.rewrite.ensures.writes parts.0 parts.1 parts.2 parts.3 parts.4) in
-    paints_by s v' old c.drawn-next.result _ c.rewrite.result c.rewrite.new.self c.args.self.now.failed l
+    let writes : Draws bytes s v' c.rewrite.result = subst (λ k. Draws (change_bytes k c.in-Some.room.free parts.0 parts.1 parts.2) s v' c.rewrite.result) (is.width_is ∙ p.columns_are)
+    (subst (λ t. Draws (change_bytes n.width c.in-Some.room.free parts.0 parts.1 parts.2) (g.T.TermLike.view t) v' c.rewrite.result) c.next_with.ensures.terminal
+    (c.rewrite.ensures.writes parts.0 parts.1 parts.2 (ap placed is.drawn_are ∙ parts.3) parts.4)) in
+    paints_by s v' old n.counts _ c.rewrite.result c.rewrite.new.self c.args.self.now.failed l
     (drawn s.columns s.rows bottom c.args.pass frame) bytes c.rewrite.ensures.remembers (fits_failed c.args.self.now l fits)
     (subst (λ f. Draws (led f bytes) s v' c.rewrite.result) (sym room.sound) writes)
-    (λ x is. draw_changes s.columns s.rows x old c.drawn-next.result c.args.pass c.blanks_of-blanks.result bottom c.args.frame.now plan items c.in-Some.room parts.0 parts.1 parts.2
-    (rw p.columns_are at win.some) (rw p.columns_are at room.narrow) plain p.narrow_frame is.counts p.plan_is (next x is.counts) blanks room.on_row room.stays_on_row t parts.3 parts.4
-    (subst (λ live. AreSitting s.columns (looks_of (live_rows s.columns live)) (placed items)) (sym is.live) sits) within lines (λ u. within_rows old (placed items) (room.no_more u))) o
+    (λ x same. draw_changes s.columns s.rows x old c.drawn-counts.result c.args.pass c.blanks_of-blanks.result bottom c.args.frame.now plan ls c.in-Some.room parts.0 parts.1 parts.2
+    (rw p.columns_are at win.some) (rw p.columns_are at room.narrow) plain p.narrow_frame same.counts p.plan_is (next x same.counts) blanks room.on_row room.stays_on_row t parts.3 parts.4
+    (subst (λ live. AreSitting s.columns (looks_of (live_rows s.columns live)) (placed ls)) (sym same.live) sits) within lines (λ u. within_rows old (placed ls) (room.no_more u))) o
     (fits_forgets c.args.self.now l fits) (drawn-sound s.columns s.rows bottom c.args.pass frame l) (drawn-adds s.columns s.rows bottom c.args.pass frame l)
     (drawn-known s.columns s.rows bottom c.args.pass frame l)
-
-pub rewrite-requires-clause-suits : goal.rewrite-requires-clause-suits
-rewrite-requires-clause-suits g c =
-    let s = g.T.TermLike.view (engine_term c.args.self.now) in
-    let frame = map bar_lines c.args.frame.now in
-    let bottom = is_bottom c.args.alignment in
-    let p = c.in_ok-planned.ensures.planned in
-    let win = c.in_ok-planned.planned.window in
-    let old = c.args.self.now.counts in
-    let blanks = rw c.is_bottom.ensures at (c.blanks_of-blanks.ensures.blanks old.live 0 (omega arith)) in
-    let t = c.in_ok-lines.ensures.lines ∙ ap (λ xs. replicate c.blanks_of-blanks.result [] ++ xs) c.in_ok-planned.ensures.lines.texts_are in
-    ∥∥₁_map c.args.self.now.some (λ x.
-    let l = x.0 in
-    let next = rw p.rows_are at (c.drawn-next.ensures s.columns c.args.pass bottom frame l x.1.counted (rw (← p.rows_are) at p.plan_is) blanks) in (
-      drawn s.columns s.rows bottom c.args.pass frame l,
-      drawn_suits win.columns s.columns s.rows c.args.pass c.blanks_of-blanks.result bottom c.args.frame.now l old c.drawn-next.result c.in_ok-planned.planned.plan _ p.columns_are refl x.1.counted
-          p.plan_is blanks t (c.in_ok-kept.ensures.rows l x.1.remembered x.1.counted) next,
-    ))
-
-pub rewrite-requires-clause-ready : goal.rewrite-requires-clause-ready
-rewrite-requires-clause-ready g c = c.in_ok-lines.ensures.ready
 
 pub repaint-requires : goal.repaint-requires
 repaint-requires g c =
@@ -237,13 +306,21 @@ repaint-requires g c =
     let old = c.args.self.now.counts in
     let blanks = rw c.is_bottom.ensures at (c.blanks_of-blanks.ensures.blanks old.live 0 (omega arith)) in
     let t = c.in_ok-lines.ensures.lines ∙ ap (λ xs. replicate c.blanks_of-blanks.result [] ++ xs) c.in_ok-planned.ensures.lines.texts_are in
+    let n = c.in_ok-next.next in
+    let is = c.in_ok-next.ensures.next in
+    let above = c.above-above.ensures.above in
+    let ls = c.in_ok-lines.lines.items in
+    let kept = drop c.above-above.result.from (take c.above-above.result.to c.args.self.now.shown.lines) in
+    let next = λ (x : Lists) (o : CountsOf old x). rw p.rows_are at (c.drawn-counts.ensures s.columns c.args.pass bottom frame x o (rw (← p.rows_are) at p.plan_is) blanks) in
     record {
       suits = ∥∥₁_map c.args.self.now.some (λ x.
           let l = x.0 in
-          let next = rw p.rows_are at (c.drawn-next.ensures s.columns c.args.pass bottom frame l x.1.counted (rw (← p.rows_are) at p.plan_is) blanks) in (
-            drawn s.columns s.rows bottom c.args.pass frame l,
-            drawn_suits win.columns s.columns s.rows c.args.pass c.blanks_of-blanks.result bottom c.args.frame.now l old c.drawn-next.result c.in_ok-planned.planned.plan _ p.columns_are refl
-                x.1.counted p.plan_is blanks t (c.in_ok-kept.ensures.rows l x.1.remembered x.1.counted) next,
+          let l' = drawn s.columns s.rows bottom c.args.pass frame l in
+          let o = next l x.1.counted in (
+            l',
+            subst (λ k. Suits k false n.shown l') (sym is.counts_are)
+                (drawn_suits win.columns s.columns s.rows c.args.pass c.blanks_of-blanks.result bottom c.args.frame.now l old c.drawn-counts.result c.in_ok-planned.planned.plan kept ls n.shown
+                p.columns_are is.marked is.lines_are x.1.counted p.plan_is blanks t (above l win.some x.1.remembered) o),
           ));
       lines = rw p.plan_is.lines_are (frame_lines_le s.columns s.rows c.args.frame.now);
     }
@@ -259,44 +336,43 @@ returns-clause-lists g c = λ l fits.
     let o = fits_counts c.args.self.now l fits in
     let blanks = rw c.is_bottom.ensures at (c.blanks_of-blanks.ensures.blanks old.live 0 (omega arith)) in
     let t = c.in_ok-lines.ensures.lines ∙ ap (λ xs. replicate c.blanks_of-blanks.result [] ++ xs) c.in_ok-planned.ensures.lines.texts_are in
-    let shown : Remembered = record {
-      width = c.in_ok-planned.planned.window.columns;
-      kept = c.in_ok-kept.kept;
-      lines = c.in_ok-lines.lines;
-      right =
-          ∣ (λ p. (c.in_ok-kept.ensures.right, c.in_ok-lines.ensures.right c.in_ok-planned.planned.window.columns c.in_ok-planned.ensures.lines.measured)) ∣₁;
-    } in
-    fits_by c.drawn-next.result _ c.repaint.result c.repaint.new.self l (drawn s.columns s.rows bottom c.args.pass frame l) c.repaint.ensures.remembers
-    (rw p.rows_are at (c.drawn-next.ensures s.columns c.args.pass bottom frame l o (rw (← p.rows_are) at p.plan_is) blanks))
+    let n = c.in_ok-next.next in
+    let is = c.in_ok-next.ensures.next in
+    let above = c.above-above.ensures.above in
+    let ls = c.in_ok-lines.lines.items in
+    let kept = drop c.above-above.result.from (take c.above-above.result.to c.args.self.now.shown.lines) in
+    let next = λ (x : Lists) (o : CountsOf old x). rw p.rows_are at (c.drawn-counts.ensures s.columns c.args.pass bottom frame x o (rw (← p.rows_are) at p.plan_is) blanks) in
+    let l' = drawn s.columns s.rows bottom c.args.pass frame l in
+    fits_by n.counts n.shown c.repaint.result c.repaint.new.self l l' c.repaint.ensures.remembers (subst (λ k. CountsOf k l') (sym is.counts_are) (next l o))
     (drawn-sound s.columns s.rows bottom c.args.pass frame l)
-    (drawn_shown win.columns s.columns s.rows c.args.pass c.blanks_of-blanks.result bottom c.args.frame.now l old c.in_ok-planned.planned.plan shown p.columns_are refl o p.plan_is blanks t
-    (c.in_ok-kept.ensures.rows l (fits_shown c.args.self.now l fits) o))
+    (drawn_shown win.columns s.columns s.rows c.args.pass c.blanks_of-blanks.result bottom c.args.frame.now l old c.drawn-counts.result c.in_ok-planned.planned.plan kept ls n.shown p.columns_are
+    is.marked is.lines_are o p.plan_is blanks t (above l win.some (fits_shown c.args.self.now l fits)) (next l o))
 
 pub returns-clause-paints : goal.returns-clause-paints
 returns-clause-paints g c = λ l fits plain.
     let s = g.T.TermLike.view (engine_term c.args.self.now) in
     let frame = map bar_lines c.args.frame.now in
     let bottom = is_bottom c.args.alignment in
+    let p = c.in_ok-planned.ensures.planned in
+    let win = c.in_ok-planned.planned.window in
     let old = c.args.self.now.counts in
     let o = fits_counts c.args.self.now l fits in
-    let p = c.in_ok-planned.ensures.planned in
     let plan = c.in_ok-planned.planned.plan in
+    let n = c.in_ok-next.next in
+    let is = c.in_ok-next.ensures.next in
     let f = c.fresh-fresh.result in
     let blanks = rw c.is_bottom.ensures at (c.blanks_of-blanks.ensures.blanks old.live 0 (omega arith)) in
-    let t = c.in_ok-lines.ensures.lines ∙ ap (λ xs. replicate c.blanks_of-blanks.result [] ++ xs) c.in_ok-planned.ensures.lines.texts_are in
-    let next = λ (x : Lists) (is : CountsOf old x). rw p.rows_are at (c.drawn-next.ensures s.columns c.args.pass bottom frame x is (rw (← p.rows_are) at p.plan_is) blanks) in
+    let next = λ (x : Lists) (o : CountsOf old x). rw p.rows_are at (c.drawn-counts.ensures s.columns c.args.pass bottom frame x o (rw (← p.rows_are) at p.plan_is) blanks) in
     let lines = [] ++ replicate c.blanks_of-blanks.result [] ++ take plan.lines (frame_lines c.args.frame.now) in
+    let below : n.counts.below ≡ c.drawn-counts.result.below = ap (λ (k : Counts). k.below) is.counts_are in
     let fill = draw_fill s.columns s.rows c.args.pass c.blanks_of-blanks.result old.live 0 bottom c.args.frame.now plan p.plan_is p.plan_ends blanks
-    c.drawn-next.result.below c.fill-fill.result (rw p.columns_are at c.fill-fill.ensures) in
-    paints_by s (g.T.TermLike.view (engine_term c.repaint.new.self)) old c.drawn-next.result _ c.repaint.result c.repaint.new.self c.args.self.now.failed l
+    c.drawn-counts.result.below c.fill-fill.result (rw p.columns_are at c.fill-fill.ensures) in
+    paints_by s (g.T.TermLike.view (engine_term c.repaint.new.self)) old n.counts _ c.repaint.result c.repaint.new.self c.args.self.now.failed l
     (drawn s.columns s.rows bottom c.args.pass frame)
-    (reach_bytes f.down f.rows ++ (paint_bytes false old.below old.live lines c.drawn-next.result.below ++ fill_bytes c.drawn-next.result.below s.columns lines)) c.repaint.ensures.remembers
+    (reach_bytes f.down f.rows ++ (paint_bytes false old.below old.live lines c.drawn-counts.result.below ++ fill_bytes c.drawn-counts.result.below s.columns lines)) c.repaint.ensures.remembers
     (fits_failed c.args.self.now l fits)
-    (rw fill at c.repaint.ensures.writes)
-    (λ x is. draw_paints s.columns s.rows x old c.drawn-next.result c.args.pass c.blanks_of-blanks.result bottom c.args.frame.now plan f
-    (rw p.columns_are at c.in_ok-planned.planned.window.some) plain p.narrow_frame is.counts p.plan_is (next x is.counts) blanks (rw p.rows_are at c.fresh-fresh.ensures)) o
+    (rw (c.next_with.ensures.terminal, c.next_with.ensures.same.0, c.next_with.ensures.same.1, fill, below) at c.repaint.ensures.writes)
+    (λ x same. draw_paints s.columns s.rows x old c.drawn-counts.result c.args.pass c.blanks_of-blanks.result bottom c.args.frame.now plan f
+    (rw p.columns_are at win.some) plain p.narrow_frame same.counts p.plan_is (next x same.counts) blanks (rw p.rows_are at c.fresh-fresh.ensures)) o
     (fits_forgets c.args.self.now l fits) (drawn-sound s.columns s.rows bottom c.args.pass frame l) (drawn-adds s.columns s.rows bottom c.args.pass frame l)
     (drawn-known s.columns s.rows bottom c.args.pass frame l)
-
-pub invariant_of-shown : goal.invariant_of-shown
-invariant_of-shown g c = record { right = ∣ (λ p. (c.in_ok-kept.ensures.right, c.in_ok-lines.ensures.right c.in_ok-planned.planned.window.columns c.in_ok-planned.ensures.lines.measured)) ∣₁ }

@@ -1,4 +1,6 @@
-use Rattle.std.proofs.Common.{map, ◌≤◌, ◌+◌, [], ◌++◌, ◌∙◌, ap, arith, refl, false, replicate, take}
+use Rattle.std.proofs.Common.{map, ◌≡◌, ◌≤◌, ◌+◌, ℕ, List, [], ◌++◌, ◌∙◌, ap, arith, false, replicate, take, length, length-append, length-take, subst, sym}
+use Rattle.std.specs.Prelude.{string_bytes}
+use Rattle.std.proofs.lemmas.List.{length-map, length-replicate}
 use Rattle.std.proofs.Math.Logic.{∥∥₁_map}
 use Rattle.indicatif_term.specs.Lists.{Lists, logged}
 use Rattle.indicatif_term.specs.Counts.{CountsOf}
@@ -6,16 +8,18 @@ use Rattle.indicatif_term.specs.Inside.Bytes.{paint_bytes, reach_bytes}
 use Rattle.indicatif_term.proofs.LastLineLemmas.{fill_bytes}
 use Rattle.indicatif_term.specs.Inside.Plans.{frame_lines, text_height}
 use Rattle.indicatif_term.specs.Frames.{bar_lines, logged_lines, text_lines, all_lines, is_fault}
-use Rattle.indicatif_term.specs.declared.remembered.Remembered.{Remembered}
-use Rattle.indicatif_term.specs.Engines.{engine_term}
+use Rattle.indicatif_term.specs.declared.remembered.StandingLine.{StandingLine}
+use Rattle.indicatif_term.specs.declared.counts.Counts.{Counts}
+use Rattle.indicatif_term.specs.Remembered.{Suits}
+use Rattle.indicatif_term.specs.Standing.{texts}
+use Rattle.indicatif_term.specs.Engines.{engine_term, Fits, Paints, is_failure, lists_after}
 use Rattle.indicatif_term.specs.DrawTargets.{is_bottom}
-use Rattle.indicatif_term.proofs.SkippingLemmas.{logged_shown, some_lines}
+use Rattle.indicatif_term.proofs.SkippingLemmas.{logged_shown, some_lines, counted_refused, fits_refused}
 use Rattle.indicatif_term.proofs.DrawingLemmas.{logged-adds, logged-known, logged-sound}
 use Rattle.indicatif_term.proofs.LineEndLemmas.{log_fill}
 use Rattle.indicatif_term.proofs.EngineLemmas.{all_or_many, paints_refused, paints_by, fits_counts, fits_failed, fits_forgets, fits_by, suits_made, log_paints, narrow_both, answer_made}
 use Rattle.indicatif_term.proofs.LoggedLineLemmas.{logged_length, logged_utf8}
 use Rattle.indicatif_term.proofs.ShownRowLemmas.{frame_lines_le}
-use Rattle.indicatif_term.proofs.CarriedLemmas.{no_lines_right}
 use Rattle.indicatif_term.proofs.engine.Engine.log.Goals as goal
 
 pub returns-in_err-planned-clause-paints : goal.returns-in_err-planned-clause-paints
@@ -37,6 +41,48 @@ pub returns-in_err-lines-clause-paints : goal.returns-in_err-lines-clause-paints
 returns-in_err-lines-clause-paints g c = λ l fits plain.
     paints_refused _ c.from_residual-in_err-lines.result c.in_err-lines.field-0.0 l _ c.from_residual-in_err-lines.ensures.1 (ap is_fault c.in_err-lines.ensures.memory.0)
 
+pub next_with-requires-clause-right : goal.next_with-requires-clause-right
+next_with-requires-clause-right g c = λ some. c.in_ok-lines.ensures.right c.in_ok-planned.planned.window.columns c.in_ok-planned.ensures.lines.measured
+
+pub returns-in_err-next-clause-memory : goal.returns-in_err-next-clause-memory
+returns-in_err-next-clause-memory g c = λ e.
+    let s = g.T.TermLike.view (engine_term c.args.self.now) in
+    let p = c.in_ok-planned.ensures.planned in
+    let plan = c.in_ok-planned.planned.plan in
+    let old = c.args.self.now.counts in
+    let rows = c.in_ok-planned.planned.text.height in
+    let ls = c.in_ok-lines.lines.items in
+    let bytes = λ (l : StandingLine). string_bytes l.text in
+    let k = c.blanks_of-blanks.result in
+    let blanks = rw c.is_bottom.ensures at (c.blanks_of-blanks.ensures.blanks (old.kept + old.live) rows c.saturating_sub-free.ensures) in
+    let front : List (List ℕ) = replicate k [] in
+    let size : length ls ≡ k + length (take plan.lines (frame_lines c.args.frame.now)) =
+    sym (length-map ls bytes) ∙ ap length (c.in_ok-lines.ensures.texts ∙ ap (λ xs. front ++ xs) c.in_ok-planned.ensures.lines.texts_are)
+    ∙ length-append front (take plan.lines (frame_lines c.args.frame.now)) ∙ ap (λ n. n + length (take plan.lines (frame_lines c.args.frame.now))) (length-replicate k []) in (
+      rw p.columns_are at c.in_ok-planned.planned.window.some,
+      some_lines s.columns s.rows 0 k (old.kept + old.live) rows (is_bottom c.args.alignment) c.args.frame.now plan p.plan_is blanks
+          (omega (arith, size, length-take plan.lines (frame_lines c.args.frame.now), c.in_err-next.ensures.refused.1)),
+    )
+
+pub returns-in_err-next-clause-counted : goal.returns-in_err-next-clause-counted
+returns-in_err-next-clause-counted g c =
+    counted_refused _ _ c.from_residual-in_err-next.result c.in_err-next.field-0.0 (ap (λ t. g.T.TermLike.view t) c.next_with.ensures.terminal) c.from_residual-in_err-next.ensures.1
+    (ap is_fault c.in_err-next.ensures.refused.0)
+
+pub returns-in_err-next-clause-lists : goal.returns-in_err-next-clause-lists
+unfolding Fits
+returns-in_err-next-clause-lists g c = λ l fits.
+    fits_refused _ _ c.from_residual-in_err-next.result c.in_err-next.field-0.0 l _ c.in_err-next.ensures.refused.2 c.from_residual-in_err-next.ensures.1
+    (ap is_fault c.in_err-next.ensures.refused.0) fits
+
+pub returns-in_err-next-clause-paints : goal.returns-in_err-next-clause-paints
+returns-in_err-next-clause-paints g c = λ l fits plain.
+    let s = g.T.TermLike.view (engine_term c.args.self.now) in
+    let r = c.from_residual-in_err-next.result in
+    let l' = logged s.columns s.rows (is_bottom c.args.alignment) (text_lines (logged_lines c.args.text.now)) (map bar_lines c.args.frame.now) l in
+    subst (λ t. Paints s (g.T.TermLike.view t) (is_failure r) l (lists_after r l l')) (sym c.next_with.ensures.terminal)
+    (paints_refused s r c.in_err-next.field-0.0 l l' c.from_residual-in_err-next.ensures.1 (ap is_fault c.in_err-next.ensures.refused.0))
+
 pub repaint-requires : goal.repaint-requires
 repaint-requires g c =
     let s = g.T.TermLike.view (engine_term c.args.self.now) in
@@ -48,22 +94,17 @@ repaint-requires g c =
     let text = text_lines (logged_lines c.args.text.now) in
     let blanks = rw c.is_bottom.ensures at (c.blanks_of-blanks.ensures.blanks (old.kept + old.live) c.in_ok-planned.planned.text.height c.saturating_sub-free.ensures) in
     let t = c.in_ok-lines.ensures.texts ∙ ap (λ xs. replicate c.blanks_of-blanks.result [] ++ xs) c.in_ok-planned.ensures.lines.texts_are in
-    let shown : Remembered = record {
-      width = win.columns;
-      kept = c.no_lines.result;
-      lines = c.in_ok-lines.lines;
-      right =
-          ∣ (λ p. (no_lines_right win.columns c.no_lines.result.items c.no_lines.ensures, c.in_ok-lines.ensures.right win.columns c.in_ok-planned.ensures.lines.measured)) ∣₁;
-    } in
+    let n = c.in_ok-next.next in
+    let is = c.in_ok-next.ensures.next in
     record {
       suits = ∥∥₁_map c.args.self.now.some (λ x.
           let l = x.0 in
           let l' = logged s.columns s.rows bottom text frame l in
-          let next = rw p.rows_are at (c.logged-next.ensures s.columns bottom text frame l x.1.counted (rw (← p.rows_are) at p.plan_is) p.height_is blanks) in (
+          let next = rw p.rows_are at (c.logged-counts.ensures s.columns bottom text frame l x.1.counted (rw (← p.rows_are) at p.plan_is) p.height_is blanks) in (
             l',
-            suits_made c.logged-next.result _ l' next (logged-sound s.columns s.rows bottom text frame l)
-                (logged_shown win.columns s.columns s.rows c.in_ok-planned.planned.text.height c.blanks_of-blanks.result bottom text c.args.frame.now l old c.in_ok-planned.planned.plan shown
-                p.columns_are refl x.1.counted p.plan_is p.height_is blanks t c.no_lines.ensures),
+            subst (λ k. Suits k false n.shown l') (sym is.counts_are) (suits_made c.logged-counts.result _ l' next (logged-sound s.columns s.rows bottom text frame l)
+                (logged_shown win.columns s.columns s.rows c.in_ok-planned.planned.text.height c.blanks_of-blanks.result bottom text c.args.frame.now l old c.logged-counts.result
+                c.in_ok-planned.planned.plan n.shown p.columns_are is.marked x.1.counted p.plan_is p.height_is blanks (ap texts is.lines_are ∙ t) next)),
           ));
       lines = rw p.plan_is.lines_are (frame_lines_le s.columns s.rows c.args.frame.now);
     }
@@ -74,7 +115,7 @@ returns-clause-answer g c =
     let frame = all_lines (map bar_lines c.args.frame.now) in
     let p = c.in_ok-planned.ensures.planned in
     let w = c.in_ok-planned.planned.window.columns in
-    rw (← p.columns_are) (answer_made w (text ++ frame) c.logged-next.result _ c.repaint.result c.repaint.new.self
+    rw (← p.columns_are) (answer_made w (text ++ frame) c.in_ok-next.next.counts _ c.repaint.result c.repaint.new.self
     c.repaint.ensures.remembers c.in_ok-planned.planned.window.some
     (rw (← p.columns_are) at (narrow_both (g.T.TermLike.view (engine_term c.args.self.now)).columns text frame p.narrow_text p.narrow_frame)))
 
@@ -89,18 +130,15 @@ returns-clause-lists g c = λ l fits.
     let text = text_lines (logged_lines c.args.text.now) in
     let blanks = rw c.is_bottom.ensures at (c.blanks_of-blanks.ensures.blanks (old.kept + old.live) c.in_ok-planned.planned.text.height c.saturating_sub-free.ensures) in
     let t = c.in_ok-lines.ensures.texts ∙ ap (λ xs. replicate c.blanks_of-blanks.result [] ++ xs) c.in_ok-planned.ensures.lines.texts_are in
-    let shown : Remembered = record {
-      width = win.columns;
-      kept = c.no_lines.result;
-      lines = c.in_ok-lines.lines;
-      right =
-          ∣ (λ p. (no_lines_right win.columns c.no_lines.result.items c.no_lines.ensures, c.in_ok-lines.ensures.right win.columns c.in_ok-planned.ensures.lines.measured)) ∣₁;
-    } in
-    fits_by c.logged-next.result _ c.repaint.result c.repaint.new.self l (logged s.columns s.rows bottom text frame l) c.repaint.ensures.remembers
-    (rw p.rows_are at (c.logged-next.ensures s.columns bottom text frame l (fits_counts c.args.self.now l fits) (rw (← p.rows_are) at p.plan_is) p.height_is blanks))
+    let n = c.in_ok-next.next in
+    let is = c.in_ok-next.ensures.next in
+    let o = fits_counts c.args.self.now l fits in
+    let l' = logged s.columns s.rows bottom text frame l in
+    let next = rw p.rows_are at (c.logged-counts.ensures s.columns bottom text frame l o (rw (← p.rows_are) at p.plan_is) p.height_is blanks) in
+    fits_by n.counts n.shown c.repaint.result c.repaint.new.self l l' c.repaint.ensures.remembers (subst (λ k. CountsOf k l') (sym is.counts_are) next)
     (logged-sound s.columns s.rows bottom text frame l)
-    (logged_shown win.columns s.columns s.rows c.in_ok-planned.planned.text.height c.blanks_of-blanks.result bottom text c.args.frame.now l old c.in_ok-planned.planned.plan shown p.columns_are refl
-    (fits_counts c.args.self.now l fits) p.plan_is p.height_is blanks t c.no_lines.ensures)
+    (logged_shown win.columns s.columns s.rows c.in_ok-planned.planned.text.height c.blanks_of-blanks.result bottom text c.args.frame.now l old c.logged-counts.result c.in_ok-planned.planned.plan
+    n.shown p.columns_are is.marked o p.plan_is p.height_is blanks (ap texts is.lines_are ∙ t) next)
 
 pub returns-clause-paints : goal.returns-clause-paints
 returns-clause-paints g c = λ l fits plain.
@@ -118,27 +156,21 @@ returns-clause-paints g c = λ l fits plain.
     let ends : end ≤ text_height s.columns (text_lines text) + (c.blanks_of-blanks.result + plan.rows) = omega (arith, c.saturating_add-end.ensures, p.height_is) in
     let lasts = all_or_many (text_height s.columns (text_lines text)) (c.blanks_of-blanks.result + plan.rows) rows end p.height_is c.saturating_add-end.ensures in
     let blanks = rw c.is_bottom.ensures at (c.blanks_of-blanks.ensures.blanks (old.kept + old.live) rows c.saturating_sub-free.ensures) in
-    let next = λ (x : Lists) (is : CountsOf old x). rw p.rows_are at (c.logged-next.ensures s.columns bottom (text_lines text) frame x is (rw (← p.rows_are) at p.plan_is) p.height_is blanks) in
+    let next = λ (x : Lists) (is : CountsOf old x). rw p.rows_are at (c.logged-counts.ensures s.columns bottom (text_lines text) frame x is (rw (← p.rows_are) at p.plan_is) p.height_is blanks) in
     let lines = text ++ replicate c.blanks_of-blanks.result [] ++ take plan.lines (frame_lines c.args.frame.now) in
     let fill = log_fill s.columns s.rows 0 c.blanks_of-blanks.result (old.kept + old.live) rows bottom c.args.frame.now plan p.plan_is p.plan_ends blanks
-    c.logged-next.result.below c.fill-fill.result c.unwrap_or-last.result text (logged_length c.args.text.now) (rw p.text_ends at c.unwrap_or-last.ensures)
+    c.logged-counts.result.below c.fill-fill.result c.unwrap_or-last.result text (logged_length c.args.text.now) (rw p.text_ends at c.unwrap_or-last.ensures)
     (rw p.columns_are at c.fill-fill.ensures) in
-    paints_by s (g.T.TermLike.view (engine_term c.repaint.new.self)) old c.logged-next.result _ c.repaint.result c.repaint.new.self c.args.self.now.failed l
+    let n = c.in_ok-next.next in
+    let below : n.counts.below ≡ c.logged-counts.result.below = ap (λ (k : Counts). k.below) c.in_ok-next.ensures.next.counts_are in
+    paints_by s (g.T.TermLike.view (engine_term c.repaint.new.self)) old n.counts _ c.repaint.result c.repaint.new.self c.args.self.now.failed l
     (logged s.columns s.rows bottom (text_lines text) frame)
-    (reach_bytes f.down f.rows ++ (paint_bytes false old.below (old.kept + old.live) lines c.logged-next.result.below ++ fill_bytes c.logged-next.result.below s.columns lines))
+    (reach_bytes f.down f.rows ++ (paint_bytes false old.below (old.kept + old.live) lines c.logged-counts.result.below ++ fill_bytes c.logged-counts.result.below s.columns lines))
     c.repaint.ensures.remembers
     (fits_failed c.args.self.now l fits)
-    (rw fill at c.repaint.ensures.writes)
-    (λ x is. log_paints s.columns s.rows x old c.logged-next.result rows c.blanks_of-blanks.result bottom text c.args.frame.now plan end f
+    (rw (c.next_with.ensures.terminal, c.next_with.ensures.same.0, c.next_with.ensures.same.1, fill, below) at c.repaint.ensures.writes)
+    (λ x is. log_paints s.columns s.rows x old c.logged-counts.result rows c.blanks_of-blanks.result bottom text c.args.frame.now plan end f
     (rw p.columns_are at c.in_ok-planned.planned.window.some) (logged_utf8 c.args.text.now c.utf8.text) plain p.narrow_text p.narrow_frame is.counts p.plan_is (next x is.counts) p.height_is blanks
     (rw p.rows_are at c.fresh-fresh.ensures) ends lasts) o
     (fits_forgets c.args.self.now l fits) (logged-sound s.columns s.rows bottom (text_lines text) frame l) (logged-adds s.columns s.rows bottom (text_lines text) frame l)
     (logged-known s.columns s.rows bottom (text_lines text) frame l)
-
-pub invariant_of-shown : goal.invariant_of-shown
-invariant_of-shown g c = record {
-  right = ∣ (λ p. (
-    no_lines_right c.in_ok-planned.planned.window.columns c.no_lines.result.items c.no_lines.ensures,
-    c.in_ok-lines.ensures.right c.in_ok-planned.planned.window.columns c.in_ok-planned.ensures.lines.measured,
-  )) ∣₁;
-}

@@ -3,6 +3,7 @@ use Rattle.std.proofs.lemmas.Bool.{eqb-true}
 use Rattle.std.proofs.lemmas.List.{nil_from_length}
 use Rattle.indicatif_term.specs.Inside.Remembering.{Draws}
 use Rattle.indicatif_term.specs.Engines.{engine_term}
+use Rattle.indicatif_term.specs.Remembered.{live_lines}
 use Rattle.indicatif_term.proofs.RenewedLemmas.{all_stay_there, renews_itself}
 use Rattle.indicatif_term.proofs.engine.Engine.renew.Goals as goal
 
@@ -25,4 +26,4 @@ returns-then-is_empty g c =
     )
 
 pub returns : goal.returns
-returns g c = let d = c.write_new.ensures in (d.0, d.0.lines.items, d.1, d.2, d.1.in_place, d.3, refl, d.4, d.5)
+returns g c = let d = c.write_new.ensures in (d.0, live_lines d.0, d.1, d.2, d.1.in_place, d.3, refl, d.4, d.5)

@@ -1,132 +1,69 @@
-use Rattle.std.proofs.Common.{arith, ◌≡◌, ◌-◌, ◌<◌, refl, sym, subst, ap, get_or, length, []}
+use Rattle.std.proofs.Common.{arith, ◌≡◌, ◌+◌, ◌<◌, [], refl, sym, subst, ap, length, ◌∙◌}
 use Rattle.std.specs.IoError.{error_kind}
+use Rattle.std.proofs.lemmas.List.{take_all}
 use Rattle.indicatif_text.specs.declared.refusal.Refusal.TheVariants.{Terminal}
 use Rattle.indicatif_term.specs.Calls.{LeadsOn, BreaksOff}
 use Rattle.indicatif_term.specs.Engines.{engine_term}
-use Rattle.indicatif_term.specs.Inside.Changes.{change_bytes}
-use Rattle.indicatif_term.specs.Inside.Renewed.{Renews}
-use Rattle.indicatif_term.specs.declared.remembered.Remembered.{Remembered}
-use Rattle.indicatif_term.proofs.BesideLemmas.{ready_at, ready_take}
-use Rattle.indicatif_term.proofs.RememberedLemmas.{lines_right, kept_right}
-use Rattle.indicatif_term.proofs.RenewedLemmas.{over_ready, place_right, place_length, renewed_by, renewed_height}
+use Rattle.indicatif_term.specs.Remembered.{live_lines}
+use Rattle.indicatif_term.specs.Standing.{placed}
+use Rattle.indicatif_term.specs.Inside.Changes.{placed_height, change_bytes}
+use Rattle.indicatif_term.proofs.RenewedLemmas.{over_ready, place_length, last_of_all}
 use Rattle.indicatif_term.proofs.engine.Engine.write_new.Goals as goal
 
 pub put_new-requires : goal.put_new-requires
-put_new-requires g c = record { within = (c.args.self.now.shown.width, c.requires.fit) }
+put_new-requires g c = record { known = c.requires.known; fit = c.requires.fit }
+
+pub write_in_room-requires : goal.write_in_room-requires
+write_in_room-requires g c =
+    let shown = c.args.self.now.shown in
+    let r = c.put_new.new.self in
+    let ls = live_lines r in
+    let renews = c.put_new.ensures.renews in
+    let some : 0 < length ls = omega (arith, place_length shown.width (live_lines shown) ls renews.in_place, c.requires.some) in
+    let count : length c.live-lines.result.now ≡ length ls = ap length c.live-lines.ensures in
+    let all : placed_height (placed ls) + 0 ≡ placed_height (placed ls) = omega arith in
+    record {
+      room = (
+        placed_height (placed ls),
+        rw (c.live-lines.ensures) (record { some = omega (arith, some); in_lines = omega arith; rows_are = ap (λ xs. placed_height (placed xs) + 0) (take_all (length ls) ls (omega arith)) ∙ all }),
+        c.requires.low r renews,
+      );
+      ready = rw c.live-lines.ensures (over_ready shown.width (live_lines shown) ls c.put_new.ensures.over);
+    }
 
 pub invariant_of-self : goal.invariant_of-self
-invariant_of-self g c =
-    let shown = c.args.self.now.shown in
-    let place = c.put_new.ensures.in_place shown.width (lines_right shown c.requires.known) c.requires.fit in
-    (∣ (λ p. (kept_right shown p, place_right shown.width shown.lines.items c.put_new.new.lines.items place)) ∣₁, tt)
-
-pub overflow_sub-before : goal.overflow_sub-before
-overflow_sub-before g c =
-    let shown = c.args.self.now.shown in
-    let place = c.put_new.ensures.in_place shown.width (lines_right shown c.requires.known) c.requires.fit in
-    omega (arith, c.len-before.ensures, c.put_new.new.lines.ok, place_length shown.width shown.lines.items c.put_new.new.lines.items place, c.requires.some)
-
-pub index-requires : goal.index-requires
-index-requires g c =
-    let shown = c.args.self.now.shown in
-    let place = c.put_new.ensures.in_place shown.width (lines_right shown c.requires.known) c.requires.fit in
-    omega (arith, c.len-before.ensures, c.put_new.new.lines.ok, place_length shown.width shown.lines.items c.put_new.new.lines.items place, c.requires.some)
-
-pub write_changes-requires-clause-small : goal.write_changes-requires-clause-small
-write_changes-requires-clause-small g c =
-    let shown = c.args.self.now.shown in
-    let ls = c.put_new.new.lines.items in
-    let place = c.put_new.ensures.in_place shown.width (lines_right shown c.requires.known) c.requires.fit in
-    let r : Remembered = record {
-      width = shown.width;
-      kept = shown.kept;
-      lines = c.put_new.new.lines;
-      right = ∣ (λ p. (kept_right shown p, place_right shown.width shown.lines.items ls place)) ∣₁;
-    } in
-    let renews : Renews shown c.args.changed.items r = record { width_is = refl; kept_are = refl; texts_are = c.put_new.ensures.texts; in_place = place } in
-    let some : 0 < length ls = omega (arith, place_length shown.width shown.lines.items ls place, c.requires.some) in
-    let count : c.len-before.result ≡ length ls = omega (arith, c.len-before.ensures, c.put_new.new.lines.ok) in
-    let x = c.index.result.now in
-    let here : get_or ls (length ls - 1) x ≡ x = rw count at (sym c.index.ensures) in
-    rw count (omega (arith, renewed_height ls c.deref.result.now x c.deref.ensures.value some here, c.requires.low r renews))
-
-pub write_changes-requires-clause-front : goal.write_changes-requires-clause-front
-write_changes-requires-clause-front g c =
-    let shown = c.args.self.now.shown in
-    let ls = c.put_new.new.lines.items in
-    rw c.deref.ensures.value (ready_take ls _ (over_ready shown.width shown.lines.items ls (c.put_new.ensures.over shown.width c.requires.fit)))
-
-pub write_changes-requires-clause-last : goal.write_changes-requires-clause-last
-write_changes-requires-clause-last g c =
-    let shown = c.args.self.now.shown in
-    let ls = c.put_new.new.lines.items in
-    let place = c.put_new.ensures.in_place shown.width (lines_right shown c.requires.known) c.requires.fit in
-    let some : 0 < length ls = omega (arith, place_length shown.width shown.lines.items ls place, c.requires.some) in
-    let count : c.len-before.result ≡ length ls = omega (arith, c.len-before.ensures, c.put_new.new.lines.ok) in
-    let x = c.index.result.now in
-    let here : get_or ls (length ls - 1) x ≡ x = rw count at (sym c.index.ensures) in
-    (ready_at ls (length ls - 1) x (omega arith) here (over_ready shown.width shown.lines.items ls (c.put_new.ensures.over shown.width c.requires.fit)), tt)
-
-pub invariant_of-self-2 : goal.invariant_of-self-2
-invariant_of-self-2 g c =
-    let shown = c.args.self.now.shown in
-    let ls = c.put_new.new.lines.items in
-    let place = c.put_new.ensures.in_place shown.width (lines_right shown c.requires.known) c.requires.fit in
-    let r : Remembered = record {
-      width = shown.width;
-      kept = shown.kept;
-      lines = c.put_new.new.lines;
-      right = ∣ (λ p. (kept_right shown p, place_right shown.width shown.lines.items ls place)) ∣₁;
-    } in
-    let renews : Renews shown c.args.changed.items r = record { width_is = refl; kept_are = refl; texts_are = c.put_new.ensures.texts; in_place = place } in
-    ((r.right, tt), (rw c.requires.sound (c.requires.suits r renews), tt))
+invariant_of-self g c = record { some = rw c.requires.sound (c.requires.suits c.put_new.new.self c.put_new.ensures.renews) }
 
 pub returns-in-Ok : goal.returns-in-Ok
 returns-in-Ok g c =
-    let shown = c.args.self.now.shown in
-    let ls = c.put_new.new.lines.items in
-    let place = c.put_new.ensures.in_place shown.width (lines_right shown c.requires.known) c.requires.fit in
-    let some : 0 < length ls = omega (arith, place_length shown.width shown.lines.items ls place, c.requires.some) in
-    let count : c.len-before.result ≡ length ls = omega (arith, c.len-before.ensures, c.put_new.new.lines.ok) in
-    let x = c.index.result.now in
-    let here : get_or ls (length ls - 1) x ≡ x = rw count at (sym c.index.ensures) in
     let v = g.T.TermLike.view (engine_term c.args.self.now) in
-    let v' = g.T.TermLike.view c.write_changes.new.term in (
-      record { width = shown.width; kept = shown.kept; lines = c.put_new.new.lines; right = _ },
-      record { width_is = refl; kept_are = refl; texts_are = c.put_new.ensures.texts; in_place = place },
+    let v' = g.T.TermLike.view c.write_in_room.new.term in
+    let ls = live_lines c.put_new.new.self in (
+      c.put_new.new.self,
+      c.put_new.ensures.renews,
       (refl, c.requires.sound, refl),
-      c.put_new.ensures.over shown.width c.requires.fit,
-      λ front last s. subst (λ b. LeadsOn b v v') (renewed_by shown.width ls c.deref.result.now x front last c.deref.ensures.value some here s) (rw count at c.in-Ok.ensures),
+      c.put_new.ensures.over,
+      λ front last s. subst (λ n. LeadsOn (change_bytes n 0 front last []) v v') c.put_new.ensures.renews.width_is
+          (c.in-Ok.ensures front last [] (rw c.live-lines.ensures s) (last_of_all ls front last s ∙ sym (ap length c.live-lines.ensures))),
       refl,
     )
 
 pub returns-in-Err : goal.returns-in-Err
 returns-in-Err g c =
     let shown = c.args.self.now.shown in
-    let ls = c.put_new.new.lines.items in
-    let place = c.put_new.ensures.in_place shown.width (lines_right shown c.requires.known) c.requires.fit in
-    let r : Remembered = record {
-      width = shown.width;
-      kept = shown.kept;
-      lines = c.put_new.new.lines;
-      right = ∣ (λ p. (kept_right shown p, place_right shown.width shown.lines.items ls place)) ∣₁;
-    } in
-    let some : 0 < length ls = omega (arith, place_length shown.width shown.lines.items ls place, c.requires.some) in
-    let count : c.len-before.result ≡ length ls = omega (arith, c.len-before.ensures, c.put_new.new.lines.ok) in
-    let x = c.index.result.now in
-    let here : get_or ls (length ls - 1) x ≡ x = rw count at (sym c.index.ensures) in
+    let ls = live_lines c.put_new.new.self in
     let v = g.T.TermLike.view (engine_term c.args.self.now) in
     let kind = error_kind c.in-Err.e in
     let forgotten = c.forget.ensures.forgotten in (
-      r,
-      record { width_is = refl; kept_are = refl; texts_are = c.put_new.ensures.texts; in_place = place },
+      c.put_new.new.self,
+      c.put_new.ensures.renews,
       ((kind, ap Terminal c.kind.ensures), forgotten.0, forgotten.1, forgotten.2),
-      c.put_new.ensures.over shown.width c.requires.fit,
+      c.put_new.ensures.over,
       λ front last s.
           let breaks : BreaksOff (change_bytes shown.width 0 front last []) kind v (g.T.TermLike.view (engine_term c.forget.new.self)) =
           subst (λ t. BreaksOff (change_bytes shown.width 0 front last []) kind v (g.T.TermLike.view t)) (sym c.forget.ensures.terminal)
-          (subst (λ b. BreaksOff b kind v (g.T.TermLike.view c.write_changes.new.term))
-          (renewed_by shown.width ls c.deref.result.now x front last c.deref.ensures.value some here s) (rw count at c.in-Err.ensures)) in
+          (subst (λ n. BreaksOff (change_bytes n 0 front last []) kind v (g.T.TermLike.view c.write_in_room.new.term)) c.put_new.ensures.renews.width_is
+          (c.in-Err.ensures front last [] (rw c.live-lines.ensures s) (last_of_all ls front last s ∙ sym (ap length c.live-lines.ensures)))) in
           (kind, ap Terminal c.kind.ensures, breaks),
       c.forget.ensures.moves,
     )

@@ -6,4 +6,4 @@ pub returns-clause-goes : goal.returns-clause-goes
 returns-clause-goes g c start before =
     let few : c.min-n.result ≤ 4096 = omega arith in
     let some : 0 < c.min-n.result = omega arith in
-    blocks_more g.P.Moves.stands g.P.Moves.leads start _ _ _ _ some few before c.make_move.result c.make_move.ensures.led c.make_move.ensures.goes
+    blocks_more g.P.Moves.stands g.P.Moves.leads start _ _ _ _ some few before c.advance.result c.advance.ensures.led c.advance.ensures.goes

@@ -1,6 +1,6 @@
 use Rattle.std.proofs.Common.{refl}
 use Rattle.indicatif_board.specs.Calls.{call_of, answer_of}
-use Rattle.indicatif_board.specs.Multi.{board_id_of}
+use Rattle.indicatif_board.specs.Multi.{mark_of}
 use Rattle.indicatif.proofs.SharedLemmas.{can_answer, grows_so, record_answers}
 use Rattle.indicatif.proofs.progress_bar.any_board.AnyBoard.call.Goals as goal
 
@@ -10,7 +10,7 @@ returns-in-Open-clause-made g c = rw c.in-Open.is (c.call.new.self, refl, c.call
 pub returns-in-Open-clause-can : goal.returns-in-Open-clause-can
 returns-in-Open-clause-can g c =
     let some = c.order.ensures.some in
-    can_answer g.K.Tracks.means g.T.TermLike.view c.in-Open.board c.call.new.self (call_of c.args.call) c.args.now (answer_of c.call.result) (board_id_of c.in-Open.board) some.0 some.1
+    can_answer g.K.Tracks.means g.T.TermLike.view c.in-Open.board c.call.new.self (call_of c.args.call) c.args.now (answer_of c.call.result) (mark_of c.in-Open.board) some.0 some.1
     c.call.ensures.leads
 
 pub returns-in-Recorded-clause-made : goal.returns-in-Recorded-clause-made

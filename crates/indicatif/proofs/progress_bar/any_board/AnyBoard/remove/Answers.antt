@@ -1,7 +1,7 @@
 use Rattle.indicatif_board.specs.Boards.{Remove}
 use Rattle.indicatif_board.specs.BoardValues.{id_of}
 use Rattle.indicatif_board.specs.Calls.{answer_of, removal}
-use Rattle.indicatif_board.specs.Multi.{board_id_of}
+use Rattle.indicatif_board.specs.Multi.{mark_of}
 use Rattle.indicatif.proofs.SharedLemmas.{can_answer, grows_so, record_answers, refused_as, refused_so, removed_open, removed_recorded}
 use Rattle.indicatif.proofs.progress_bar.any_board.AnyBoard.remove.Goals as goal
 
@@ -13,7 +13,7 @@ pub returns-in-Open-clause-can : goal.returns-in-Open-clause-can
 returns-in-Open-clause-can g c =
     let some = c.order.ensures.some in
     refused_so g.K.Tracks.means g.T.TermLike.view (id_of c.args.id) c.remove.result
-    (can_answer g.K.Tracks.means g.T.TermLike.view c.in-Open.board c.remove.new.self (Remove (id_of c.args.id)) c.args.now (removal c.remove.result) (board_id_of c.in-Open.board) some.0 some.1
+    (can_answer g.K.Tracks.means g.T.TermLike.view c.in-Open.board c.remove.new.self (Remove (id_of c.args.id)) c.args.now (removal c.remove.result) (mark_of c.in-Open.board) some.0 some.1
     (c.remove.ensures.leads c.args.now))
 
 pub returns-in-Recorded-clause-made : goal.returns-in-Recorded-clause-made

@@ -1,7 +1,8 @@
 use Rattle.std.proofs.Common.{◌∙◌, ◌≤◌, ◌*◌, ap, subst, take, replicate, arith}
 use Rattle.std.proofs.lemmas.List.{length-replicate}
 use Rattle.indicatif_text.proofs.StyleLemmas.{at_err}
-use Rattle.indicatif_term.specs.Screen.{Put, performed, performed_all}
+use Rattle.indicatif_term.specs.Screen.{Put, performed}
+use Rattle.indicatif_term.specs.Inside.Reading.{performed_all}
 use Rattle.indicatif_term.specs.Terminal.{Terminal, after}
 use Rattle.indicatif_term.specs.Inside.Runs.{puts}
 use Rattle.indicatif_term.specs.Inside.Scanners.{IsWholeChar}

@@ -1,0 +1,121 @@
+//! A terminal that keeps colours: one in memory on which a character with colours stands as another one of its width.
+use indicatif_term::in_memory::Cells;
+use indicatif_text::columns::Refusal;
+use scripts::judged::record::Size;
+use std::alloc::Global;
+
+/// The colours that are on: whether letters are bold, and the colour's number, 0 for none.
+#[derive(Clone, Copy, Drop)]
+struct Look {
+    is_bold: bool,
+    colour: u8,
+}
+
+/// No colours.
+const PLAIN: Look = Look {
+    is_bold: false,
+    colour: 0,
+};
+
+impl Look {
+    /// After a parameter of a colour sequence.
+    fn told(self, parameter: &str) -> Look {
+        match parameter.parse::<u8>() {
+            Ok(1) => Look {
+                is_bold: true,
+                colour: self.colour,
+            },
+            Ok(number) if 30 <= number && number < 38 => Look {
+                is_bold: self.is_bold,
+                colour: number - 29,
+            },
+            _ => PLAIN,
+        }
+    }
+
+    /// What stands for a character with these colours: a character of private use for one of ASCII, a wide one for a wide one.
+    fn shown(self, c: char) -> char {
+        let number = u32::from(self.colour) + if self.is_bold { 9 } else { 0 };
+        let other = match c {
+            _ if number == 0 => Some(c),
+            ' '..='~' => char::from_u32(0xE000 + 96 * number + c as u32),
+            '国' => char::from_u32('国' as u32 + number),
+            _ => Some(c),
+        };
+        other.unwrap_or(c)
+    }
+}
+
+/// What a terminal shows with its colours, of which `0`, `1` and the eight of `30` to `37` are known.
+#[derive(Drop)]
+pub struct Coloured {
+    cells: Cells,
+    look: Look,
+    /// How many bytes were read.
+    read: usize,
+    /// What was read of a sequence.
+    sequence: String,
+    /// What the cells are fed with.
+    fed: String,
+}
+
+impl Coloured {
+    pub fn new(alloc: Global, size: Size) -> Result<Coloured, Refusal> {
+        Ok(Coloured {
+            cells: Cells::new(alloc, size.rows, size.cols)?,
+            look: PLAIN,
+            read: 0,
+            sequence: String::new(alloc),
+            fed: String::new(alloc),
+        })
+    }
+
+    /// Reads on in what was written; whether it could be read.
+    pub fn read_on(&mut self, written: &[u8]) -> Result<bool, Refusal> {
+        let Ok(text) = str::from_utf8(written.get(self.read..).unwrap_or(&[])) else {
+            return Ok(false);
+        };
+        self.read = written.len();
+        for c in text.chars() {
+            self.take(c)?;
+        }
+        let is_fed = self.cells.feed(self.fed.as_str().as_bytes()).is_ok();
+        self.fed.clear();
+        Ok(is_fed)
+    }
+
+    fn take(&mut self, c: char) -> Result<(), Refusal> {
+        if self.sequence.is_empty() && c != '\u{1b}' {
+            self.fed.push(self.look.shown(c))?;
+            return Ok(());
+        }
+        self.sequence.push(c)?;
+        if c.is_ascii_alphabetic() {
+            self.end_sequence()?;
+        }
+        Ok(())
+    }
+
+    /// A colour sequence tells colours; the cells get any other.
+    fn end_sequence(&mut self) -> Result<(), Refusal> {
+        let sequence = self.sequence.as_str();
+        match sequence
+            .strip_prefix("\u{1b}[")
+            .unwrap_or("")
+            .strip_suffix('m')
+        {
+            Some(parameter) => self.look = self.look.told(parameter),
+            None => self.fed.push_str(sequence)?,
+        }
+        self.sequence.clear();
+        Ok(())
+    }
+
+    /// Whether both show the same rows in the same colours, with their cursors in the same place.
+    pub fn is_as(&self, other: &Coloured) -> Result<bool, Refusal> {
+        Ok(
+            self.cells.cursor() == other.cells.cursor()
+                && self.cells.picture()? == other.cells.picture()?,
+        )
+    }
+}
