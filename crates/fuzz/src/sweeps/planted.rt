@@ -36,8 +36,8 @@ pub struct Planted {
 /// What a call answers that found no memory.
 const REFUSED: Said = Err(Refusal::Memory);
 
-/// The first two do what a call may that finds no memory: nothing, or what it does before its draw. The last six are sizes: a draw of no line
-/// comes before those of the numbers 29 and 30, and before that of number 33 the kept rows have scrolled away.
+/// The first two do what a call may that finds no memory: nothing, or what it does before its draw. The last six are of a script with sizes:
+/// a draw of no line comes before the calls of the numbers 29 to 32, so that rows are kept.
 pub const PLANTED: &[Planted] = &[
     Planted {
         name: "a draw does nothing",
@@ -124,24 +124,24 @@ pub const PLANTED: &[Planted] = &[
         said: REFUSED,
     },
     Planted {
-        name: "sizes do nothing while rows are kept",
+        name: "two sizes do nothing while rows are kept",
         kind: Kind::Sized,
         at: &[29, 30],
         body: Body::Nothing,
         said: REFUSED,
     },
     Planted {
-        name: "sizes do nothing, also once no row is kept",
+        name: "a size is taken while rows are kept",
         kind: Kind::Sized,
-        at: &[29, 30, 33],
-        body: Body::Nothing,
-        said: REFUSED,
-    },
-    Planted {
-        name: "sizes are taken while rows are kept",
-        kind: Kind::Sized,
-        at: &[29, 30],
+        at: &[30],
         body: Body::Makes(WIDE),
+        said: REFUSED,
+    },
+    Planted {
+        name: "a draw does nothing while rows are kept",
+        kind: Kind::Sized,
+        at: &[32],
+        body: Body::Nothing,
         said: REFUSED,
     },
 ];

@@ -205,20 +205,6 @@ impl Judge {
         Ok(before.saturating_add(usize::from(row)).saturating_add(1))
     }
 
-    /// How many rows there are down to the last one that isn't empty, if that stands below the rows above.
-    pub fn end_below(&self) -> Result<Option<usize>, Finding> {
-        let end = self.rows()?.len();
-        match self.above.len() < end {
-            true => Ok(Some(end)),
-            false => Ok(None),
-        }
-    }
-
-    /// Whether the window has the last of the first so many rows.
-    pub fn has_in_window(&self, rows: usize) -> Result<bool, Finding> {
-        Ok(self.rows_before()? < rows)
-    }
-
     /// A text was logged: it stands somewhere below the rows above, and belongs to them from now on. Its rows hold nothing else, also where a
     /// call failed before. Only once the terminal got another size since then, what that call left may stand behind a row of the text.
     pub fn logged(&mut self, text: &str) -> Result<(), Finding> {

@@ -32,8 +32,6 @@ pub enum Where {
     Unmade,
     /// This call answered `Memory`.
     Call(usize),
-    /// A draw of no line before this size, which answered `Memory`, as later ones did.
-    Draw(usize),
     /// The terminal's own memory in this call, which answered `Terminal`.
     Terminal(usize),
 }
@@ -45,7 +43,6 @@ impl Where {
             Where::Nowhere => "no call was refused",
             Where::Unmade => "nothing was made",
             Where::Call(_) => "a call answered Memory",
-            Where::Draw(_) => "sizes answered Memory while rows were kept",
             Where::Terminal(_) => "the terminal found no memory",
         }
     }
@@ -173,18 +170,6 @@ struct Seen {
     judge: Judge,
     /// Where memory was refused by now.
     found: Where,
-    /// Where those rows end that a draw of no line left below the rows above, if none of them was taken back since, or cut.
-    kept: Option<usize>,
-}
-
-impl Seen {
-    /// Whether any of these rows is still in the window.
-    fn has_kept_rows(&self) -> Result<bool, Finding> {
-        match self.kept {
-            Some(end) => self.judge.has_in_window(end),
-            None => Ok(false),
-        }
-    }
 }
 
 /// A script that was played, on a terminal of this size behind this record, and what its calls did.
@@ -209,15 +194,13 @@ impl<M: Stages> Run<'_, M> {
     /// terminal's own growth was refused; the first of these leaves the order. A call with `Memory` writes nothing. Rows above stand behind
     /// each byte. What comes behind, by the answers and by what each drawing shows, is what a new stage does that makes the same calls with
     /// ample memory: without the refused call, or with what that call had begun; or on a terminal that fails at that very call of the writer.
-    ///
-    /// Only one call answers `Memory`, but for sizes: a draw of no line may have had none to go on remembering the rows of bars that are
-    /// gone. Then sizes may answer `Memory`, and do nothing, as long as such rows stand in the window.
+    /// Only one call answers `Memory`.
     pub fn judged(&self) -> Result<Where, Finding> {
         let found = self.looked_at()?;
         let follows = match found {
-            Where::Call(at) | Where::Draw(at) => self.follows_a_refusal(at),
+            Where::Call(at) => self.follows_a_refusal(at),
             Where::Terminal(at) => self.follows_a_failure(at),
-            _ => self.is_like(0, None),
+            _ => self.is_like(0, &[]),
         };
         match follows? {
             true => Ok(found),
@@ -230,7 +213,6 @@ impl<M: Stages> Run<'_, M> {
         let mut seen = Seen {
             judge: Judge::new(self.alloc, self.size, Look::EachByte)?,
             found: Where::Nowhere,
-            kept: None,
         };
         for (at, step) in self.stages.script().iter().enumerate() {
             self.look(&mut seen, (at, *step))?;
@@ -264,7 +246,8 @@ impl<M: Stages> Run<'_, M> {
             }
             (_, _) if has_failed => Err(Finding::Answer),
             (said, _) if said == step.wanted() => self.succeeds(seen, (at, step), said, bytes),
-            (Err(Refusal::Memory), _) => self.refuses(seen, (at, step), bytes),
+            (Err(Refusal::Memory), Where::Nowhere) => self.refuses(seen, (at, step), bytes),
+            (Err(Refusal::Memory), _) => Err(Finding::Answer),
             (_, Where::Call(_)) => Ok(()),
             _ => Err(Finding::Answer),
         }
@@ -286,8 +269,7 @@ impl<M: Stages> Run<'_, M> {
         bytes: &[u8],
     ) -> Result<(), Finding> {
         resized(said, (step, bytes), &mut seen.judge)?;
-        log(&mut seen.judge, step, said)?;
-        self.keeps(seen, (at, step))
+        log(&mut seen.judge, step, said)
     }
 
     /// A call answered `Memory`.
@@ -299,7 +281,7 @@ impl<M: Stages> Run<'_, M> {
     ) -> Result<(), Finding> {
         self.leaves_the_order(at)?;
         is_unwritten(step, bytes)?;
-        seen.found = self.refused(seen, at)?;
+        seen.found = Where::Call(at);
         Ok(())
     }
 
@@ -310,65 +292,38 @@ impl<M: Stages> Run<'_, M> {
         }
     }
 
-    /// What a call that wasn't refused makes of the rows of bars that are gone: behind a draw of a board without bars they are all that
-    /// stands below the rows above. That draw may have been refused memory, if no call was by now.
-    fn keeps(&self, seen: &mut Seen, (at, step): (usize, Step)) -> Result<(), Finding> {
-        let has_no_line = matches!(step, Step::Redraw) && self.notes.order(at).is_empty();
-        if has_no_line && matches!(seen.found, Where::Nowhere) {
-            seen.kept = seen.judge.end_below()?;
-        }
-        if step.takes_back() {
-            seen.kept = None;
-        }
-        Ok(())
-    }
-
-    /// Where memory was refused, now that this call answers `Memory`: in it, if it is the first; else both are sizes while rows are kept.
-    fn refused(&self, seen: &Seen, at: usize) -> Result<Where, Finding> {
-        let may_be_size = self.is_size(at) && seen.has_kept_rows()?;
-        match seen.found {
-            Where::Nowhere => Ok(Where::Call(at)),
-            Where::Call(first) | Where::Draw(first) if may_be_size && self.is_size(first) => {
-                Ok(Where::Draw(first))
-            }
-            _ => Err(Finding::Answer),
-        }
-    }
-
-    fn is_size(&self, at: usize) -> bool {
-        match self.stages.script().get(at) {
-            Some(step) => step.resized().is_some(),
-            None => false,
-        }
-    }
-
     /// What comes behind a call with `Memory` is what comes without it; or with what it did before its draw; or with all of it right before
-    /// the next call that draws bars, where only that one shows the lines that it had stored.
+    /// the next call that draws bars, where only that one shows the lines that it had stored. If that call takes back what stands, a clear
+    /// comes before them: nothing that the refused draw would have pushed above the window is there.
     fn follows_a_refusal(&self, at: usize) -> Result<bool, Finding> {
-        if self.is_like(at, None)? {
+        if self.is_like(at, &[])? {
             return Ok(true);
         }
         let Some(step) = self.stages.script().get(at) else {
             return Ok(false);
         };
         if let Some(begun) = step.begun() {
-            if self.is_like(at, Some((at, begun)))? {
+            if self.is_like(at, &[(at, begun)])? {
                 return Ok(true);
             }
         }
         match (step.storing(), self.next_draw(at)) {
-            (Some(storing), Some(next)) => self.is_like(at, Some((next, storing))),
+            (Some(storing), Some((next, true))) => {
+                self.is_like(at, &[(next, Step::Clear), (next, storing)])
+            }
+            (Some(storing), Some((next, false))) => self.is_like(at, &[(next, storing)]),
             _ => Ok(false),
         }
     }
 
-    /// The first call behind this one that draws bars.
-    fn next_draw(&self, at: usize) -> Option<usize> {
+    /// The first call behind this one that draws bars, and whether it takes rows back that bars left which are gone.
+    fn next_draw(&self, at: usize) -> Option<(usize, bool)> {
         let script = self.stages.script();
         let from = at.saturating_add(1);
         for at in from..script.len() {
-            if script.get(at)?.draws() {
-                return Some(at);
+            let step = script.get(at)?;
+            if step.draws() {
+                return Some((at, step.takes_back()));
             }
         }
         None
@@ -376,9 +331,9 @@ impl<M: Stages> Run<'_, M> {
 
     /// Whether a new stage answers the same and shows the same from this call on, and has the same order at the end. It makes the calls that
     /// weren't refused; and before one of them another, if one is given.
-    fn is_like(&self, from: usize, other: Option<(usize, Step)>) -> Result<bool, Finding> {
+    fn is_like(&self, from: usize, others: &[(usize, Step)]) -> Result<bool, Finding> {
         let mine = self.own_calls(from)?;
-        let calls = self.new_calls(from, other)?;
+        let calls = self.new_calls(from, others)?;
         self.is_as_new(&mine, &calls)
     }
 
@@ -418,14 +373,14 @@ impl<M: Stages> Run<'_, M> {
     }
 
     /// The calls of the run that weren't refused, and before one of them another, if one is given. Compared are those from this one on.
-    fn new_calls(&self, from: usize, other: Option<(usize, Step)>) -> Result<Vec<Turn>, Finding> {
+    fn new_calls(&self, from: usize, others: &[(usize, Step)]) -> Result<Vec<Turn>, Finding> {
         let mut calls = Vec::new(self.alloc);
         let mut has_room = true;
         for (at, step) in self.stages.script().iter().enumerate() {
-            if let Some((place, step)) = other {
-                if place == at {
+            for (place, step) in others {
+                if *place == at {
                     let turn = Turn {
-                        step,
+                        step: *step,
                         is_compared: false,
                     };
                     has_room &= calls.push(turn).is_ok();

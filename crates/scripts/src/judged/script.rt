@@ -90,12 +90,12 @@ impl Step {
         self.wanted() == Ok(Drawn::Yes) && !matches!(self, Step::Clear)
     }
 
-    /// Whether it takes rows back that bars left which are gone, or cuts them.
+    /// Whether it takes rows back that bars left which are gone.
     pub fn takes_back(self) -> bool {
-        match self {
-            Step::Log(_) | Step::BarLog(..) | Step::Clear | Step::Suspend => true,
-            _ => self.resized().is_some() && self.wanted().is_ok(),
-        }
+        matches!(
+            self,
+            Step::Log(_) | Step::BarLog(..) | Step::Clear | Step::Suspend
+        )
     }
 
     /// The text that stands above the bars from then on.
