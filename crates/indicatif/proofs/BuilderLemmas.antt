@@ -10,8 +10,8 @@ use Rattle.indicatif_bar.specs.Trackers.{Tracking}
 use Rattle.indicatif_bar.specs.Commands.{Command, SetElapsed, is_beyond_clock, takes_memory}
 use Rattle.indicatif_bar.specs.LoneBars.{record_of, Obeys, ObeysOrNot}
 use Rattle.indicatif_bar.specs.declared.lone.LoneBar.{LoneBar}
-use Rattle.indicatif.specs.declared.owned.OwnedBar.{OwnedBar}
-use Rattle.indicatif.specs.declared.wrap.ProgressBarIter.{ProgressBarIter}
+use Rattle.indicatif.specs.declared.wrappers.owned.OwnedBar.{OwnedBar}
+use Rattle.indicatif.specs.declared.wrappers.wrap.ProgressBarIter.{ProgressBarIter}
 use Rattle.indicatif.specs.Wrap.{inner_of, wrapped_seeks, last_draw_of}
 use Rattle.indicatif.specs.Owned.{lone_of, MayBuild}
 

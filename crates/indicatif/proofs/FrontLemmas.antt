@@ -16,10 +16,10 @@ use Rattle.indicatif.specs.Fronts.{of_no_draw, of_a_draw, has_no_bar, CanAnswer,
 use Rattle.indicatif.specs.Inside.AnyBar.{MadeBy, BarMakes, BarTurns, IsUntold, IsOf}
 use Rattle.indicatif.specs.Inside.Requests.{MatchTried, IfMade, BarRedraws, BarMovesTo}
 use Rattle.indicatif.proofs.AnswerLemmas.{or-left, or-right, anywhere, clear_is_draw, made_alone, redrawn_alone, seated}
-use Rattle.indicatif.specs.declared.progress_bar.any_bar.AnyBar.{AnyBar}
-use Rattle.indicatif.specs.declared.progress_bar.any_bar.AnyBar.TheVariants.{Alone, Member}
-use Rattle.indicatif.specs.declared.progress_bar.request.Tried.{Tried}
-use Rattle.indicatif.specs.declared.progress_bar.request.Tried.TheVariants.{Made, ComeAgain}
+use Rattle.indicatif.specs.declared.shared.any_bar.AnyBar.{AnyBar}
+use Rattle.indicatif.specs.declared.shared.any_bar.AnyBar.TheVariants.{Alone, Member}
+use Rattle.indicatif.specs.declared.shared.request.Tried.{Tried}
+use Rattle.indicatif.specs.declared.shared.request.Tried.TheVariants.{Made, ComeAgain}
 
 module _ {K T : Type 0} (m : Tracking K) (view : T → TermView) where
   -- what a bar answered that made a call or was suspended: its call can have that answer

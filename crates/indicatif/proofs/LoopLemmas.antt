@@ -5,7 +5,7 @@ use Rattle.std.specs.Iterator.{Yields, YieldsThen}
 use Rattle.indicatif_text.specs.declared.refusal.Drawn.{Drawn}
 use Rattle.indicatif_text.specs.declared.refusal.Refusal.{Refusal}
 use Rattle.indicatif_text.specs.declared.refusal.Refusal.TheVariants.{Memory}
-use Rattle.indicatif.specs.declared.wrap.ProgressBarIter.{ProgressBarIter}
+use Rattle.indicatif.specs.declared.wrappers.wrap.ProgressBarIter.{ProgressBarIter}
 use Rattle.indicatif.specs.Moves.{Standing, Goes, after_bar_move, Move, Advance, Finish}
 use Rattle.indicatif.specs.Wrap.{inner_of, last_draw_of, CountsItem, NextGives}
 

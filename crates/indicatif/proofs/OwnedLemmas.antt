@@ -13,8 +13,8 @@ use Rattle.indicatif_bar.specs.Runs.{Runs}
 use Rattle.indicatif_bar.specs.Lone.{LoneState, LoneCall, Obey}
 use Rattle.indicatif_bar.specs.LoneBars.{lone_known, lone_bar, LoneIsIn, LoneLeadsBy}
 use Rattle.indicatif_bar.proofs.RunLemmas.{headline}
-use Rattle.indicatif.specs.declared.owned.OwnedBar.{OwnedBar}
-use Rattle.indicatif.specs.declared.wrap.ProgressBarIter.{ProgressBarIter}
+use Rattle.indicatif.specs.declared.wrappers.owned.OwnedBar.{OwnedBar}
+use Rattle.indicatif.specs.declared.wrappers.wrap.ProgressBarIter.{ProgressBarIter}
 use Rattle.indicatif.specs.Moves.{Standing, MovedAlong, AreOfLoop, Move, Advance, Place, Finish}
 use Rattle.indicatif.specs.Wrap.{CountsItem, NextGives}
 use Rattle.indicatif.specs.Owned.{lone_of, standing_of, command_of_move, Commanded, IsRun}

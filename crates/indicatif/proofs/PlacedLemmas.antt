@@ -3,7 +3,7 @@ use Rattle.std.proofs.Common.{◌≡◌, ℕ, Option, Some, None, Result}
 use Rattle.std.specs.Prelude.{⊤}
 use Rattle.indicatif_text.specs.declared.refusal.Drawn.{Drawn}
 use Rattle.indicatif_text.specs.declared.refusal.Refusal.{Refusal}
-use Rattle.indicatif.specs.declared.wrap.ProgressBarIter.{ProgressBarIter}
+use Rattle.indicatif.specs.declared.wrappers.wrap.ProgressBarIter.{ProgressBarIter}
 use Rattle.indicatif.specs.Moves.{Standing, PlacedAfter, Move}
 use Rattle.indicatif.specs.Seek.{Seeks, after_move}
 use Rattle.indicatif.specs.Wrap.{wrapped_seeks, last_draw_of, Placed}

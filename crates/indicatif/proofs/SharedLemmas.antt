@@ -14,8 +14,8 @@ use Rattle.indicatif_board.specs.Multi.{IsIn, LeadsBy, known, mark_of}
 use Rattle.indicatif_board.specs.Recorded.{Record, IsOneRun, AddsCall}
 use Rattle.indicatif_board.specs.declared.multi.Board.{Board}
 use Rattle.indicatif.specs.Inside.AnyBoard.{BoardDraws, BoardRemoves, refused_with}
-use Rattle.indicatif.specs.declared.progress_bar.any_board.AnyBoard.{AnyBoard}
-use Rattle.indicatif.specs.declared.progress_bar.any_board.AnyBoard.TheVariants as kind
+use Rattle.indicatif.specs.declared.shared.any_board.AnyBoard.{AnyBoard}
+use Rattle.indicatif.specs.declared.shared.any_board.AnyBoard.TheVariants as kind
 use Rattle.indicatif.specs.Inside.SharedBoards.{SharedCall, SharedState, SharedAnswers, SharedDraws}
 use Rattle.indicatif.proofs.AnswerLemmas.{made_on_board, no_memory}
 

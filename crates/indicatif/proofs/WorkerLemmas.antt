@@ -9,7 +9,7 @@ use Rattle.std.proofs.Math.Nat.{mod-add-mod}
 use Rattle.rayon.proofs.ListFacts.{AllZip-append}
 use Rattle.indicatif.specs.Workers.{items_in}
 use Rattle.indicatif.specs.Inside.Pieces.{IsEnded, CountsPieces}
-use Rattle.indicatif.specs.declared.workers.pieces.Ended.{Ended}
+use Rattle.indicatif.specs.declared.parallel.workers.pieces.Ended.{Ended}
 
 module _ {X Y : Type 0} (R : X → Y → Type 0) where
   -- one item more, with its answer

@@ -17,8 +17,8 @@ use Rattle.indicatif_bar.specs.LoneBars.{record_of, lone_terminal, lone_known, l
 use Rattle.indicatif_bar.specs.declared.lone.LoneBar.{LoneBar}
 use Rattle.indicatif.specs.Moves.{Standing, Move, Advance, Place, Finish}
 use Rattle.indicatif.specs.Wrap.{inner_of, wrapped_seeks, last_draw_of}
-use Rattle.indicatif.specs.declared.owned.OwnedBar.{OwnedBar}
-use Rattle.indicatif.specs.declared.wrap.ProgressBarIter.{ProgressBarIter}
+use Rattle.indicatif.specs.declared.wrappers.owned.OwnedBar.{OwnedBar}
+use Rattle.indicatif.specs.declared.wrappers.wrap.ProgressBarIter.{ProgressBarIter}
 
 -- where a finish puts the position, if it moves it: at the length
 abbrev pub end_place : BarFinish → Option ℕ → Option ℕ

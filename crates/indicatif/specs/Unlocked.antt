@@ -7,10 +7,10 @@ use Rattle.indicatif_bar.specs.Trackers.{Tracking}
 use Rattle.indicatif_board.specs.Boards.{BoardState}
 use Rattle.indicatif_board.specs.Multi.{IsIn}
 use Rattle.indicatif_board.specs.Recorded.{IsOneRun}
-use Rattle.indicatif.specs.declared.progress_bar.unlocked.UnlockedBar.{UnlockedBar}
-use Rattle.indicatif.specs.declared.progress_bar.unlocked.UnlockedBar.TheVariants.{Alone, OnBoard}
-use Rattle.indicatif.specs.declared.progress_bar.unlocked.UnlockedBoard.{UnlockedBoard}
-use Rattle.indicatif.specs.declared.progress_bar.unlocked.UnlockedBoard.TheVariants.{Open, Recorded}
+use Rattle.indicatif.specs.declared.shared.unlocked.UnlockedBar.{UnlockedBar}
+use Rattle.indicatif.specs.declared.shared.unlocked.UnlockedBar.TheVariants.{Alone, OnBoard}
+use Rattle.indicatif.specs.declared.shared.unlocked.UnlockedBoard.{UnlockedBoard}
+use Rattle.indicatif.specs.declared.shared.unlocked.UnlockedBoard.TheVariants.{Open, Recorded}
 
 module _ {K T : Type 0} where
   -- a bar that stood alone is in some state, so that what is claimed of its calls holds

@@ -8,7 +8,7 @@ use Rattle.indicatif_text.specs.declared.refusal.Drawn.{Drawn}
 use Rattle.indicatif_text.specs.declared.refusal.Refusal.{Refusal}
 use Rattle.indicatif.specs.Moves.{Standing, Goes, Move, Advance, Place, Finish}
 use Rattle.indicatif.specs.Seek.{Seeks, no_seeks, after_move, after_seek}
-use Rattle.indicatif.specs.declared.wrap.ProgressBarIter.{ProgressBarIter}
+use Rattle.indicatif.specs.declared.wrappers.wrap.ProgressBarIter.{ProgressBarIter}
 
 -- ---- what a wrapper is
 

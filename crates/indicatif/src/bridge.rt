@@ -2,7 +2,7 @@
 ghost use Rattle.std.specs.Prelude.{◌≡◌, ℕ, true, Some, []};
 
 use crate::machine::{MachineClock, Shares, StderrBoard, StderrTerm};
-use crate::progress_bar::MultiProgress;
+use crate::shared::MultiProgress;
 use indicatif_bar::style::{NoTracker, Tracks};
 pub use indicatif_board::bridge::{bridge_line, emit};
 use indicatif_term::term_like::TermLike;

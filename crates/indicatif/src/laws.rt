@@ -7,13 +7,13 @@ ghost use Rattle.indicatif_text.specs.declared.refusal.Refusal.TheVariants.{Memo
 ghost use Rattle.indicatif.specs.Moves.{after_bar_move, MovedAlong, AreOfLoop, Move, Advance, Finish};
 ghost use Rattle.indicatif.specs.Owned.{Commanded, IsRun};
 ghost use Rattle.indicatif.specs.Parallel.{Blocks};
-ghost use Rattle.indicatif.specs.declared.owned.OwnedBar.{OwnedBar};
+ghost use Rattle.indicatif.specs.declared.wrappers.owned.OwnedBar.{OwnedBar};
 ghost use Rattle.indicatif.specs.Wrap.{inner_of, last_draw_of, StaysAtItsEnd};
 ghost use Rattle.indicatif.specs.Ring.{last_updates};
 ghost use Rattle.indicatif.specs.Seek.{Seeks, no_seeks, saturated, Forward, after_seek, after_steps};
 
-use crate::moves::Moves;
-use crate::wrap::ProgressBarIter;
+use crate::wrappers::moves::Moves;
+use crate::wrappers::wrap::ProgressBarIter;
 use indicatif_bar::style::Tracks;
 use indicatif_term::term_like::TermLike;
 

@@ -18,6 +18,13 @@
 //! - Where no terminal shows bars: `ProgressBar::println_or` and `MultiProgress::println_or` for lines, `PlainLines` for bars as plain lines.
 //! - `laws`: what follows from the definitions, each as a function whose contract is the law.
 //!
+//! # Where it stands
+//!
+//! - `shared`: `ProgressBar`, and in its folder `MultiProgress`, what their locks keep, weak owners, tickers and counting threads.
+//! - `machine`: targets and clocks of the machine; `style`: the names of the crate's own module `style`.
+//! - `wrappers`: iterators, readers, writers and streams that move a bar; `parallel`: slices and pieces of work in threads.
+//! - `plain_lines`: bars as plain lines; `bridge`: lines of a log; `laws`: the laws.
+//!
 //! # A first bar
 //!
 //! ```
@@ -250,40 +257,27 @@
 #![tactic(auto)]
 
 pub mod bridge;
-mod builders;
-mod bytes;
-mod counting;
-mod items;
 pub mod laws;
 pub mod machine;
-mod moves;
-mod owned;
 mod parallel;
 mod plain_lines;
-mod polled;
-mod progress_bar;
-mod progress_iterator;
-mod ring;
-mod seek;
-mod seeking;
-mod streams;
+mod shared;
 pub mod style;
-mod workers;
-mod wrap;
+mod wrappers;
 
-pub use crate::moves::Moves;
-pub use crate::owned::OwnedBar;
 pub use crate::parallel::ParallelProgressIterator;
+pub use crate::parallel::workers::{Gate, run_workers, run_workers_with};
 pub use crate::plain_lines::PlainLines;
-pub use crate::progress_bar::{
+pub use crate::shared::{
     MultiProgress, ProgressBar, RecordReader, UnlockedBar, UnlockedBoard, WeakProgressBar,
     written_if_hidden,
 };
-pub use crate::progress_iterator::ProgressIterator;
-pub use crate::ring::MaxRingBuf;
-pub use crate::seek::SeekMax;
-pub use crate::workers::{Gate, run_workers, run_workers_with};
-pub use crate::wrap::ProgressBarIter;
+pub use crate::wrappers::moves::Moves;
+pub use crate::wrappers::owned::OwnedBar;
+pub use crate::wrappers::progress_iterator::ProgressIterator;
+pub use crate::wrappers::ring::MaxRingBuf;
+pub use crate::wrappers::seek::SeekMax;
+pub use crate::wrappers::wrap::ProgressBarIter;
 pub use indicatif_bar::lone::{LoneBar, LoneCall};
 pub use indicatif_bar::state::{
     Ask, BarCommand, BarState, Change, Fraction, ProgressFinish, ProgressState, Rate, SpareLines,

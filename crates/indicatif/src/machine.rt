@@ -14,7 +14,7 @@ mod until_gone;
 pub use crate::machine::made::{hidden_bar, styled_on_stderr};
 pub use crate::machine::stderr_term::StderrTerm;
 pub use crate::machine::until_gone::UntilGone;
-use crate::progress_bar::{MultiProgress, ProgressBar};
+use crate::shared::{MultiProgress, ProgressBar};
 use indicatif_bar::style::{NoTracker, ProgressStyle, TICKS, Tracks};
 use indicatif_term::draw_target::{DEFAULT_RATE, Facts, ProgressDrawTarget, Setup};
 use indicatif_term::term_like::{OwnRow, OwnRows, Term};

@@ -2,6 +2,7 @@
 //!
 //! - `claims`: what threads take of a list, and how far they are; `course`: how far the bar is.
 //! - `piece`: answers at a part of a list; `answers`: what threads answer at all its items; `visits`: the same without answers.
+//! - `workers`: pieces of work that threads do.
 ghost use Rattle.std.specs.Prelude.{◌≡◌, ◌==◌, ◌<◌, ◌≤◌, ℕ, Some, Ok, Err, IfOk, IfErr, OnOk, IsFalse, length};
 ghost use Rattle.std.specs.List.{AllZip};
 ghost use Rattle.std.specs.Fn.{FnReturnsAt};
@@ -15,12 +16,13 @@ pub mod claims;
 mod course;
 pub mod piece;
 mod visits;
+pub mod workers;
 
 use self::answers::map_in_threads;
 use self::visits::visit_in_threads;
-use crate::moves::Moves;
-use crate::owned::OwnedBar;
-use crate::wrap::ProgressBarIter;
+use crate::wrappers::moves::Moves;
+use crate::wrappers::owned::OwnedBar;
+use crate::wrappers::wrap::ProgressBarIter;
 use indicatif_bar::style::{NoTracker, ProgressStyle, TICKS, Tracks};
 use indicatif_term::draw_target::Setup;
 use indicatif_term::term_like::TermLike;

@@ -17,8 +17,8 @@ use Rattle.indicatif_board.specs.Boards.{Drop}
 use Rattle.indicatif_board.specs.BoardValues.{id_of}
 use Rattle.indicatif.specs.Fronts.{CanDraw, IsMissing, unchanged}
 use Rattle.indicatif.specs.Inside.SharedBoards.{SharedDraws, on_board}
-use Rattle.indicatif.specs.declared.progress_bar.any_bar.AnyBar.{AnyBar}
-use Rattle.indicatif.specs.declared.progress_bar.any_bar.AnyBar.TheVariants.{Alone, Member}
+use Rattle.indicatif.specs.declared.shared.any_bar.AnyBar.{AnyBar}
+use Rattle.indicatif.specs.declared.shared.any_bar.AnyBar.TheVariants.{Alone, Member}
 
 -- there is a state that the bar is in
 abbrev pub LoneIsSomewhere : {K T : Type 0} → LoneBar K T → Type 0

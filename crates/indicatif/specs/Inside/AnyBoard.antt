@@ -14,8 +14,8 @@ use Rattle.indicatif_board.specs.Multi.{LeadsBy, IsIn, RecordsStay, terminal_of,
 use Rattle.indicatif_board.specs.Recorded.{Record, AddsCall}
 use Rattle.indicatif_board.specs.declared.multi.Board.{Board}
 use Rattle.indicatif.specs.Inside.SharedBoards.{SharedCall, given_by}
-use Rattle.indicatif.specs.declared.progress_bar.any_board.AnyBoard.{AnyBoard}
-use Rattle.indicatif.specs.declared.progress_bar.any_board.AnyBoard.TheVariants.{Open, Recorded}
+use Rattle.indicatif.specs.declared.shared.any_board.AnyBoard.{AnyBoard}
+use Rattle.indicatif.specs.declared.shared.any_board.AnyBoard.TheVariants.{Open, Recorded}
 
 -- what a call made of a board: its step; and a history grows by exactly the call, or found no room for it, and nothing changed
 abbrev pub BoardMakes : {K T : Type 0} → Tracking K → (T → TermView) → AnyBoard K T → SharedCall K → ℕ → Answer → AnyBoard K T → Type 0

@@ -3,8 +3,8 @@ use Rattle.std.specs.Prelude.{◌≡◌, ℕ, ◌<◌, ◌≤◌, ◌%◌, ◌^�
 use Rattle.std.specs.List.{AllZip}
 use Rattle.std.specs.declared.alloc.Global.{Global}
 use Rattle.indicatif.specs.Workers.{items_in}
-use Rattle.indicatif.specs.declared.workers.pieces.Ended.{Ended}
-use Rattle.indicatif.specs.declared.workers.pieces.Gathered.{Gathered}
+use Rattle.indicatif.specs.declared.parallel.workers.pieces.Ended.{Ended}
+use Rattle.indicatif.specs.declared.parallel.workers.pieces.Gathered.{Gathered}
 
 -- what became of one of these pieces: its answers, if they are there, are those at all its items, in order
 abbrev pub IsEnded : {T A : Type 0} → (T → A → Type 0) → List (Vec T Global) → Ended A → Type 0

@@ -1,7 +1,7 @@
 -- What moves a bar's position, as a command.
 use Rattle.indicatif_bar.specs.Commands.{Command, Inc, Dec, SetPosition}
-use Rattle.indicatif.specs.declared.progress_bar.position_change.PositionChange.{PositionChange}
-use Rattle.indicatif.specs.declared.progress_bar.position_change.PositionChange.TheVariants as change
+use Rattle.indicatif.specs.declared.shared.position_change.PositionChange.{PositionChange}
+use Rattle.indicatif.specs.declared.shared.position_change.PositionChange.TheVariants as change
 
 -- the position goes up or down, or becomes this one
 abbrev pub position_command : {K : Type 0} → PositionChange → Command K

@@ -10,14 +10,14 @@ use Rattle.indicatif_bar.specs.LoneBars.{record_of, lone_terminal}
 use Rattle.indicatif_bar.specs.declared.lone.LoneBar.{LoneBar}
 use Rattle.indicatif.specs.Fronts.{CanDraw, IsMissing}
 use Rattle.indicatif.specs.Inside.AnyBar.{BarMakes, BarLeaves, Makes}
-use Rattle.indicatif.specs.declared.progress_bar.any_bar.AnyBar.{AnyBar}
-use Rattle.indicatif.specs.declared.progress_bar.any_bar.AnyBar.TheVariants.{Alone, Member}
-use Rattle.indicatif.specs.declared.progress_bar.locked_bar.Halt.{Halt}
-use Rattle.indicatif.specs.declared.progress_bar.locked_bar.Halt.TheVariants as halt
-use Rattle.indicatif.specs.declared.progress_bar.member_bar.Leaving.{Leaving}
-use Rattle.indicatif.specs.declared.progress_bar.member_bar.Leaving.TheVariants.{Left, Stays, Later}
-use Rattle.indicatif.specs.declared.progress_bar.request.Tried.{Tried}
-use Rattle.indicatif.specs.declared.progress_bar.request.Tried.TheVariants.{Made, ComeAgain}
+use Rattle.indicatif.specs.declared.shared.any_bar.AnyBar.{AnyBar}
+use Rattle.indicatif.specs.declared.shared.any_bar.AnyBar.TheVariants.{Alone, Member}
+use Rattle.indicatif.specs.declared.shared.locked_bar.Halt.{Halt}
+use Rattle.indicatif.specs.declared.shared.locked_bar.Halt.TheVariants as halt
+use Rattle.indicatif.specs.declared.shared.member_bar.Leaving.{Leaving}
+use Rattle.indicatif.specs.declared.shared.member_bar.Leaving.TheVariants.{Left, Stays, Later}
+use Rattle.indicatif.specs.declared.shared.request.Tried.{Tried}
+use Rattle.indicatif.specs.declared.shared.request.Tried.TheVariants.{Made, ComeAgain}
 
 -- it was made, and this holds of its answer; or it was handed back, and this holds of what was
 abbrev pub MatchTried : {A Q : Type 0} → Tried A Q → (A → Type 0) → (Q → Type 0) → Type 0

@@ -2,7 +2,7 @@
 ghost use Rattle.std.specs.Prelude.{◌≡◌, IfErr};
 
 use crate::machine::{MachineClock, Shares, StderrBar, on_stderr};
-use crate::progress_bar::ProgressBar;
+use crate::shared::ProgressBar;
 use indicatif_bar::style::{ProgressStyle, Tracks};
 use indicatif_text::columns::Refusal;
 

@@ -7,10 +7,10 @@ ghost use Rattle.indicatif.specs.Inside.Courses.{GoesOn};
 ghost use Rattle.indicatif.specs.Inside.ListPieces.{IsPiece};
 ghost use Rattle.indicatif.specs.Parallel.{Blocks};
 
-use crate::moves::Moves;
 use crate::parallel::claims::Claims;
 use crate::parallel::course::Course;
 use crate::parallel::piece::{Piece, in_order, together};
+use crate::wrappers::moves::Moves;
 use indicatif_text::columns::Refusal;
 use rayon::current_num_threads;
 use std::alloc::{AllocError, Global};

@@ -3,8 +3,8 @@ ghost use Rattle.std.specs.Prelude.{◌≡◌, ◌⊎◌, ◌≤◌, ◌<◌};
 ghost use Rattle.indicatif.specs.Inside.Courses.{GoesOn};
 ghost use Rattle.indicatif.specs.Parallel.{block_length};
 
-use crate::moves::Moves;
 use crate::parallel::claims::{Claims, Part};
+use crate::wrappers::moves::Moves;
 use rayon::current_num_threads;
 use std::thread::Threads;
 

@@ -4,9 +4,9 @@ ghost use Rattle.std.specs.Thread.{IsSync};
 ghost use Rattle.indicatif.specs.Inside.Courses.{GoesOn};
 ghost use Rattle.indicatif.specs.Parallel.{Blocks};
 
-use crate::moves::Moves;
 use crate::parallel::claims::Claims;
 use crate::parallel::course::Course;
+use crate::wrappers::moves::Moves;
 use rayon::current_num_threads;
 use std::thread::{Threads, join};
 

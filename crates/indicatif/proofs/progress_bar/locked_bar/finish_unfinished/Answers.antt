@@ -1,4 +1,0 @@
-use Rattle.indicatif.proofs.progress_bar.locked_bar.finish_unfinished.Goals as goal
-
-pub returns-clause-unfinished : goal.returns-clause-unfinished
-returns-clause-unfinished g c = λ u. record { was = c.bar.ensures.some; done = c.call.ensures.bar; leads = c.call.ensures.leads }

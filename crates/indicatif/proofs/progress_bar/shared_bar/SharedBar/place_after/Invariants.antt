@@ -1,5 +1,0 @@
-use Rattle.std.proofs.Common.{◌≡◌}
-use Rattle.indicatif.proofs.progress_bar.shared_bar.SharedBar.place_after.Given as goal
-
-abbrev pub invariant-loop : goal.invariant-loop
-invariant-loop g l = l.seeks ≡ l.fn.seeks

@@ -1,0 +1,486 @@
+//! A bar that its owners share.
+//!
+//! Its calls that change it stand here. Beside them, all private:
+//!
+//! - `constructors`: how bars are made; `builders`: what is said of one before it moves; `readings`: what is read of it.
+//! - `beside`: lines above bars, and beside hidden ones. `told`: hidden bars as plain lines. `weak`: a bar without an owner; `wrapped`: wrappers that move it.
+//! - `unlocked`: bars and boards that leave their locks.
+//! - `shared_bar`: its lock, its pauses, and what waits for them; `request`: what became of a call, which is made or has to come again.
+//! - `locked_bar`: what its lock keeps; `any_bar`: the bar there, alone or on a board; `member_bar`: a bar on a board.
+//! - `board_cell`: a board's lock, and its pauses (`pause`).
+//! - `locked_board`: what a board's lock keeps; `any_board`: the board there, with its history or without.
+//! - `position_change`: what moves its position.
+//! - `ticker`: which steady ticker it has; `steady`: the thread that ticks. `counting`: threads that count for it, without its lock.
+ghost use Rattle.std.specs.Prelude.{◌≡◌, ◌⊎◌, ℕ, IfErr};
+ghost use Rattle.std.specs.Fn.{FnOnceReturnsAt};
+ghost use Rattle.indicatif_bar.specs.Commands as Command;
+ghost use Rattle.indicatif_bar.specs.Finishes as Finish;
+ghost use Rattle.indicatif_bar.specs.Lone as Lone;
+ghost use Rattle.indicatif_bar.specs.LoneBars.{lone_call_as};
+ghost use Rattle.indicatif_bar.specs.Progress.{Progress};
+ghost use Rattle.indicatif_bar.specs.declared.state.commands.Change.{Change as Changed};
+ghost use Rattle.indicatif.specs.Fronts.{CanAnswer, CanDraw, CanMove, CanTurn, IsMissing, MemoryOrForeign, unchanged};
+ghost use Rattle.indicatif.specs.Inside.LockedBar.{OwnerJoins};
+ghost use Rattle.indicatif.specs.Inside.PositionChange.{position_command};
+
+mod any_bar;
+mod any_board;
+mod beside;
+mod board_cell;
+mod builders;
+mod constructors;
+mod counting;
+mod locked_bar;
+mod locked_board;
+mod member_bar;
+mod multi;
+mod pause;
+mod position_change;
+mod readings;
+mod request;
+mod shared_bar;
+mod steady;
+mod ticker;
+mod told;
+mod unlocked;
+mod weak;
+mod wrapped;
+
+pub use self::beside::written_if_hidden;
+use self::board_cell::{BoardCell, SharedBoard};
+pub use self::multi::{MultiProgress, RecordReader};
+use self::position_change::PositionChange;
+use self::request::Tried;
+use self::shared_bar::{SharedBar, wait_for_board};
+pub use self::unlocked::{UnlockedBar, UnlockedBoard};
+pub use self::weak::WeakProgressBar;
+use crate::wrappers::moves::Moves;
+use crate::wrappers::seek::SeekMax;
+use indicatif_bar::lone::LoneCall;
+use indicatif_bar::state::{BarCommand, Change, ProgressFinish, ProgressState};
+use indicatif_bar::style::{NoTracker, ProgressStyle, Tracks};
+use indicatif_board::multi::{BarId, InsertLocation};
+use indicatif_term::draw_target::ProgressDrawTarget;
+use indicatif_term::term_like::TermLike;
+use indicatif_text::columns::{Clock, Drawn, Refusal};
+use std::alloc::{AllocError, Global};
+use std::fmt::{self, Debug, Formatter};
+use std::sync::{Arc, Wait};
+
+/// One owner of a bar that others may own too, in this thread or in others: a clone is another owner of the same bar.
+///
+/// Each call takes the bar's lock, does what the `LoneBar` under it does, at the moment that the bar's clock tells, and answers
+/// what that answers; what a call does and refuses is said there. A call waits while another owner's is made. In the closure of an
+/// `update` or a `with_term` each call of the same bar, or of any bar of its board, waits for ever; in that of a `suspend` readings answer,
+/// and a call that draws or changes one of these bars waits for ever.
+///
+/// Once the last owner is gone, by `release` or by being dropped, a bar that isn't finished is finished by its stored finish.
+///
+/// A text is lent: the bar's record copies its message and its prefix, and nobody copies the lines above a bar. A bar that stands on a
+/// board answers as the board does when it is told that call of that bar; so each command may be refused `NotMember` there, where the
+/// board has lost the bar to one of the same mark. Where the board keeps its history, each may be refused `Memory` because that has no
+/// room, or no room for a copy of the text; nothing has changed then.
+///
+/// Its clauses say which answers a call can have, by the call alone. At most these come: they allow `ForeignBar` too, which a bar's own
+/// board never answers. That the bar under the lock was changed so is what tests show, since no clause can name what a lock keeps.
+///
+/// ```
+/// let bar = ProgressBar::new(rt, rt.alloc(), 100, setup)?;
+/// let other = bar.clone()?; // for another thread
+/// bar.inc(1)?;
+/// ```
+pub struct ProgressBar<
+    T: TermLike + Drop,
+    C: Clock + Drop,
+    R: Wait + Clone + Drop,
+    K: Tracks = NoTracker,
+> {
+    pub(crate) state: Arc<SharedBar<K, T, C>, Global>,
+    pub(crate) alloc: Global,
+    pub(crate) rt: R,
+}
+
+impl<T: TermLike + Drop, C: Clock + Drop, R: Wait + Clone + Drop, K: Tracks> ProgressBar<
+    T,
+    C,
+    R,
+    K,
+> {
+    /// A call of the bar, made once neither the bar nor its board is in a pause. Its text is lent: nobody copies it but the bar's record, and
+    /// the history of a board that keeps one.
+    #[tactic(auto, using(crate::proofs::FrontLemmas::place_answers))]
+    fn tell(&self, call: LoneCall<K, &str>) -> Result<Drawn, Refusal>
+        ensures { CanAnswer K (lone_call_as (λ text. text.now) call.entry) result }
+    {
+        let mut left = call;
+        for _ in self.rt.forever() {
+            let mut locked = self.state.turn(&self.rt);
+            match locked.tell(&self.rt, left) {
+                Tried::Made(answer) => return answer,
+                Tried::ComeAgain(again) => left = again,
+            }
+            wait_for_board(&self.rt, locked);
+        }
+        unreachable!()
+    }
+
+    /// A change of the bar's position. Mostly the lock is free, and no pause is on: two comparisons tell that.
+    #[inline(always)]
+    #[tactic(auto, using(crate::proofs::FrontLemmas::place_answers))]
+    fn move_by(&self, change: PositionChange) -> Result<Drawn, Refusal>
+        ensures { CanAnswer K (Lone.Obey (position_command change)) result }
+    {
+        if let Some(mut locked) = self.state.lock.try_lock() {
+            match locked.move_by(&self.rt, change) {
+                Tried::Made(answer) => return answer,
+                Tried::ComeAgain(()) => {}
+            }
+        }
+        self.tell(LoneCall::Bar(change.command()))
+    }
+
+    /// Ticks once more, up to 2^64 - 1, and asks for a draw: a spinner shows its next text. While a steady ticker is on, nothing changes.
+    pub fn tick(&self) -> Result<Drawn, Refusal>
+        ensures { CanAnswer K (Lone.Obey Command.Tick) result }
+    {
+        self.tell(LoneCall::Bar(BarCommand::Tick))
+    }
+
+    /// Adds `delta` to the position, modulo 2^64. Also ticks, as often as the position's limiter allows: 10 times at once, and once more
+    /// each millisecond. So a loop may call it at each of its steps. A position past the length is shown as it is, `8/5`, beside a full
+    /// bar.
+    #[inline(always)]
+    pub fn inc(&self, delta: u64) -> Result<Drawn, Refusal>
+        ensures { CanAnswer K (Lone.Obey (Command.Inc delta)) result }
+    {
+        self.move_by(PositionChange::Up(delta))
+    }
+
+    /// Subtracts `delta` from the position, modulo 2^64; otherwise as `inc`. So 12 taken from 0 give 2^64 - 12, which is shown so: a
+    /// program that may go below 0 looks at `position` first. A lower position restarts the rate.
+    #[inline(always)]
+    pub fn dec(&self, delta: u64) -> Result<Drawn, Refusal>
+        ensures { CanAnswer K (Lone.Obey (Command.Dec delta)) result }
+    {
+        self.move_by(PositionChange::Down(delta))
+    }
+
+    /// Sets the position; otherwise as `inc`. A lower position restarts the rate.
+    #[inline(always)]
+    pub fn set_position(&self, position: u64) -> Result<Drawn, Refusal>
+        ensures { CanAnswer K (Lone.Obey (Command.SetPosition position)) result }
+    {
+        self.move_by(PositionChange::To(position))
+    }
+
+    /// Sets the length, and asks for a draw: `{bar}`, `{percent}` and `{eta}` follow it.
+    pub fn set_length(&self, len: u64) -> Result<Drawn, Refusal>
+        ensures { CanAnswer K (Lone.Obey (Command.SetLength len)) result }
+    {
+        self.tell(LoneCall::Bar(BarCommand::SetLength(len)))
+    }
+
+    /// Removes the length, and asks for a draw: the bar is empty, `{len}` shows the position, and `{eta}` is 0.
+    pub fn unset_length(&self) -> Result<Drawn, Refusal>
+        ensures { CanAnswer K (Lone.Obey Command.UnsetLength) result }
+    {
+        self.tell(LoneCall::Bar(BarCommand::UnsetLength))
+    }
+
+    /// Adds `delta` to the length, up to 2^64 - 1, if there is one; and asks for a draw.
+    pub fn inc_length(&self, delta: u64) -> Result<Drawn, Refusal>
+        ensures { CanAnswer K (Lone.Obey (Command.IncLength delta)) result }
+    {
+        self.tell(LoneCall::Bar(BarCommand::IncLength(delta)))
+    }
+
+    /// Subtracts `delta` from the length, down to 0, if there is one; and asks for a draw.
+    pub fn dec_length(&self, delta: u64) -> Result<Drawn, Refusal>
+        ensures { CanAnswer K (Lone.Obey (Command.DecLength delta)) result }
+    {
+        self.tell(LoneCall::Bar(BarCommand::DecLength(delta)))
+    }
+
+    /// Sets the message, and asks for a draw. It shows only where the template has `{msg}` or `{wide_msg}`: the template of `new` has
+    /// neither. Once the bar is finished, its draws are forced: then no rate holds the message back.
+    pub fn set_message(&self, text: &str) -> Result<Drawn, Refusal>
+        ensures { CanAnswer K (Lone.Obey (Command.SetMessage text.now)) result }
+    {
+        self.tell(LoneCall::Bar(BarCommand::SetMessage(text)))
+    }
+
+    /// Sets the prefix, and asks for a draw. It shows only where the template has `{prefix}`.
+    pub fn set_prefix(&self, text: &str) -> Result<Drawn, Refusal>
+        ensures { CanAnswer K (Lone.Obey (Command.SetPrefix text.now)) result }
+    {
+        self.tell(LoneCall::Bar(BarCommand::SetPrefix(text)))
+    }
+
+    /// Sets the style, and gives it the bar's width of tabs. Asks for no draw: the next one is in this style.
+    ///
+    /// Refused: `Memory`; the style is given up.
+    pub fn set_style(&self, style: ProgressStyle<K>) -> Result<Drawn, Refusal>
+        ensures { CanAnswer K (Lone.Obey (Command.SetStyle style)) result }
+    {
+        self.tell(LoneCall::Bar(BarCommand::SetStyle(style)))
+    }
+
+    /// Sets how many spaces a tab has in the message, the prefix and the style, and forces a draw.
+    pub fn set_tab_width(&self, tab: usize) -> Result<Drawn, Refusal>
+        ensures { CanAnswer K (Lone.Obey (Command.SetTabWidth tab)) result }
+    {
+        self.tell(LoneCall::Bar(BarCommand::SetTabWidth(tab)))
+    }
+
+    /// Sets the time since the start, in nanoseconds, as `{elapsed}` shows it: for work that began before the bar. Asks for no draw.
+    ///
+    /// Refused: `ElapsedBeyondClock`, if that is more than the moment.
+    pub fn set_elapsed(&self, nanos: u64) -> Result<Drawn, Refusal>
+        ensures { CanAnswer K (Lone.Obey (Command.SetElapsed nanos)) result }
+    {
+        self.tell(LoneCall::Bar(BarCommand::SetElapsed(nanos)))
+    }
+
+    /// Counts the rate, and the time that is left, from now on: for instance after a pause. Asks for no draw.
+    pub fn reset_eta(&self) -> Result<Drawn, Refusal>
+        ensures { CanAnswer K (Lone.Obey Command.ResetEta) result }
+    {
+        self.tell(LoneCall::Bar(BarCommand::ResetEta))
+    }
+
+    /// Counts the rate and the elapsed time from now on. Asks for no draw.
+    pub fn reset_elapsed(&self) -> Result<Drawn, Refusal>
+        ensures { CanAnswer K (Lone.Obey Command.ResetElapsed) result }
+    {
+        self.tell(LoneCall::Bar(BarCommand::ResetElapsed))
+    }
+
+    /// Sets the position to 0, counts rate and time from now on, and asks for a draw.
+    pub fn reset(&self) -> Result<Drawn, Refusal>
+        ensures { CanAnswer K (Lone.Obey Command.Reset) result }
+    {
+        self.tell(LoneCall::Bar(BarCommand::Reset))
+    }
+
+    /// Finishes the bar at its length, if it has one, and forces a draw: the bar stays on the screen. Each draw that it asks for from then
+    /// on is forced too, so no rate holds it back.
+    pub fn finish(&self) -> Result<Drawn, Refusal>
+        ensures { CanAnswer K (Lone.Obey (Command.Finish Finish.AndLeave)) result }
+    {
+        self.tell(LoneCall::Bar(BarCommand::Finish(ProgressFinish::AndLeave)))
+    }
+
+    /// As `finish`, with this message, which shows only where the template has `{msg}` or `{wide_msg}`.
+    pub fn finish_with_message(&self, text: &str) -> Result<Drawn, Refusal>
+        ensures { CanAnswer K (Lone.Obey (Command.Finish (Finish.WithMessage text.now))) result }
+    {
+        self.tell(LoneCall::Bar(BarCommand::Finish(ProgressFinish::WithMessage(text))))
+    }
+
+    /// Finishes the bar at its length, if it has one, and forces a draw: the bar leaves the screen, and has no more lines.
+    pub fn finish_and_clear(&self) -> Result<Drawn, Refusal>
+        ensures { CanAnswer K (Lone.Obey (Command.Finish Finish.AndClear)) result }
+    {
+        self.tell(LoneCall::Bar(BarCommand::Finish(ProgressFinish::AndClear)))
+    }
+
+    /// Finishes the bar where it is, for work that is given up, and forces a draw: the bar stays on the screen.
+    pub fn abandon(&self) -> Result<Drawn, Refusal>
+        ensures { CanAnswer K (Lone.Obey (Command.Finish Finish.Abandon)) result }
+    {
+        self.tell(LoneCall::Bar(BarCommand::Finish(ProgressFinish::Abandon)))
+    }
+
+    /// As `abandon`, with this message.
+    pub fn abandon_with_message(&self, text: &str) -> Result<Drawn, Refusal>
+        ensures { CanAnswer K (Lone.Obey (Command.Finish (Finish.AbandonWithMessage text.now))) result }
+    {
+        self.tell(LoneCall::Bar(BarCommand::Finish(ProgressFinish::AbandonWithMessage(text))))
+    }
+
+    /// Finishes the bar by its stored finish (`with_finish`; the default is `AndClear`), and forces a draw.
+    pub fn finish_using_style(&self) -> Result<Drawn, Refusal>
+        ensures { CanAnswer K (Lone.Obey Command.FinishUsingStyle) result }
+    {
+        self.tell(LoneCall::Bar(BarCommand::FinishUsingStyle))
+    }
+
+    /// Forces a draw, and changes nothing of the bar.
+    pub fn force_draw(&self) -> Result<Drawn, Refusal>
+        ensures { CanAnswer K (Lone.Obey Command.ForceDraw) result }
+    {
+        self.tell(LoneCall::Bar(BarCommand::ForceDraw))
+    }
+
+    /// Sets what the closure answers of the bar's state; then as `tick`. The closure is called under the lock, and not at all if its board
+    /// hasn't the bar. A call of this bar in it, or of any bar of its board, waits for ever.
+    pub fn update<F: FnOnce(&ProgressState) -> Change>(&self, f: F) -> Result<Drawn, Refusal>
+        requires { F.IsAlwaysCallable f }
+        ensures { (change : Changed) × CanAnswer K (Lone.Obey (Command.Update change.pos change.len)) result
+            × (((shown : Progress) × FnOnceReturnsAt F.FnOnce f shown change) ⊎ (change ≡ unchanged)) }
+    {
+        self.state.update(&self.rt, f)
+    }
+
+    /// Writes the text's lines above the bar, whatever the rate says; the bar goes on below them. On a hidden target the text is dropped:
+    /// if `is_hidden` says so, print it yourself.
+    pub fn println(&self, text: &str) -> Result<Drawn, Refusal>
+        ensures { CanAnswer K (Lone.Log text.now) result }
+    {
+        self.tell(LoneCall::Log(text))
+    }
+
+    /// Takes the bar's rows back (on a board the rows of all bars), calls `f` once, and forces a draw, at the moment of the clear. It returns
+    /// what `f` returned, and the answer of the draw. If the clear was refused, `f` is still called, no draw is made, and the answer is that
+    /// refusal.
+    ///
+    /// It is a pause of the bar, or of its board (`MultiProgress::suspend`). Meanwhile readings answer, also in `f` itself. A call that draws,
+    /// or changes a bar, waits for the end of the pause: from another thread it goes on then, and one that `f` itself makes, of this bar or
+    /// of any bar of its board, waits for ever.
+    ///
+    /// ```
+    /// let (position, drawn) = bar.suspend(move || other.position()); // another owner of the bar
+    /// ```
+    pub fn suspend<F: FnOnce() -> A, A>(&self, f: F) -> (A, Result<Drawn, Refusal>)
+        requires { F.pre f }
+        ensures value { F.post f result.0 }
+        ensures drawn { CanDraw result.1 }
+    {
+        self.state.suspend(&self.rt, f)
+    }
+
+    /// Sets the target. The bar begins there with its next draw, and the old target is given up. If the bar stands alone, nothing is written
+    /// to either target, and the answer is `Limited`. A board's bar leaves its board and stands alone from now on. The board's other bars
+    /// are drawn, by force, and the answer is that of this draw.
+    ///
+    /// Refused: as a removal, and `NotMember` if the board hasn't the bar. Then the bar stays there, and the new target is given up.
+    pub fn set_draw_target(&self, target: ProgressDrawTarget<T>) -> Result<Drawn, Refusal>
+        ensures { CanTurn result }
+    {
+        self.state.set_draw_target(&self.rt, target)
+    }
+
+    /// Takes the bar's rows back and sets the target, in one call: no other thread draws on the old target in between, and nothing of the bar
+    /// stays there. If the bar stands alone, the answer is that of the clear; whatever that is, the bar stands on the new target. A board's
+    /// bar leaves its board, as by `set_draw_target`.
+    ///
+    /// ```
+    /// bar.move_to(ProgressDrawTarget::hidden())?; // the bar is gone from the terminal
+    /// ```
+    ///
+    /// Refused: as a clear; on a board as `set_draw_target`, and the bar stays there then.
+    pub fn move_to(&self, target: ProgressDrawTarget<T>) -> Result<Drawn, Refusal>
+        ensures { CanMove result }
+    {
+        self.state.move_to(&self.rt, target)
+    }
+
+    /// Drops this owner. If it is the last one and the bar isn't finished, the stored finish ends the bar.
+    pub fn release(self) {
+        drop(self);
+    }
+
+    /// The bar's number on its board; `None` where it stands alone.
+    pub(crate) fn id(&self) -> Option<BarId> {
+        self.state.lock.lock(&self.rt).bar().id()
+    }
+
+    /// Takes the bar in on a board.
+    pub(crate) fn take_in(
+        &self,
+        board: SharedBoard<K, T, C>,
+        at: InsertLocation,
+    ) -> Result<(), Refusal>
+        ensures { IfErr result IsMissing }
+    {
+        let mut locked = self.state.turn(&self.rt);
+        locked.take_in(&self.rt, board, at, self.alloc)
+    }
+
+    /// Takes the bar out of the order of a board.
+    pub(crate) fn take_out(&self, board: &BoardCell<K, T, C>) -> Result<(), Refusal>
+        ensures { IfErr result MemoryOrForeign }
+    {
+        self.state.turn(&self.rt).take_out(&self.rt, board)
+    }
+
+    /// One owner more on the count.
+    fn counted(&self) -> bool
+        ensures { (before : ℕ) × (now : ℕ) × OwnerJoins result before now }
+    {
+        self.state.lock.lock(&self.rt).join()
+    }
+}
+
+/// Another owner of the same bar. Refused: want of memory; or 2^64 - 1 own it already.
+impl<T: TermLike + Drop, C: Clock + Drop, R: Wait + Clone + Drop, K: Tracks> Clone
+    for ProgressBar<T, C, R, K> {
+    fn clone(&self) -> Result<ProgressBar<T, C, R, K>, AllocError> {
+        let rt = self.rt.clone()?;
+        let state = Arc::try_clone(&self.state)?;
+        if self.counted() {
+            Ok(ProgressBar {
+                state,
+                alloc: self.alloc,
+                rt,
+            })
+        } else {
+            Err(AllocError)
+        }
+    }
+}
+
+impl<T: TermLike + Drop, C: Clock + Drop, R: Wait + Clone + Drop, K: Tracks> Drop
+    for ProgressBar<T, C, R, K> {
+    fn drop(self) {
+        let ProgressBar { state, alloc, rt } = self;
+        let _ = alloc;
+        let last = state.release(&rt);
+        if last {
+            state.changed.notify_all();
+        }
+    }
+}
+
+impl<T: TermLike + Drop, C: Clock + Drop, R: Wait + Clone + Drop, K: Tracks> Debug
+    for ProgressBar<T, C, R, K> {
+    fn fmt<W: fmt::Write>(&self, f: &mut Formatter<W>) -> fmt::Result {
+        f.write_str("ProgressBar")
+    }
+}
+
+/// It tells nothing of where it stands, as others may move it meanwhile.
+impl<T: TermLike + Drop, C: Clock + Drop, R: Wait + Clone + Drop, K: Tracks> Moves
+    for ProgressBar<T, C, R, K> {
+    #[inline(always)]
+    fn advance(&mut self, n: u64) -> Result<Drawn, Refusal> {
+        self.inc(n)
+    }
+
+    #[inline(always)]
+    fn place(&mut self, place: u64) -> Result<Drawn, Refusal> {
+        self.set_position(place)
+    }
+
+    fn finish(&mut self) -> Result<Drawn, Refusal> {
+        self.finish_using_style()
+    }
+
+    #[tactic(auto, using(crate::proofs::PlacedLemmas::untold_placed))]
+    fn place_after(&self, seeks: &mut SeekMax<5, 10>, n: u64) -> Option<Result<Drawn, Refusal>> {
+        Some(self.state.place_after(&self.rt, seeks, n))
+    }
+
+    /// Its position isn't one that a contract could tell.
+    fn stops_within_blocks(&self) -> bool {
+        true
+    }
+
+    fn position(&self) -> u64 {
+        self.position()
+    }
+
+    fn finished(&self) -> bool {
+        self.is_finished()
+    }
+}

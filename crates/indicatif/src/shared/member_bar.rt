@@ -1,0 +1,194 @@
+//! A shared bar that is on a board.
+ghost use Rattle.std.specs.Prelude.{◌≡◌, ◌⊎◌, ℕ};
+ghost use Rattle.std.specs.Fn.{FnOnceReturnsAt};
+ghost use Rattle.indicatif_bar.specs.Commands.{Update, SetPosition, SetTicker};
+ghost use Rattle.indicatif_bar.specs.Progress.{Progress};
+ghost use Rattle.indicatif_bar.specs.declared.state.commands.Change.{Change as Changed};
+ghost use Rattle.indicatif_board.specs.Boards.{Tell, Drop as Dropped};
+ghost use Rattle.indicatif_board.specs.BoardValues.{id_of};
+ghost use Rattle.indicatif.specs.Fronts.{CanDraw, unchanged};
+ghost use Rattle.indicatif.specs.Inside.Requests.{IfMade, LeavesSo, MatchTried};
+ghost use Rattle.indicatif.specs.Inside.SharedBoards.{SharedDraws};
+ghost use Rattle.indicatif.specs.Seek.{after_move};
+
+use crate::shared::any_board::AnyBoard;
+use crate::shared::board_cell::SharedBoard;
+use crate::shared::request::Tried;
+use crate::wrappers::seek::SeekMax;
+use indicatif_bar::lone::LoneCall;
+use indicatif_bar::state::{BarCommand, BarState, Change, ProgressState};
+use indicatif_bar::style::Tracks;
+use indicatif_board::multi::{BarId, Call};
+use indicatif_term::term_like::TermLike;
+use indicatif_text::columns::{Clock, Drawn, Moment, Refusal};
+use std::alloc::Global;
+use std::sync::Wait;
+
+/// A bar on a board: the board, the bar's number there, and what copies of its texts for a history are made by.
+pub struct MemberBar<K: Tracks, T: Drop, C> {
+    pub board: SharedBoard<K, T, C>,
+    pub id: BarId,
+    pub alloc: Global,
+}
+
+impl<K: Tracks, T: Drop, C: Drop> Drop for MemberBar<K, T, C> {
+    fn drop(self) {
+        let MemberBar {
+            board: _,
+            id: _,
+            alloc: _,
+        } = self;
+    }
+}
+
+/// What a closure answers of the bar's state, or nothing where there is no bar.
+fn change_by<K: Tracks, F: FnOnce(&ProgressState) -> Change>(
+    bar: Result<&BarState<K>, Refusal>,
+    f: F,
+) -> Change
+    requires { F.IsAlwaysCallable f }
+    ensures { ((shown : Progress) × FnOnceReturnsAt F.FnOnce f shown result) ⊎ (result ≡ unchanged) }
+{
+    match bar {
+        Ok(bar) => told_of(bar.state(), f),
+        Err(_) => Change {
+            pos: None,
+            len: None,
+        },
+    }
+}
+
+/// A bar's position, or 0 where there is no bar.
+fn position_of<K: Tracks>(bar: Result<&BarState<K>, Refusal>) -> u64 {
+    match bar {
+        Ok(bar) => bar.state().pos(),
+        Err(_) => 0,
+    }
+}
+
+/// What a closure answers of the state that it is shown.
+pub fn told_of<F: FnOnce(&ProgressState) -> A, A>(shown: &ProgressState, f: F) -> A
+    requires { F.IsAlwaysCallable f }
+    ensures { FnOnceReturnsAt F.FnOnce f shown.now result }
+{
+    f(shown)
+}
+
+/// What became of a bar that was to leave its board.
+pub enum Leaving<K: Tracks> {
+    /// It has left; what the draw of the others answered.
+    Left(BarState<K>, Result<Drawn, Refusal>),
+    /// It can't leave.
+    Stays(Refusal),
+    /// The board is in a pause. Nothing was done.
+    Later,
+}
+
+/// Each call is handed back where the board is in a pause.
+impl<K: Tracks, T: TermLike + Drop, C: Clock + Drop> MemberBar<K, T, C> {
+    /// Whether a ticker is installed: told also in a pause, since it asks for no draw.
+    pub fn set_ticker<R: Wait>(
+        &self,
+        rt: &R,
+        installed: bool,
+        now: Moment,
+    ) -> Result<Drawn, Refusal>
+        ensures { SharedDraws K (Tell (id_of self.now.id) (SetTicker installed)) result }
+    {
+        let call: LoneCall<K> = LoneCall::Bar(BarCommand::SetTicker(installed));
+        self.board
+            .lock(rt)
+            .board
+            .tell(self.id, call, self.alloc, now)
+    }
+
+    /// Draws the bars of the board by force, also in a pause.
+    #[tactic(auto, unfolding(crate::specs::Inside::SharedBoards::SharedDraws))]
+    pub fn redraw<R: Wait>(&self, rt: &R, now: Moment) -> Result<Drawn, Refusal>
+        ensures { CanDraw result }
+    {
+        self.board.lock(rt).board.draw(Call::Redraw, now)
+    }
+
+    /// A command that sets what the closure answers of the bar's state, or nothing where the board hasn't the bar.
+    pub fn update<R: Wait, F: FnOnce(&ProgressState) -> Change>(
+        &self,
+        rt: &R,
+        f: F,
+        now: Moment,
+    ) -> Tried<Result<Drawn, Refusal>, F>
+        requires { F.IsAlwaysCallable f }
+        ensures { MatchTried result (λ answer. (change : Changed) × SharedDraws K (Tell (id_of self.now.id) (Update change.pos change.len)) answer
+            × (((shown : Progress) × FnOnceReturnsAt F.FnOnce f shown change) ⊎ (change ≡ unchanged))) (λ again. again ≡ f) }
+    {
+        match self.board.try_turn(rt) {
+            Some(mut locked) => {
+                let change = change_by(locked.board.as_board().bar(self.id), f);
+                let call: LoneCall<K> = LoneCall::Bar(BarCommand::Update(change));
+                Tried::Made(locked.board.tell(self.id, call, self.alloc, now))
+            }
+            None => Tried::ComeAgain(f),
+        }
+    }
+
+    /// The bar is placed after `n` more from its position, as `seeks` says; it counts from 0 where the board hasn't the bar.
+    pub fn place_after<R: Wait>(
+        &self,
+        rt: &R,
+        seeks: &mut SeekMax<5, 10>,
+        n: u64,
+        now: Moment,
+    ) -> Tried<Result<Drawn, Refusal>, ()>
+        ensures { MatchTried result (λ answer. (position : ℕ) × (place : ℕ) × ((place, seeks.new) ≡ after_move 5 10 seeks.old position n)
+            × SharedDraws K (Tell (id_of self.now.id) (SetPosition place)) answer) (λ _. seeks.new ≡ seeks.old) }
+    {
+        match self.board.try_turn(rt) {
+            Some(mut locked) => {
+                let position = position_of(locked.board.as_board().bar(self.id));
+                let place = seeks.update_seq(position, n);
+                let call: LoneCall<K> = LoneCall::Bar(BarCommand::SetPosition(place));
+                Tried::Made(locked.board.tell(self.id, call, self.alloc, now))
+            }
+            None => Tried::ComeAgain(()),
+        }
+    }
+
+    /// The bar's owner is gone.
+    pub fn lose_owner<R: Wait>(&self, rt: &R, now: Moment) -> Tried<Result<Drawn, Refusal>, ()>
+        ensures { IfMade result (λ answer. SharedDraws K (Dropped (id_of self.now.id)) answer) }
+    {
+        match self.board.try_turn(rt) {
+            Some(mut locked) => Tried::Made(locked.board.draw(Call::Drop(self.id), now)),
+            None => Tried::ComeAgain(()),
+        }
+    }
+
+    /// Takes the bar out of the order and draws the others by force.
+    pub fn leave<R: Wait>(&self, rt: &R, now: Moment) -> Leaving<K>
+        ensures { LeavesSo result }
+    {
+        match self.board.try_turn(rt) {
+            Some(mut locked) => left(&mut locked.board, self.id, now),
+            None => Leaving::Later,
+        }
+    }
+}
+
+/// Takes a bar out of a board's order and draws the others by force.
+#[tactic(auto, using(crate::proofs::AnswerLemmas::stays_so), unfolding(crate::specs::Inside::SharedBoards::SharedDraws))]
+fn left<K: Tracks, T: TermLike + Drop>(
+    board: &mut AnyBoard<K, T>,
+    id: BarId,
+    now: Moment,
+) -> Leaving<K>
+    ensures { LeavesSo result }
+{
+    match board.remove(id, now) {
+        Ok(Some(bar)) => {
+            let drawn = board.draw(Call::Redraw, now);
+            Leaving::Left(bar, drawn)
+        }
+        Ok(None) => Leaving::Stays(Refusal::NotMember),
+        Err(refusal) => Leaving::Stays(refusal),
+    }
+}

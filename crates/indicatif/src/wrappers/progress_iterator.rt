@@ -1,0 +1,163 @@
+//! Iterators with a bar of their own.
+ghost use Rattle.std.specs.Prelude.{◌≡◌, ◌==◌, ℕ, IsFalse, Some, None, Ok, IfOk, IfErr, IfSome, IfNone, IsSome};
+ghost use Rattle.std.specs.Iterator.{size, UpTo};
+ghost use Rattle.indicatif_bar.specs.Commands.{new_bar};
+ghost use Rattle.indicatif.specs.Wrap.{Wraps};
+ghost use Rattle.indicatif.specs.Owned.{Begins, BeginsPlain};
+
+use crate::wrappers::moves::Moves;
+use crate::wrappers::owned::OwnedBar;
+use crate::wrappers::wrap::ProgressBarIter;
+use indicatif_bar::style::{NoTracker, ProgressStyle, TICKS, Tracks};
+use indicatif_term::draw_target::Setup;
+use indicatif_term::term_like::TermLike;
+use indicatif_text::columns::{Clock, Refusal};
+use std::alloc::Global;
+
+/// An iterator is wrapped into one that shows its progress: by a bar that is handed in, or by one that is made on a target with a
+/// clock (`Setup`), in the style `{wide_bar} {pos}/{len}` or another. Nothing is drawn by this.
+///
+/// ```
+/// let setup = Setup { target: ProgressDrawTarget::term_like(term), clock };
+/// let mut wrapped = list.into_iter().progress(alloc, setup)?;
+/// while let Some(item) = wrapped.next() { .. }
+/// ```
+pub trait ProgressIterator: Iterator + Sized {
+    /// Its progress is this bar's.
+    fn progress_with<P: Moves>(self, progress: P) -> ProgressBarIter<Self, P>
+        ensures wraps { Wraps result self }
+        ensures bar { result.progress ≡ progress };
+
+    /// A bar of this length.
+    ///
+    /// Refused: `Memory`; the iterator and the setup are given up.
+    fn progress_count<W: TermLike + Drop, C: Clock + Drop>(
+        self,
+        alloc: Global,
+        len: u64,
+        setup: Setup<W, C>,
+    ) -> Result<ProgressBarIter<Self, OwnedBar<NoTracker, W, C>>, Refusal>
+        ensures wraps { IfOk result (λ w. Wraps w self) }
+        ensures bar { IfOk result (λ w. BeginsPlain w.progress TICKS.now (Some len) setup.target) }
+        ensures memory { IfErr result (λ e. e ≡ Refusal.Memory) };
+
+    /// A bar of as many as are left.
+    ///
+    /// Refused: `Memory`; the iterator and the setup are given up.
+    fn progress<W: TermLike + Drop, C: Clock + Drop>(
+        self,
+        alloc: Global,
+        setup: Setup<W, C>,
+    ) -> Result<ProgressBarIter<Self, OwnedBar<NoTracker, W, C>>, Refusal>
+    where
+        Self: ExactSizeIterator,
+        ensures wraps { IfOk result (λ w. Wraps w self) }
+        ensures bar { IfOk result (λ w. BeginsPlain w.progress TICKS.now (Some (size (Self.remaining self))) setup.target) }
+        ensures memory { IfErr result (λ e. e ≡ Refusal.Memory) };
+
+    /// A bar of as many as are left, in this style.
+    ///
+    /// Refused: `Memory`, only where the style has another width of tabs than 8; the iterator and the setup are given up.
+    fn progress_with_style<K: Tracks, W: TermLike + Drop, C: Clock + Drop>(
+        self,
+        alloc: Global,
+        style: ProgressStyle<K>,
+        setup: Setup<W, C>,
+    ) -> Result<ProgressBarIter<Self, OwnedBar<K, W, C>>, Refusal>
+    where
+        Self: ExactSizeIterator,
+        ensures wraps { IfOk result (λ w. Wraps w self) }
+        ensures bar { IfOk result (λ w. (now : ℕ) × Begins w.progress (new_bar style (Some (size (Self.remaining self))) now) setup.target) }
+        ensures memory { IfErr result (λ e. (e ≡ Refusal.Memory) × IsFalse (8 == style.tab)) };
+
+    /// A bar of the most that may be left, by the upper bound of the iterator's `size_hint`; where
+    /// that says no such number, `None`: nothing is made, and the iterator is given up. So the bar's length is never below the
+    /// number of items that come.
+    ///
+    /// ```
+    /// let Some(mut wrapped) = list.into_iter().try_progress(alloc, setup)? else { .. }; // of 3 items: `0/3` at first
+    /// ```
+    ///
+    /// Refused: `Memory`; the iterator and the setup are given up.
+    fn try_progress<W: TermLike + Drop, C: Clock + Drop>(
+        self,
+        alloc: Global,
+        setup: Setup<W, C>,
+    ) -> Result<Option<ProgressBarIter<Self, OwnedBar<NoTracker, W, C>>>, Refusal>
+        ensures wraps { IfOk result (λ found. IfSome found (λ w. Wraps w self)) }
+        ensures bar { IfOk result (λ found. IfSome found (λ w. (len : ℕ) × UpTo (Self.remaining self) len × BeginsPlain w.progress TICKS.now (Some len) setup.target)) }
+        ensures memory { IfErr result (λ e. e ≡ Refusal.Memory) };
+}
+
+/// Every iterator.
+impl<I: Iterator> ProgressIterator for I {
+    fn progress_with<P: Moves>(self, progress: P) -> ProgressBarIter<I, P> {
+        ProgressBarIter::new(self, progress)
+    }
+
+    fn progress_count<W: TermLike + Drop, C: Clock + Drop>(
+        self,
+        alloc: Global,
+        len: u64,
+        setup: Setup<W, C>,
+    ) -> Result<ProgressBarIter<I, OwnedBar<NoTracker, W, C>>, Refusal> {
+        let bar = OwnedBar::plain(alloc, Some(len), setup)?;
+        Ok(ProgressBarIter::new(self, bar))
+    }
+
+    fn progress<W: TermLike + Drop, C: Clock + Drop>(
+        self,
+        alloc: Global,
+        setup: Setup<W, C>,
+    ) -> Result<ProgressBarIter<I, OwnedBar<NoTracker, W, C>>, Refusal>
+    where
+        I: ExactSizeIterator,
+    {
+        let len = self.len() as u64;
+        let bar = OwnedBar::plain(alloc, Some(len), setup)?;
+        Ok(ProgressBarIter::new(self, bar))
+    }
+
+    fn progress_with_style<K: Tracks, W: TermLike + Drop, C: Clock + Drop>(
+        self,
+        alloc: Global,
+        style: ProgressStyle<K>,
+        setup: Setup<W, C>,
+    ) -> Result<ProgressBarIter<I, OwnedBar<K, W, C>>, Refusal>
+    where
+        I: ExactSizeIterator,
+    {
+        let len = self.len() as u64;
+        let bar = OwnedBar::styled(alloc, style, Some(len), setup)?;
+        Ok(ProgressBarIter::new(self, bar))
+    }
+
+    fn try_progress<W: TermLike + Drop, C: Clock + Drop>(
+        self,
+        alloc: Global,
+        setup: Setup<W, C>,
+    ) -> Result<Option<ProgressBarIter<I, OwnedBar<NoTracker, W, C>>>, Refusal> {
+        let (_, most) = self.size_hint();
+        bounded(self, most, alloc, setup)
+    }
+}
+
+// With a bar of this length, and none where there is no length.
+fn bounded<I: Drop, W: TermLike + Drop, C: Clock + Drop>(
+    it: I,
+    most: Option<usize>,
+    alloc: Global,
+    setup: Setup<W, C>,
+) -> Result<Option<ProgressBarIter<I, OwnedBar<NoTracker, W, C>>>, Refusal>
+    ensures none { IfNone most (result ≡ Ok None) }
+    ensures some { IfSome most (λ _. IfOk result IsSome) }
+    ensures wraps { IfOk result (λ found. IfSome found (λ w. Wraps w it)) }
+    ensures bar { IfSome most (λ len. IfOk result (λ found. IfSome found (λ w. BeginsPlain w.progress TICKS.now (Some len) setup.target))) }
+    ensures memory { IfErr result (λ e. e ≡ Refusal.Memory) }
+{
+    let Some(len) = most else {
+        return Ok(None);
+    };
+    let bar = OwnedBar::plain(alloc, Some(len as u64), setup)?;
+    Ok(Some(ProgressBarIter::new(it, bar)))
+}
