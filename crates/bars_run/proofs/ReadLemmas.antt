@@ -11,7 +11,7 @@ use Rattle.bars_run.specs.declared.fault.Fault.TheVariants.{Usage, BadCommand, L
 use Rattle.bars_run.specs.Arguments.{HasCells}
 use Rattle.bars_run.specs.Commands.{Spelled, lines_of, spelled}
 use Rattle.bars_run.specs.Inside.Players.{Played, Obeys, HasPlayed, LineEnds}
-use Rattle.bars_run.specs.Printing.{IsLine, EndsOn}
+use Rattle.bars_run.specs.Printing.{IsInputLine, EndsOn}
 use Rattle.bars_run.proofs.LineLemmas.{next_line}
 use Rattle.bars_run.proofs.PlayLemmas.{one_more}
 
@@ -35,9 +35,9 @@ next_number number n number' e f = omega (arith, e, f)
 module _ {X E : Type 0} (f : X → List ℕ) (asked : Asked) (o known known' : Option (List ℕ)) (byte byte' : ℕ) (r : Option (Result X E))
     (gives : YieldsKnownPiece f (first_piece byte) byte known r known') (number number' : ℕ) (counted : number' ≡ min (number + 1) (2 ^ 64 - 1)) where
   -- the line that was read, with all lines before it
-  is_line : (bytes : List ℕ) (b : Played) (x : X) → Reads asked number bytes known byte b → r ≡ Some (Ok x) →
-      IsLine bytes number' (f x)
-  is_line bytes b x p is =
+  is_input_line : (bytes : List ℕ) (b : Played) (x : X) → Reads asked number bytes known byte b → r ≡ Some (Ok x) →
+      IsInputLine bytes number' (f x)
+  is_input_line bytes b x p is =
       let given = subst (λ y. YieldsKnownPiece f (first_piece byte) byte known y known') is gives in
       let some = subst (λ k. IfSome k (λ xs. (0 < length xs) × (f x ≡ first_piece byte xs))) p.known_is given.0 in
       let line : f x ≡ first_piece 0x0A p.left = some.1 ∙ ap (λ n. first_piece n p.left) p.byte_is in
@@ -53,7 +53,7 @@ module _ {X E : Type 0} (f : X → List ℕ) (asked : Asked) (o known known' : O
 
   pub reads_next : (old new : Played) (x : X) (command : Spelled) → IfSome o (λ bytes. Reads asked number bytes known byte old) → r ≡ Some (Ok x) → byte' ≡ byte → spelled (f x) ≡ Some command →
       Obeys command old new → IfSome o (λ bytes. Reads asked number' bytes known' byte' new)
-  unfolding is_line
+  unfolding is_input_line
   reads_next old new x command reads is same spells obeys =
       elim o as (λ y. IfSome y (λ bytes. Reads asked number bytes known byte old) → IfSome y (λ bytes. Reads asked number' bytes known' byte' new)) [
         | None ↦ λ p. tt
@@ -67,7 +67,7 @@ module _ {X E : Type 0} (f : X → List ℕ) (asked : Asked) (o known known' : O
               byte_is = same ∙ p.byte_is;
               lines = p.lines ++ f x ∷ [];
               number_is = next_number number (length p.lines) number' p.number_is counted ∙ ap (λ n. min n (2 ^ 64 - 1)) (sym (length-append p.lines (f x ∷ []) ∙ add-one (length p.lines)));
-              all = (is_line bytes old x p is).lines_are ∙ sym (append_assoc p.lines (f x ∷ []) (lines_of rest));
+              all = (is_input_line bytes old x p is).lines_are ∙ sym (append_assoc p.lines (f x ∷ []) (lines_of rest));
               played = one_more asked p.lines (f x) command old new p.played spells obeys;
             }
       ] reads
@@ -81,18 +81,18 @@ module _ {X E : Type 0} (f : X → List ℕ) (asked : Asked) (o known known' : O
   line_ends b x Output cells reads is ends = absurd ends
   line_ends b x (BadCommand n) cells reads is ends = (
     cells,
-    elim o as (λ y. IfSome y (λ bytes. Reads asked number bytes known byte b) → IfSome y (λ bytes. (line : List ℕ) × IsLine bytes n line × (spelled line ≡ None))) [
+    elim o as (λ y. IfSome y (λ bytes. Reads asked number bytes known byte b) → IfSome y (λ bytes. (line : List ℕ) × IsInputLine bytes n line × (spelled line ≡ None))) [
       | None ↦ λ p. tt
-      | Some bytes ↦ λ p. (f x, subst (λ k. IsLine bytes k (f x)) (sym ends.0) (is_line bytes b x p is), ends.1)
+      | Some bytes ↦ λ p. (f x, subst (λ k. IsInputLine bytes k (f x)) (sym ends.0) (is_input_line bytes b x p is), ends.1)
     ] reads,
   )
   line_ends b x (Line n e) cells reads is ends = (
     cells,
     inr
         (elim o as (λ y. IfSome y (λ bytes. Reads asked number bytes known byte b) →
-        IfSome y (λ bytes. (line : List ℕ) × IsLine bytes n line × (command : Spelled) × (spelled line ≡ Some command))) [
+        IfSome y (λ bytes. (line : List ℕ) × IsInputLine bytes n line × (command : Spelled) × (spelled line ≡ Some command))) [
           | None ↦ λ p. tt
-          | Some bytes ↦ λ p. (f x, subst (λ k. IsLine bytes k (f x)) (sym ends.0) (is_line bytes b x p is), ends.1, ends.2)
+          | Some bytes ↦ λ p. (f x, subst (λ k. IsInputLine bytes k (f x)) (sym ends.0) (is_input_line bytes b x p is), ends.1, ends.2)
         ] reads),
   )
 

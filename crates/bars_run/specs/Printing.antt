@@ -41,7 +41,7 @@ pub record Prints (words : List (List ℕ)) (input : List ℕ) (old new : Option
 -- ---- a run that ends early
 
 -- a line of an input by its number, counted from 1, which stops at 2 ^ 64 - 1; the lines before it spell commands
-pub record IsLine (input : List ℕ) (number : ℕ) (line : List ℕ) : Type 0 where
+pub record IsInputLine (input : List ℕ) (number : ℕ) (line : List ℕ) : Type 0 where
   pub before : List (List ℕ)
   pub behind : List (List ℕ)
   pub lines_are : lines_of input ≡ before ++ line ∷ behind
@@ -61,9 +61,9 @@ pub record IsPlayed (asked : Asked) (input : List ℕ) : Type 0 where
 abbrev pub EndsOn : Asked → Option (List ℕ) → Fault → Type 0
 EndsOn asked input Usage = ⊥
 EndsOn asked input (Refused refusal) = (refusal ≡ Memory) ⊎ ((refusal ≡ ZeroSize) × (HasCells asked.size → ⊥))
-EndsOn asked input (BadCommand number) = HasCells asked.size × IfSome input (λ bytes. (line : List ℕ) × IsLine bytes number line × (spelled line ≡ None))
+EndsOn asked input (BadCommand number) = HasCells asked.size × IfSome input (λ bytes. (line : List ℕ) × IsInputLine bytes number line × (spelled line ≡ None))
 EndsOn asked input (Line number refusal) =
-    HasCells asked.size × ((refusal ≡ Memory) ⊎ IfSome input (λ bytes. (line : List ℕ) × IsLine bytes number line × (command : Spelled) × (spelled line ≡ Some command)))
+    HasCells asked.size × ((refusal ≡ Memory) ⊎ IfSome input (λ bytes. (line : List ℕ) × IsInputLine bytes number line × (command : Spelled) × (spelled line ≡ Some command)))
 EndsOn asked input Input = HasCells asked.size
 EndsOn asked input Output = HasCells asked.size × IfSome input (λ bytes. IsPlayed asked bytes)
 

@@ -5,7 +5,7 @@ mod LoopLemmas
 mod OwnedLemmas
 mod BuilderLemmas
 mod BlockLemmas
-mod PieceLemmas
+mod PartAnswerLemmas
 mod SumLemmas
 mod WorkerLemmas
 mod PlacedLemmas

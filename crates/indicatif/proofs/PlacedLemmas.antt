@@ -6,11 +6,11 @@ use Rattle.indicatif_text.specs.declared.refusal.Refusal.{Refusal}
 use Rattle.indicatif.specs.declared.wrappers.wrap.ProgressBarIter.{ProgressBarIter}
 use Rattle.indicatif.specs.Moves.{Standing, PlacedAfter, Move}
 use Rattle.indicatif.specs.Seek.{Seeks, after_move}
-use Rattle.indicatif.specs.Wrap.{wrapped_seeks, last_draw_of, Placed}
+use Rattle.indicatif.specs.Wrap.{wrapped_seeks, last_draw_of, PlacesBar}
 
 -- the wrapper was placed as its bar was
 pub wrapper_placed : {T P : Type 0} (stands : P → Option Standing) (leads : P → Move → Result Drawn Refusal → P → Type 0) (s t : ProgressBarIter T P) (n : ℕ) (answer : Result Drawn Refusal)
-    → PlacedAfter stands leads s.progress (wrapped_seeks s) n answer t.progress (wrapped_seeks t) → last_draw_of t ≡ Some answer → Placed stands leads s n t
+    → PlacedAfter stands leads s.progress (wrapped_seeks s) n answer t.progress (wrapped_seeks t) → last_draw_of t ≡ Some answer → PlacesBar stands leads s n t
 wrapper_placed stands leads s t n answer made last = record {
   position = made.position;
   place = made.place;

@@ -2,7 +2,7 @@
 pub mod AnyBar
 pub mod AnyBoard
 pub mod Courses
-pub mod ListPieces
+pub mod PartAnswers
 pub mod LockedBar
 pub mod Pieces
 pub mod PositionChange

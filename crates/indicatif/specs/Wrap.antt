@@ -51,7 +51,7 @@ module _ {T P : Type 0} (stands : P → Option Standing) (leads : P → Move →
       ⊎ (SameBar s t × IfSome (stands s.progress) (λ bar. bar.finished ≡ true))
 
   -- the bar was placed after n more bytes
-  pub record Placed (s : ProgressBarIter T P) (n : ℕ) (t : ProgressBarIter T P) : Type 0 where
+  pub record PlacesBar (s : ProgressBarIter T P) (n : ℕ) (t : ProgressBarIter T P) : Type 0 where
     pub position : ℕ
     pub place : ℕ
     pub here : IfSome (stands s.progress) (λ bar. position ≡ bar.position)
@@ -76,13 +76,13 @@ module _ {T P : Type 0} (stands : P → Option Standing) (leads : P → Move →
   -- a polled read that is ready places the bar by the bytes that came; of one that failed none came
   abbrev pub ReadPlaces : {E : Type 0} → ProgressBarIter T P → Poll (Result ℕ E) → ProgressBarIter T P → Type 0
   ReadPlaces s Pending t = SameBar s t
-  ReadPlaces s (Ready (Ok n)) t = Placed s n t
-  ReadPlaces s (Ready (Err e)) t = Placed s 0 t
+  ReadPlaces s (Ready (Ok n)) t = PlacesBar s n t
+  ReadPlaces s (Ready (Err e)) t = PlacesBar s 0 t
 
   -- a polled write that was taken places the bar by the bytes that went
   abbrev pub WritePlaces : {E : Type 0} → ProgressBarIter T P → Poll (Result ℕ E) → ProgressBarIter T P → Type 0
   WritePlaces s Pending t = SameBar s t
-  WritePlaces s (Ready (Ok n)) t = Placed s n t
+  WritePlaces s (Ready (Ok n)) t = PlacesBar s n t
   WritePlaces s (Ready (Err e)) t = SameBar s t
 
 -- a seek by nothing from the current place keeps the bar; any other moves it

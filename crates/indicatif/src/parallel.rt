@@ -1,7 +1,7 @@
 //! Lists that threads work on, with a bar.
 //!
 //! - `claims`: what threads take of a list, and how far they are; `course`: how far the bar is.
-//! - `piece`: answers at a part of a list; `answers`: what threads answer at all its items; `visits`: the same without answers.
+//! - `part_answers`: answers at a part of a list; `answers`: what threads answer at all its items; `visits`: the same without answers.
 //! - `workers`: pieces of work that threads do.
 ghost use Rattle.std.specs.Prelude.{◌≡◌, ◌==◌, ◌<◌, ◌≤◌, ℕ, Some, Ok, Err, IfOk, IfErr, OnOk, IsFalse, length};
 ghost use Rattle.std.specs.List.{AllZip};
@@ -14,7 +14,7 @@ ghost use Rattle.indicatif.specs.Parallel.{Blocks};
 mod answers;
 pub mod claims;
 mod course;
-pub mod piece;
+pub mod part_answers;
 mod visits;
 pub mod workers;
 

@@ -6,7 +6,7 @@ use Rattle.indicatif_bar.specs.StyleLaws.{IsPlainText}
 use Rattle.indicatif_bar.specs.Trackers.{Tracking}
 
 -- its literals, its spinner, its trackers, and its message, prefix and finish
-pub record HasPlainTexts {K : Type 0} (m : Tracking K) (bar : BarRecord K) : Type 0 where
+pub record HasPlainRecordTexts {K : Type 0} (m : Tracking K) (bar : BarRecord K) : Type 0 where
   pub literals : All HasPlainLiteral bar.style.parts
   pub ticks : All IsPlainText bar.style.tick_strings
   pub trackers : ArePlainTrackers m bar.style.keys

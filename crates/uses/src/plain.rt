@@ -18,7 +18,7 @@ ghost use Rattle.indicatif_board.specs.BoardValues.{id_of};
 ghost use Rattle.indicatif_board.specs.Calls.{timed};
 ghost use Rattle.indicatif_board.specs.Multi.{LeadsBy, terminal_of};
 ghost use Rattle.indicatif_board.specs.PlainBoardLaws.{IsPlainCall};
-ghost use Rattle.uses.specs.Plain.{HasPlainTexts};
+ghost use Rattle.uses.specs.Plain.{HasPlainRecordTexts};
 
 use indicatif_bar::laws::{
     plain_texts_give_plain_runs as plain_texts_give_plain_lone_runs, what_a_lone_run_reads,
@@ -162,7 +162,7 @@ pub fn name_stands<K: ProgressTracker>(
     bar: BarState<K>,
     calls: Vec<(LoneCall<K>, Moment)>,
 ) -> Result<Vec<String>, Refusal>
-    ensures { HasPlainTexts K.means bar → All (λ call. IsPlainLoneCall K.means call.0) (map lone_timed calls.items) →
+    ensures { HasPlainRecordTexts K.means bar → All (λ call. IsPlainLoneCall K.means call.0) (map lone_timed calls.items) →
         IfOk result (λ texts. (others : List (List ℕ)) × (map (λ text. string_bytes text) texts.items ≡ codes "a.txt" ∷ others)) }
 {
     let term = InMemoryTerm::new(alloc, 4, 10)?;
@@ -292,7 +292,7 @@ pub fn log_above_lent<K: ProgressTracker, T: TermLike + Drop>(
     text: &str,
     now: Moment,
 ) -> Result<Drawn, Refusal>
-    ensures { HasPlainTexts K.means (record_of bar.old) → All IsPlainText (logged_lines text.now) →
+    ensures { HasPlainRecordTexts K.means (record_of bar.old) → All IsPlainText (logged_lines text.now) →
         (v : TermView) → lone_known T.view bar.old ≡ Some v →
         (s : LoneState (BarRecord K)) × (next : LoneState (BarRecord K)) × LoneIsIn bar.old s × LoneIsIn bar.new next
         × (v' : TermView) × (lone_known T.view bar.new ≡ Some v') × Paints v v' (is_failure result) s.lists next.lists }

@@ -4,12 +4,12 @@ ghost use Rattle.std.specs.List.{AllZip};
 ghost use Rattle.std.specs.Fn.{FnReturnsAt};
 ghost use Rattle.std.specs.Thread.{IsSync, IsSend};
 ghost use Rattle.indicatif.specs.Inside.Courses.{GoesOn};
-ghost use Rattle.indicatif.specs.Inside.ListPieces.{IsPiece};
+ghost use Rattle.indicatif.specs.Inside.PartAnswers.{AnswersPart};
 ghost use Rattle.indicatif.specs.Parallel.{Blocks};
 
 use crate::parallel::claims::Claims;
 use crate::parallel::course::Course;
-use crate::parallel::piece::{Piece, in_order, together};
+use crate::parallel::part_answers::{PartAnswers, in_order, together};
 use crate::wrappers::moves::Moves;
 use indicatif_text::columns::Refusal;
 use rayon::current_num_threads;
@@ -50,12 +50,12 @@ fn whole<T, A: Drop, F: Fn(&T) -> A>(
     alloc: Global,
     room: Vec<A>,
     items: &[T],
-    pieces: Result<Vec<Piece<A>>, AllocError>,
+    pieces: Result<Vec<PartAnswers<A>>, AllocError>,
     f: &F,
 ) -> Result<Vec<A>, Refusal>
     requires callable { F.IsAlwaysCallable f.now }
     requires empty { room.items ≡ [] }
-    requires pieces { IfOk pieces (λ made. All (IsPiece (FnReturnsAt F.Fn f.now) items.now) made.items) }
+    requires pieces { IfOk pieces (λ made. All (AnswersPart (FnReturnsAt F.Fn f.now) items.now) made.items) }
     ensures list { IfOk result (λ made. AllZip (FnReturnsAt F.Fn f.now) items.now made.items) }
     ensures memory { IfErr result (λ e. e ≡ Refusal.Memory) }
 {
@@ -76,22 +76,22 @@ fn pieces_of_all<
     items: &[T],
     f: &F,
     course: Course<P>,
-) -> (Result<Vec<Piece<A>>, AllocError>, Course<P>)
+) -> (Result<Vec<PartAnswers<A>>, AllocError>, Course<P>)
     requires callable { F.IsAlwaysCallable f.now }
     requires front { course.done ≡ 0 }
-    ensures pieces { IfOk result.0 (λ made. All (IsPiece (FnReturnsAt F.Fn f.now) items.now) made.items) }
+    ensures pieces { IfOk result.0 (λ made. All (AnswersPart (FnReturnsAt F.Fn f.now) items.now) made.items) }
     ensures course { GoesOn P.stands P.leads course.done course.bar result.1.done result.1.bar }
     ensures within { result.1.done ≤ length items.now }
 {
     let claims = &Claims::new(items.len());
     let others = current_num_threads(rt).min(items.len()).saturating_sub(1);
-    let theirs = || -> Result<Vec<Piece<A>>, AllocError>
+    let theirs = || -> Result<Vec<PartAnswers<A>>, AllocError>
         requires { IsSync R.row × IsSync T.row × IsSync F.row × IsSend A.row × F.IsAlwaysCallable f.now × (claims.now.items ≡ length items.now) }
-        ensures { IfOk result (λ made. All (IsPiece (FnReturnsAt F.Fn f.entry.now) items.entry.now) made.items) }
+        ensures { IfOk result (λ made. All (AnswersPart (FnReturnsAt F.Fn f.entry.now) items.entry.now) made.items) }
     { pieces_of(rt, alloc, items, claims, others, f) };
-    let mine = move || -> (Result<Vec<Piece<A>>, AllocError>, Course<P>)
+    let mine = move || -> (Result<Vec<PartAnswers<A>>, AllocError>, Course<P>)
         requires { F.IsAlwaysCallable f.now × (claims.now.items ≡ length items.now) × (course.done ≤ claims.now.items) }
-        ensures { IfOk result.0 (λ made. All (IsPiece (FnReturnsAt F.Fn f.entry.now) items.entry.now) made.items)
+        ensures { IfOk result.0 (λ made. All (AnswersPart (FnReturnsAt F.Fn f.entry.now) items.entry.now) made.items)
             × GoesOn P.stands P.leads course.done course.bar result.1.done result.1.bar × (result.1.done ≤ claims.entry.now.items) }
     { own_pieces(alloc, items, claims, f, course) };
     let (rest, (made, course)) = join(rt, theirs, mine);
@@ -105,11 +105,11 @@ fn own_pieces<T, A: Drop, F: Fn(&T) -> A, P: Moves + Drop>(
     claims: &Claims,
     f: &F,
     course: Course<P>,
-) -> (Result<Vec<Piece<A>>, AllocError>, Course<P>)
+) -> (Result<Vec<PartAnswers<A>>, AllocError>, Course<P>)
     requires callable { F.IsAlwaysCallable f.now }
     requires list { claims.now.items ≡ length items.now }
     requires within { course.done ≤ claims.now.items }
-    ensures pieces { IfOk result.0 (λ made. All (IsPiece (FnReturnsAt F.Fn f.now) items.now) made.items) }
+    ensures pieces { IfOk result.0 (λ made. All (AnswersPart (FnReturnsAt F.Fn f.now) items.now) made.items) }
     ensures course { GoesOn P.stands P.leads course.done course.bar result.1.done result.1.bar }
     ensures within { result.1.done ≤ claims.now.items }
 {
@@ -125,11 +125,11 @@ fn pieces_in_order<T, A: Drop, F: Fn(&T) -> A, P: Moves + Drop>(
     claims: &Claims,
     f: &F,
     course: &mut Course<P>,
-) -> Result<Vec<Piece<A>>, AllocError>
+) -> Result<Vec<PartAnswers<A>>, AllocError>
     requires callable { F.IsAlwaysCallable f.now }
     requires list { claims.now.items ≡ length items.now }
     requires within { course.old.done ≤ claims.now.items }
-    ensures pieces { IfOk result (λ made. All (IsPiece (FnReturnsAt F.Fn f.now) items.now) made.items) }
+    ensures pieces { IfOk result (λ made. All (AnswersPart (FnReturnsAt F.Fn f.now) items.now) made.items) }
     ensures course { GoesOn P.stands P.leads course.old.done course.old.bar course.new.done course.new.bar }
     ensures within { course.new.done ≤ claims.now.items }
 {
@@ -138,7 +138,7 @@ fn pieces_in_order<T, A: Drop, F: Fn(&T) -> A, P: Moves + Drop>(
         let Some(part) = claims.take() else {
             break;
         };
-        pieces.push(Piece::at(alloc, items, &part, f)?)?;
+        pieces.push(PartAnswers::at(alloc, items, &part, f)?)?;
         course.follow_part(claims, &part);
     }
     Ok(pieces)
@@ -153,23 +153,23 @@ fn pieces_of<R: Threads + Sync, T: Sync, A: Send + Drop, F: Fn(&T) -> A + Sync>(
     claims: &Claims,
     threads: usize,
     f: &F,
-) -> Result<Vec<Piece<A>>, AllocError>
+) -> Result<Vec<PartAnswers<A>>, AllocError>
     requires callable { F.IsAlwaysCallable f.now }
     requires list { claims.now.items ≡ length items.now }
-    ensures { IfOk result (λ made. All (IsPiece (FnReturnsAt F.Fn f.now) items.now) made.items) }
+    ensures { IfOk result (λ made. All (AnswersPart (FnReturnsAt F.Fn f.now) items.now) made.items) }
 {
     if threads < 2 {
         return pieces_of_one(alloc, items, claims, f);
     }
     let half = threads / 2;
     let others = threads - half;
-    let first = move || -> Result<Vec<Piece<A>>, AllocError>
+    let first = move || -> Result<Vec<PartAnswers<A>>, AllocError>
         requires { IsSync R.row × IsSync T.row × IsSync F.row × IsSend A.row × F.IsAlwaysCallable f.now × (claims.now.items ≡ length items.now) }
-        ensures { IfOk result (λ made. All (IsPiece (FnReturnsAt F.Fn f.entry.now) items.entry.now) made.items) }
+        ensures { IfOk result (λ made. All (AnswersPart (FnReturnsAt F.Fn f.entry.now) items.entry.now) made.items) }
     { pieces_of(rt, alloc, items, claims, half, f) };
-    let second = move || -> Result<Vec<Piece<A>>, AllocError>
+    let second = move || -> Result<Vec<PartAnswers<A>>, AllocError>
         requires { IsSync R.row × IsSync T.row × IsSync F.row × IsSend A.row × F.IsAlwaysCallable f.now × (claims.now.items ≡ length items.now) }
-        ensures { IfOk result (λ made. All (IsPiece (FnReturnsAt F.Fn f.entry.now) items.entry.now) made.items) }
+        ensures { IfOk result (λ made. All (AnswersPart (FnReturnsAt F.Fn f.entry.now) items.entry.now) made.items) }
     { pieces_of(rt, alloc, items, claims, others, f) };
     let (a, b) = join(rt, first, second);
     together(a, b)
@@ -181,17 +181,17 @@ fn pieces_of_one<T, A: Drop, F: Fn(&T) -> A>(
     items: &[T],
     claims: &Claims,
     f: &F,
-) -> Result<Vec<Piece<A>>, AllocError>
+) -> Result<Vec<PartAnswers<A>>, AllocError>
     requires callable { F.IsAlwaysCallable f.now }
     requires list { claims.now.items ≡ length items.now }
-    ensures { IfOk result (λ made. All (IsPiece (FnReturnsAt F.Fn f.now) items.now) made.items) }
+    ensures { IfOk result (λ made. All (AnswersPart (FnReturnsAt F.Fn f.now) items.now) made.items) }
 {
     let mut pieces = Vec::new(alloc);
     for _ in 0..claims.parts() {
         let Some(part) = claims.take() else {
             break;
         };
-        pieces.push(Piece::at(alloc, items, &part, f)?)?;
+        pieces.push(PartAnswers::at(alloc, items, &part, f)?)?;
         claims.tell(&part);
     }
     Ok(pieces)

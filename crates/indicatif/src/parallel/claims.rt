@@ -8,7 +8,7 @@ const PARTS: usize = 1024;
 
 /// A part of a list: the items from one place to another.
 #[derive(Drop)]
-pub struct Part {
+pub struct Claim {
     /// The place of its first item.
     pub start: usize,
     /// The place behind its last item.
@@ -47,7 +47,7 @@ impl Claims {
     }
 
     /// The next part, if one is left.
-    pub fn take(&self) -> Option<Part>
+    pub fn take(&self) -> Option<Claim>
         ensures { IfSome result (λ part. part.end ≤ self.now.items) }
     {
         let number = self.taken.fetch_add(1, Ordering::SeqCst) as usize;
@@ -56,7 +56,7 @@ impl Claims {
             return None;
         }
         let end = start.saturating_add(self.each).min(self.items);
-        Some(Part { start, end })
+        Some(Claim { start, end })
     }
 
     /// The place of the next item, if one is left, where items are taken one by one.
@@ -72,7 +72,7 @@ impl Claims {
     }
 
     /// The items of this part were met.
-    pub fn tell(&self, part: &Part) {
+    pub fn tell(&self, part: &Claim) {
         let count = part.end - part.start;
         self.met.fetch_add(count as u64, Ordering::SeqCst);
     }

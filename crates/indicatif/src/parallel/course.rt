@@ -3,7 +3,7 @@ ghost use Rattle.std.specs.Prelude.{◌≡◌, ◌⊎◌, ◌≤◌, ◌<◌};
 ghost use Rattle.indicatif.specs.Inside.Courses.{GoesOn};
 ghost use Rattle.indicatif.specs.Parallel.{block_length};
 
-use crate::parallel::claims::{Claims, Part};
+use crate::parallel::claims::{Claim, Claims};
 use crate::wrappers::moves::Moves;
 use rayon::current_num_threads;
 use std::thread::Threads;
@@ -92,7 +92,7 @@ impl<P: Moves + Drop> Course<P> {
     }
 
     /// The items of a part were met by the thread that has the bar: the bar follows what all have met.
-    pub fn follow_part(&mut self, claims: &Claims, part: &Part)
+    pub fn follow_part(&mut self, claims: &Claims, part: &Claim)
         ensures within { self.old.done ≤ claims.now.items → self.new.done ≤ claims.now.items }
         ensures goes { GoesOn P.stands P.leads self.old.done self.old.bar self.new.done self.new.bar }
     {

@@ -4,7 +4,7 @@ ghost use Rattle.std.specs.Borrow.{sem};
 ghost use Rattle.std.specs.Io.{ReadsAtMost, WritesAtMost, StartsWith};
 ghost use Rattle.std.specs.Io.KnownBytes.{ReadConsumes, WriteAppends, Consumes, Keeps};
 ghost use Rattle.std.specs.Io.BufRead.{Rests, FillKeeps, DropsConsumable};
-ghost use Rattle.indicatif.specs.Wrap.{inner_of, Placed, SameBar};
+ghost use Rattle.indicatif.specs.Wrap.{inner_of, PlacesBar, SameBar};
 ghost use Rattle.indicatif.specs.contracts.wrappers.wrap.ProgressBarIter.{the_row};
 
 use crate::wrappers::moves::Moves;
@@ -20,7 +20,7 @@ impl<T: Read, P: Moves> Read for ProgressBarIter<T, P> {
     fn read(&mut self, buf: &mut [u8]) -> io::Result<usize>
         ensures bound { ReadsAtMost result buf.new }
         ensures bytes { ReadConsumes (T.remaining (inner_of self.old)) (T.remaining (inner_of self.new)) result buf.new }
-        ensures placed { MatchResult result (λ n. Placed P.stands P.leads self.old n self.new) (λ _. SameBar self.old self.new) }
+        ensures placed { MatchResult result (λ n. PlacesBar P.stands P.leads self.old n self.new) (λ _. SameBar self.old self.new) }
     {
         let n = self.it.read(buf)?;
         self.went_on(n as u64);
@@ -29,7 +29,7 @@ impl<T: Read, P: Moves> Read for ProgressBarIter<T, P> {
 
     fn read_exact(&mut self, buf: &mut [u8]) -> io::Result<()>
         ensures bytes { OnOk result (Consumes (T.remaining (inner_of self.old)) (T.remaining (inner_of self.new)) buf.new) }
-        ensures placed { MatchResult result (λ _. Placed P.stands P.leads self.old (length buf.new) self.new) (λ _. SameBar self.old self.new) }
+        ensures placed { MatchResult result (λ _. PlacesBar P.stands P.leads self.old (length buf.new) self.new) (λ _. SameBar self.old self.new) }
     {
         self.it.read_exact(buf)?;
         self.went_on(buf.len() as u64);
@@ -53,7 +53,7 @@ impl<T: BufRead, P: Moves> BufRead for ProgressBarIter<T, P> {
 
     fn consume(&mut self, amount: usize)
         ensures bytes { DropsConsumable (T.remaining (inner_of self.old)) (T.remaining (inner_of self.new)) (T.consumable_len (inner_of self.old)) amount }
-        ensures placed { Placed P.stands P.leads self.old amount self.new }
+        ensures placed { PlacesBar P.stands P.leads self.old amount self.new }
     {
         self.it.consume(amount);
         self.went_on(amount as u64);
@@ -67,7 +67,7 @@ impl<T: Write, P: Moves> Write for ProgressBarIter<T, P> {
     fn write(&mut self, buf: &[u8]) -> io::Result<usize>
         ensures bound { WritesAtMost result buf.now }
         ensures bytes { WriteAppends (T.contents (inner_of self.old)) (T.contents (inner_of self.new)) result buf.now }
-        ensures placed { MatchResult result (λ n. Placed P.stands P.leads self.old n self.new) (λ _. SameBar self.old self.new) }
+        ensures placed { MatchResult result (λ n. PlacesBar P.stands P.leads self.old n self.new) (λ _. SameBar self.old self.new) }
     {
         let n = self.it.write(buf)?;
         self.went_on(n as u64);
@@ -89,7 +89,7 @@ impl<T: Read, P: Moves> ProgressBarIter<T, P> {
     /// Refused: as the inner one's, and the bar stays as it is.
     pub fn read_to_string(&mut self, buf: &mut String) -> io::Result<usize>
         ensures bytes { OnOk result (IfSome (T.remaining (inner_of self.old)) (λ xs. string_bytes buf.new ≡ string_bytes buf.old ++ xs)) }
-        ensures placed { MatchResult result (λ n. Placed P.stands P.leads self.old n self.new) (λ _. SameBar self.old self.new) }
+        ensures placed { MatchResult result (λ n. PlacesBar P.stands P.leads self.old n self.new) (λ _. SameBar self.old self.new) }
     {
         let n = self.it.read_to_string(buf)?;
         self.went_on(n as u64);

@@ -3,7 +3,7 @@ ghost use Rattle.std.specs.Prelude.{◌≡◌, ◌≤◌, ◌<◌, Ok, length, t
 ghost use Rattle.futures.specs.Poll.{IfReady, OnPending};
 ghost use Rattle.futures.specs.Task.{Covers, Keeps};
 ghost use Rattle.tokio.specs.Io.Moved.{count_moved, bytes_moved, IfReadyErr, OnReadyOk};
-ghost use Rattle.indicatif.specs.Wrap.{inner_of, Placed, ReadPlaces, WritePlaces, SameBar};
+ghost use Rattle.indicatif.specs.Wrap.{inner_of, PlacesBar, ReadPlaces, WritePlaces, SameBar};
 
 use crate::wrappers::moves::Moves;
 use crate::wrappers::wrap::ProgressBarIter;

@@ -2,7 +2,7 @@
 ghost use Rattle.std.specs.Prelude.{◌≡◌, None};
 ghost use Rattle.indicatif.specs.Seek.{no_seeks};
 ghost use Rattle.indicatif.specs.Moves.{PlacedAfter};
-ghost use Rattle.indicatif.specs.Wrap.{inner_of, wrapped_seeks, last_draw_of, Placed};
+ghost use Rattle.indicatif.specs.Wrap.{inner_of, wrapped_seeks, last_draw_of, PlacesBar};
 
 use crate::wrappers::moves::Moves;
 use crate::wrappers::seek::SeekMax;
@@ -70,7 +70,7 @@ impl<T, P: Moves> ProgressBarIter<T, P> {
     #[tactic(auto, using(crate::proofs::PlacedLemmas::wrapper_placed))]
     pub(crate) fn went_on(&mut self, n: u64)
         ensures it { inner_of self.new ≡ inner_of self.old }
-        ensures placed { Placed P.stands P.leads self.old n self.new }
+        ensures placed { PlacesBar P.stands P.leads self.old n self.new }
     {
         let answer = match self.progress.place_after(&mut self.seeks, n) {
             Some(answer) => answer,

@@ -1,7 +1,7 @@
 use Rattle.std.proofs.Common.{rules, ◌≡◌, ◌∷◌, sym, subst, IfOk, All}
 use Rattle.std.specs.Vec.Iter.{into_iter_items}
 use Rattle.std.proofs.lemmas.List.Elements.{All-head, All-rest, All-same}
-use Rattle.indicatif.proofs.PieceLemmas.{all_together}
+use Rattle.indicatif.proofs.PartAnswerLemmas.{all_together}
 use Rattle.indicatif.proofs.parallel.workers.crew.joined.Goals as goal
 
 pub loop-thread-preserved : goal.loop-thread-preserved

@@ -2,14 +2,14 @@
 ghost use Rattle.std.specs.Prelude.{◌≡◌, ◌⊎◌, ◌≤◌, ◌++◌, [], IfOk, IsOkAnd, All, length, take, drop, ◌-◌};
 ghost use Rattle.std.specs.List.{AllZip};
 ghost use Rattle.std.specs.Fn.{FnReturnsAt};
-ghost use Rattle.indicatif.specs.Inside.ListPieces.{IsPiece};
+ghost use Rattle.indicatif.specs.Inside.PartAnswers.{AnswersPart};
 
-use crate::parallel::claims::Part;
+use crate::parallel::claims::Claim;
 use std::alloc::{AllocError, Global};
 
 /// The answers at a part of a list.
 #[derive(Drop)]
-pub struct Piece<A> {
+pub struct PartAnswers<A> {
     /// The place of the part's first item.
     pub start: usize,
     /// The place behind its last item.
@@ -18,20 +18,20 @@ pub struct Piece<A> {
     pub answers: Vec<A>,
 }
 
-impl<A: Drop> Piece<A> {
+impl<A: Drop> PartAnswers<A> {
     /// The answers of `f` at a part.
     pub fn at<T, F: Fn(&T) -> A>(
         alloc: Global,
         items: &[T],
-        part: &Part,
+        part: &Claim,
         f: &F,
-    ) -> Result<Piece<A>, AllocError>
+    ) -> Result<PartAnswers<A>, AllocError>
         requires callable { F.IsAlwaysCallable f.now }
         requires within { part.now.end ≤ length items.now }
-        ensures { IfOk result (λ piece. IsPiece (FnReturnsAt F.Fn f.now) items.now piece) }
+        ensures { IfOk result (λ piece. AnswersPart (FnReturnsAt F.Fn f.now) items.now piece) }
     {
         let answers = answers_of(alloc, &items[part.start..part.end], f)?;
-        Ok(Piece {
+        Ok(PartAnswers {
             start: part.start,
             end: part.end,
             answers,
@@ -43,7 +43,7 @@ impl<A: Drop> Piece<A> {
         ensures { IfOk result (λ end. ((end ≡ place) × (made.new.items ≡ made.old.items))
             ⊎ ((self.start ≡ place) × (self.end ≡ end) × (made.new.items ≡ made.old.items ++ self.answers.items))) }
     {
-        let Piece {
+        let PartAnswers {
             start,
             end,
             answers,
@@ -92,16 +92,16 @@ pub fn in_order<T, A: Drop, F: Fn(&T) -> A>(
     alloc: Global,
     room: Vec<A>,
     items: &[T],
-    pieces: Vec<Piece<A>>,
+    pieces: Vec<PartAnswers<A>>,
     f: &F,
 ) -> Result<Vec<A>, AllocError>
     requires callable { F.IsAlwaysCallable f.now }
     requires empty { room.items ≡ [] }
-    requires pieces { All (IsPiece (FnReturnsAt F.Fn f.now) items.now) pieces.items }
+    requires pieces { All (AnswersPart (FnReturnsAt F.Fn f.now) items.now) pieces.items }
     ensures { IfOk result (λ made. AllZip (FnReturnsAt F.Fn f.now) items.now made.items) }
 {
     let mut pieces = pieces;
-    pieces.sort_unstable_by_key(|piece: &Piece<A>| -> usize { piece.start });
+    pieces.sort_unstable_by_key(|piece: &PartAnswers<A>| -> usize { piece.start });
     let mut made = room;
     let mut place = 0;
     for piece in pieces {

@@ -3,13 +3,13 @@ use Rattle.std.specs.Fn.{FnReturnsAt}
 use Rattle.std.specs.Vec.Iter.{into_iter_items}
 use Rattle.std.proofs.lemmas.List.Elements.{All-head, All-rest, All-same}
 use Rattle.std.proofs.lemmas.List.Sorted.{All-permutation}
-use Rattle.indicatif.specs.Inside.ListPieces.{IsPiece}
-use Rattle.indicatif.proofs.PieceLemmas.{piece_behind, rest_behind}
-use Rattle.indicatif.proofs.parallel.piece.in_order.Goals as goal
+use Rattle.indicatif.specs.Inside.PartAnswers.{AnswersPart}
+use Rattle.indicatif.proofs.PartAnswerLemmas.{piece_behind, rest_behind}
+use Rattle.indicatif.proofs.parallel.part_answers.in_order.Goals as goal
 
 pub loop-piece-init : goal.loop-piece-init
 loop-piece-init g c =
-    let Q = IsPiece (FnReturnsAt g.F.Fn c.args.f.now) c.args.items.now in (
+    let Q = AnswersPart (FnReturnsAt g.F.Fn c.args.f.now) c.args.items.now in (
       omega arith,
       rw c.requires.empty tt,
       All-same Q _ _ (search rules) (All-permutation Q _ _ c.sort_unstable_by_key.ensures.permutation c.requires.pieces),
@@ -17,7 +17,7 @@ loop-piece-init g c =
 
 pub loop-piece-preserved : goal.loop-piece-preserved
 loop-piece-preserved g c =
-    let Q = IsPiece (FnReturnsAt g.F.Fn c.args.f.now) c.args.items.now in
+    let Q = AnswersPart (FnReturnsAt g.F.Fn c.args.f.now) c.args.items.now in
     let next : into_iter_items c.loop-piece.piece-iterator ≡ c.in-Some.piece ∷ into_iter_items c.next.new.self = search rules in
     let is : Q c.in-Some.piece = All-head Q _ _ (All-same Q _ _ (sym next) c.loop-piece.invariant.2) in
     let step = rw c.in_ok-place.was at c.put_behind.ensures in

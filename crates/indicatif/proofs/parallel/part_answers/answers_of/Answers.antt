@@ -2,7 +2,7 @@ use Rattle.std.proofs.Common.{rules, ◌∷◌, [], length, refl, ap, arith}
 use Rattle.std.specs.Fn.{FnReturnsAt}
 use Rattle.std.proofs.lemmas.List.{length-append}
 use Rattle.indicatif.proofs.WorkerLemmas.{zip_one}
-use Rattle.indicatif.proofs.parallel.piece.answers_of.Goals as goal
+use Rattle.indicatif.proofs.parallel.part_answers.answers_of.Goals as goal
 
 pub loop-item-preserved : goal.loop-item-preserved
 loop-item-preserved g c =

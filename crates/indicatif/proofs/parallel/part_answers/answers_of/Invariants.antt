@@ -1,7 +1,7 @@
 use Rattle.std.proofs.Common.{◌≡◌, ◌≤◌, take, length, vec_capacity}
 use Rattle.std.specs.List.{AllZip}
 use Rattle.std.specs.Fn.{FnReturnsAt}
-use Rattle.indicatif.proofs.parallel.piece.answers_of.Given as goal
+use Rattle.indicatif.proofs.parallel.part_answers.answers_of.Given as goal
 
 abbrev pub invariant-loop-item : goal.invariant-loop-item
 invariant-loop-item g l =

@@ -5,8 +5,8 @@ use Rattle.std.specs.declared.alloc.Global.{Global}
 use Rattle.std.specs.List.{AllZip}
 use Rattle.std.proofs.lemmas.List.{length-drop, take-append-drop, take_all}
 use Rattle.std.proofs.lemmas.List.Elements.{All-append, All-same}
-use Rattle.indicatif.specs.Inside.ListPieces.{IsPiece}
-use Rattle.indicatif.specs.declared.parallel.piece.Piece.{Piece}
+use Rattle.indicatif.specs.Inside.PartAnswers.{AnswersPart}
+use Rattle.indicatif.specs.declared.parallel.part_answers.PartAnswers.{PartAnswers}
 use Rattle.indicatif.proofs.BlockLemmas.{zip_both, zip_more}
 
 module _ {X : Type 0} (Q : X → Type 0) where
@@ -22,7 +22,7 @@ module _ {X : Type 0} (Q : X → Type 0) where
 
 module _ {T A : Type 0} (R : T → A → Type 0) (items : List T) where
   -- one piece more, if it begins where the others end
-  pub piece_behind : (piece : Piece A) (place end : ℕ) (made new : List A) → place ≤ length items → AllZip R (take place items) made → IsPiece R items piece
+  pub piece_behind : (piece : PartAnswers A) (place end : ℕ) (made new : List A) → place ≤ length items → AllZip R (take place items) made → AnswersPart R items piece
       → ((end ≡ place) × (new ≡ made)) ⊎ ((piece.start ≡ place) × (piece.end ≡ end) × (new ≡ made ++ piece.answers.items))
       → (end ≤ length items) × AllZip R (take end items) new
   piece_behind piece place end made new within answered is step =
