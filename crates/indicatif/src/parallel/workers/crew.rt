@@ -1,7 +1,7 @@
 //! Threads that do the same work at the same time.
 ghost use Rattle.std.specs.Prelude.{◌≡◌, IfOk, All, []};
 
-use crate::parallel::piece::together;
+use crate::parallel::part_answers::together;
 use std::alloc::{AllocError, Global};
 use std::snapshot::Snapshot;
 use std::sync::{RwLock, Wait};

@@ -4,7 +4,7 @@ ghost use Rattle.std.specs.Fn.{FnReturnsAt};
 ghost use Rattle.indicatif.specs.Inside.Pieces.{IsEnded, IsGathered, CountsPieces};
 
 use crate::parallel::claims::Claims;
-use crate::parallel::piece::answers_of;
+use crate::parallel::part_answers::answers_of;
 use crate::parallel::workers::Gate;
 use crate::parallel::workers::crew::Work;
 use std::alloc::{AllocError, Global};
