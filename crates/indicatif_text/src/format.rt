@@ -67,7 +67,7 @@ impl fmt::Display for HumanDuration {
 impl HumanDuration {
     /// Appends the short form to `out`: the count and the unit's first letter, as `89s`.
     ///
-    /// Refused: `Memory`, only where `out` has no room for all of it; `out` is as before then.
+    /// Refused: `Memory`, only if `out` has no room for all of it; then `out` is unchanged.
     ///
     /// ```
     /// HumanDuration(4_000_000_000).write_short(&mut out)?;
@@ -218,7 +218,7 @@ impl HumanFloatCount {
 
     /// Appends the quotient to `out`, rounded at so many decimals in place of four.
     ///
-    /// Refused: `Memory`, only where `out` has no room for all of it; `out` is as before then.
+    /// Refused: `Memory`, only if `out` has no room for all of it; then `out` is unchanged.
     ///
     /// ```
     /// let eighth = HumanFloatCount::new(1, 8).ok_or("a divisor of 0")?;

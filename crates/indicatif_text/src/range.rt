@@ -14,7 +14,7 @@ use std::alloc::AllocError;
 /// that lies wholly within those columns, where the run between sequences that it belongs to begins before `end`. Columns
 /// are those of Unicode's East Asian Width (UAX #11), counted from 0 over the text without its sequences.
 ///
-/// Refused: `Memory`, only where `out` has no room for all of it; `out` is as before then.
+/// Refused: `Memory`, only if `out` has no room for all of it; then `out` is unchanged.
 ///
 /// # Examples
 ///

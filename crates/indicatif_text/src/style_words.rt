@@ -130,7 +130,7 @@ impl Style {
     /// behind it, also behind an empty text, but only if a sequence stands before. With `colours` off it is the text
     /// alone.
     ///
-    /// Refused: `Memory`, only where `out` has no room for all of it; `out` is as before then.
+    /// Refused: `Memory`, only if `out` has no room for all of it; then `out` is unchanged.
     ///
     /// ```
     /// Style::from_dotted_str("hidden.bold.dim").apply_to(true, "", &mut out)?;

@@ -17,7 +17,7 @@ pub(crate) enum Run<'a> {
 }
 
 impl Run<'_> {
-    /// How many there are.
+    /// How many texts there are.
     pub(crate) fn len(self) -> usize
         ensures { result ≡ length (run_chars self.entry) }
     {
