@@ -1,4 +1,4 @@
-//! Appending where there is room.
+//! Appending to memory that was taken before.
 ghost use Rattle.std.specs.Prelude.{◌≡◌, ◌+◌, ◌≤◌, ◌++◌, length, string_bytes, string_len, string_capacity};
 
 /// Appends a text, in memory that was taken before.
