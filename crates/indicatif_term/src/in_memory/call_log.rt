@@ -102,7 +102,7 @@ fn escape_code(code: u32, out: &mut String) -> Result<(), Refusal>
     Ok(())
 }
 
-/// A further cell of the wide character on its left.
+/// A hexadecimal digit.
 fn hex_digit(value: u32) -> char
     requires { value < 16 }
     ensures { result ≡ hex_digit value }
