@@ -48,7 +48,7 @@ fn copy_of(alloc: Global, call: &LoneCall<NoTracker>) -> Result<LoneCall<NoTrack
     })
 }
 
-/// What a call answers.
+/// The answer of a call.
 type Said = Result<Drawn, Refusal>;
 
 /// A bar that makes calls one by one, what its terminal gets, and how many unforced draws it made.

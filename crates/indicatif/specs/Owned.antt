@@ -75,7 +75,7 @@ BeginsPlain owned ticks len target =
 -- ---- wrappers over such a bar
 
 module _ {I K T C : Type 0} (m : Tracking K) (view : T → TermView) where
-  -- its bar obeyed a command, at some moment and with some answer; all else is as it was
+  -- its bar obeyed a command, at some moment and with some answer; all else is unchanged
   pub record Built (old : ProgressBarIter I (OwnedBar K T C)) (command : Command K) (new : ProgressBarIter I (OwnedBar K T C)) : Type 0 where
     pub it : inner_of new ≡ inner_of old
     pub seeks : wrapped_seeks new ≡ wrapped_seeks old
@@ -85,7 +85,7 @@ module _ {I K T C : Type 0} (m : Tracking K) (view : T → TermView) where
     pub obeys : Obeys m view (lone_of old.progress) (lone_of new.progress) command moment answer
 
   -- its bar obeyed a command, at some moment that is no earlier than the command needs; or it refused the command for want of memory, or because its elapsed time exceeds that moment, and the wrapper
-  -- was given up with its bar
+  -- was dropped with its bar
   abbrev pub MayBuild : ProgressBarIter I (OwnedBar K T C) → Command K → Result (ProgressBarIter I (OwnedBar K T C)) Refusal → Type 0
   MayBuild old command (Ok new) = (built : Built old command new) × IsFalse (is_beyond_clock command built.moment)
   MayBuild old command (Err e) = (now : ℕ) × RefusesCommand command (record_of (lone_of old.progress)) now e

@@ -114,7 +114,7 @@
 //! `ghost use`, where `◌` stands for an operand. Numbers are unbounded, and `-` stops at 0, as `saturating_sub` does. `decimal n` is a
 //! number's digits, `codes "left"` a text, and `++` joins two texts: `crates/examples/src/key.rt` writes `12 left` this way.
 //!
-//! The library has one tracker of its own, `Recent`: the rate of the last seconds, and the time left at that rate, for `with_key("per_sec", ..)`,
+//! The library has one tracker, `Recent`: the rate of the last seconds, and the time left at that rate, for `with_key("per_sec", ..)`,
 //! `with_key("eta", ..)` and the like.
 //!
 //! If your type changes when the bar ticks, implement `style::ProgressTracker`. All keys of a style have one type: for several, use an
@@ -244,8 +244,8 @@
 //! ████████░░░░░░░░░░░░░░░░░░ 1/3
 //! ```
 //!
-//! On a hidden target `println` writes nothing. There `println_or` writes the line to a writer that you hand in. For other output there is
-//! `suspend`, which takes the rows back, calls a closure and draws again.
+//! On a hidden target `println` writes nothing. There `println_or` writes the line to a writer that you pass. For other output there is
+//! `suspend`, which clears the rows, calls a closure and draws again.
 //!
 //! **A call inside a closure.** While the closure of `suspend` runs, readings such as `bar.position()` answer, also inside it. A call that
 //! draws or changes a bar waits until the closure returns: a call of any bar of that board inside the closure deadlocks. The closures of

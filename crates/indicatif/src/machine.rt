@@ -289,7 +289,7 @@ pub fn on_stdout(rt: &HostRuntime) -> Result<StreamSetup<Stdout>, Refusal>
 ///
 /// A `StderrBar` takes the setup of `on_stderr`: what this call makes on standard error has another type.
 ///
-/// Refused: `Memory`; the stream is given up.
+/// Refused: `Memory`; the stream is dropped.
 pub fn on_stream<R: Env + AllocGlobal + time::Clock + Copy, W: Write + IsTerminal + Drop>(
     rt: &R,
     stream: W,
@@ -359,7 +359,7 @@ fn rows_on<T>(term: T, row: Option<OwnRow>) -> OwnRows<T>
 /// A target on standard error, of a terminal with this size. So a program that learns of another size passes it on to a shared bar or
 /// board: nothing here asks the terminal, and `LINES` and `COLUMNS` keep the values they had when the program began.
 ///
-/// The size isn't checked: bars have all `cols` columns. The target is hidden where that of `on_stderr` is, and is drawn as often. Bars
+/// The size isn't checked: bars have all `cols` columns. The target is hidden if that of `on_stderr` is, and has the same rate. Bars
 /// begin there with their next draw, and that has to be at the front of an empty row. If bars have rows, `move_to` clears them and leaves
 /// the cursor there. If only logged lines stand, or nothing is to be cleared, end the line and call `set_draw_target`.
 ///
@@ -390,7 +390,7 @@ pub fn sized_stderr(
 /// A target as that of `sized_stderr`, on any stream. Bars that `on_stderr` made take a target of `sized_stderr`: what this call makes on
 /// standard error has another type.
 ///
-/// Refused: `ZeroSize` if `rows` or `cols` is 0; `Memory`. The stream is given up.
+/// Refused: `ZeroSize` if `rows` or `cols` is 0; `Memory`. The stream is dropped.
 pub fn sized_target<R: Env + AllocGlobal + time::Clock + Copy, W: Write + IsTerminal + Drop>(
     rt: &R,
     stream: W,

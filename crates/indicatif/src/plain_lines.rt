@@ -1,4 +1,4 @@
-//! Bars as plain lines, where no terminal shows them.
+//! Bars as plain lines, if no terminal shows them.
 ghost use Rattle.std.specs.Prelude.{◌≡◌, None, false, IsTrue, is_some, IfOk, OnOk, OnErr, IfErr};
 ghost use Rattle.indicatif_bar.specs.Progress.{is_finished};
 ghost use Rattle.indicatif.specs.PlainLines.{due, due_meanwhile};

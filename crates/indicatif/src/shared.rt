@@ -349,11 +349,11 @@ impl<T: TermLike + Drop, C: Clock + Drop, R: Wait + Clone + Drop, K: Tracks> Pro
         self.state.suspend(&self.rt, f)
     }
 
-    /// Sets the target. The bar begins there with its next draw, and the old target is given up. If the bar stands alone, nothing is
+    /// Sets the target. The bar begins there with its next draw, and the old target is dropped. If the bar stands alone, nothing is
     /// written to either target, and the answer is `Limited`. A board's bar leaves its board and stands alone afterwards. A forced draw
     /// shows the board's other bars, and its answer is returned.
     ///
-    /// Refused: as a removal, and `NotMember` if the board hasn't the bar. Then the bar keeps its place, and the new target is given up.
+    /// Refused: as a removal, and `NotMember` if the board hasn't the bar. Then the bar keeps its place, and the new target is dropped.
     pub fn set_draw_target(&self, target: ProgressDrawTarget<T>) -> Result<Drawn, Refusal>
         ensures { CanTurn result }
     {

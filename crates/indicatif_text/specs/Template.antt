@@ -106,7 +106,7 @@ unfoldable pub with_alternative : Layout → List ℕ → Front Layout
 with_alternative layout text =
     alternative_ends layout (take_while is_alternative_char text) (after_run is_alternative_char text)
 
--- the style goes up to a closing brace, or to a slash and the alternative; it counts only where one of them stands
+-- the style goes up to a closing brace, or to a slash and the alternative; it counts only if there is one
 abbrev pub is_style_char : ℕ → Bool
 is_style_char c = not (c == 0x2F || (c == 0x7D))
 
@@ -121,7 +121,7 @@ style_ends layout text (c ∷ cs) =
 unfoldable pub with_style : Layout → List ℕ → Front Layout
 with_style layout text = style_ends layout (take_while is_style_char text) (after_run is_style_char text)
 
--- digits and exclamation marks go up to a closing brace, or to a dot and the style; the number counts only where one of them stands
+-- digits and exclamation marks go up to a closing brace, or to a dot and the style; the number counts only if there is one
 abbrev pub is_width_char : ℕ → Bool
 is_width_char c = is_ascii_digit c || (c == 0x21)
 

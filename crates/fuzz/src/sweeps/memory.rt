@@ -1,4 +1,4 @@
-//! Scripts where memory may be refused once.
+//! Scripts in which memory may be refused once.
 use crate::sweeps::kinds::{Kind, Players};
 use crate::sweeps::printing;
 use crate::sweeps::sweep::Runs;

@@ -12,7 +12,7 @@ use indicatif_text::columns::Refusal;
 /// let bar = styled_on_stderr(rt, host, style, Some(100))?;
 /// ```
 ///
-/// Refused: `Memory`; the style is given up.
+/// Refused: `Memory`; the style is dropped.
 pub fn styled_on_stderr<R: Shares, K: Tracks>(
     rt: R,
     host: &HostRuntime,

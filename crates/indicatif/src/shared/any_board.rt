@@ -211,7 +211,7 @@ fn log_of<K: Tracks>(text: &str, alloc: Global) -> Result<Call<K>, Refusal>
     Ok(Call::Log(String::from_str(alloc, text)?))
 }
 
-/// A bar's call, as a value that a history keeps, with a text of its own.
+/// A bar's call, as a value that a history keeps, with its own text.
 fn call_of_bar<K: Tracks, S: Text>(
     id: BarId,
     call: &LoneCall<K, S>,

@@ -35,7 +35,7 @@ pub(crate) fn ended_line(alloc: Global, text: &str) -> Result<String, Refusal>
     Ok(line)
 }
 
-/// A line of its own. Refused: `Memory`.
+/// A copy of a line. Refused: `Memory`.
 pub(crate) fn own_line(alloc: Global, line: &str) -> Result<String, Refusal>
     ensures line { IfOk result (λ t. string_bytes t ≡ line.now) }
     ensures refused { IfErr result (λ e. e ≡ Refusal.Memory) }
