@@ -19,8 +19,8 @@ fn started<R: Wait + Clone + Drop>(rt: R, alloc: Global) -> Result<Bar<R>, Refus
     ProgressBar::styled(rt, alloc, style, None, setup)
 }
 
-/// Says `hello` and ticks, then says something else, and a clone ticks in each of two threads; what stands on the terminal then, and how often the bar
-/// ticked.
+/// Shows `hello` and ticks, then shows something else, and a clone ticks in each of two threads; the rows on the terminal afterwards, and
+/// how often the bar ticked.
 fn play<R: Threads + Wait + Sync + Clone + Drop>(
     rt: &R,
     alloc: Global,
@@ -39,7 +39,7 @@ fn play<R: Threads + Wait + Sync + Clone + Drop>(
     Ok((contents, bar.ticks()))
 }
 
-/// What stands on the terminal after the bar ticked thrice, and how often it ticked.
+/// The rows on the terminal after the bar ticked three times, and how often it ticked.
 pub fn shown<R: Threads + Wait + Sync + Copy + Clone + Drop>(
     rt: R,
     alloc: Global,

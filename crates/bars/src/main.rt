@@ -1,9 +1,9 @@
-//! Bars on a terminal in memory, to be seen: `bars demo`, and `bars run ROWS COLS [bottom]`, which reads commands. `bars show` draws some on
-//! the terminal.
+//! Bars on a terminal in memory, to look at: `bars demo`, and `bars run ROWS COLS [bottom]`, which reads commands. `bars show` draws some
+//! on the terminal.
 //!
-//! The exit status is 0; 1 after a refusal, which is printed to standard error by its number, with the line of the command where
-//! there is one; and 2 after wrong arguments, for which the usage is printed there, after a line that is no command, and where standard
-//! input or output fails, also since nobody reads the output any more. `bars_run` says more.
+//! The exit status is 0; 1 after a refusal, whose number is printed to standard error, with the line of the command if there is one; and 2
+//! after wrong arguments, for which the usage is printed there, after a line that is no command, and if standard input or output fails, for
+//! instance because the output's reader is gone. `bars_run` says more.
 //!
 //! - `demo`: what the demo shows.
 //! - `show`: bars on the terminal.
@@ -29,7 +29,7 @@ fn main(rt: HostRuntime) -> ExitCode {
     ExitCode::from(status)
 }
 
-/// Whether this is the one word.
+/// Whether this is the only word.
 fn is_word(words: &[String], wanted: &str) -> bool {
     match words {
         [word] => word.as_str() == wanted,
@@ -37,7 +37,7 @@ fn is_word(words: &[String], wanted: &str) -> bool {
     }
 }
 
-/// Answers the status of what was shown.
+/// Returns the status of what was shown.
 fn end_show(rt: HostRuntime, shown: Result<(), Fault>) -> u8 {
     match shown {
         Ok(()) => 0,
@@ -45,7 +45,7 @@ fn end_show(rt: HostRuntime, shown: Result<(), Fault>) -> u8 {
     }
 }
 
-/// Prints what the demo shows, and answers the status.
+/// Prints the result of the demo, and returns the status.
 fn print_demo(rt: HostRuntime, shown: Result<(String, u64), Refusal>) -> u8 {
     match shown {
         Ok((contents, ticks)) => match println!(rt; "{contents}\nticks {ticks}") {
@@ -56,7 +56,7 @@ fn print_demo(rt: HostRuntime, shown: Result<(String, u64), Refusal>) -> u8 {
     }
 }
 
-/// Does what other words ask for, and answers the status.
+/// Runs any other words, and returns the status.
 fn run(rt: HostRuntime, words: &[String]) -> u8 {
     let Ok(mut out) = BufWriter::new(rt.alloc(), rt.stdout()) else {
         return say(rt, Fault::Refused(Refusal::Memory));
@@ -64,7 +64,7 @@ fn run(rt: HostRuntime, words: &[String]) -> u8 {
     run_bars(rt.alloc(), words, rt.stdin(), &mut out, &mut rt.stderr())
 }
 
-/// Says what was wrong, and answers the status that it has.
+/// Prints the message of a fault, and returns its status.
 fn say(rt: HostRuntime, fault: Fault) -> u8 {
     let _ = eprintln!(rt; "{fault}");
     fault.status()

@@ -1,7 +1,7 @@
-//! Bars to be looked at, for some ten seconds: a download, three workers with a total and lines above them, a spinner. They are drawn on the
-//! terminal; where there is none, what one would show is printed each two seconds.
+//! Bars to look at, for about ten seconds: a download, three workers with a total and lines above them, a spinner. They are drawn on the
+//! terminal; if there is none, what one would show is printed each two seconds.
 //!
-//! - `screen`: the terminal's own file, or cells in its place.
+//! - `screen`: the terminal's own file, or cells instead.
 mod screen;
 
 use crate::show::screen::{Screen, on_cells, on_terminal};
@@ -31,10 +31,10 @@ const WORK: &str = "{spinner:.green} {msg} {elapsed}";
 /// The bytes of the download.
 const BYTES: u64 = 23_123_123;
 
-/// What each worker copies, and in how many parts.
+/// The file of each worker, and its number of parts.
 const WORKERS: &[(&str, u64)] = &[("a.iso", 36), ("b.iso", 54), ("c.iso", 72)];
 
-/// A board, the moment of its first frame, the frame that it is at, and whether it is seen.
+/// A board, the moment of its first frame, the current frame, and whether it is on a terminal.
 #[derive(Drop)]
 struct Show {
     rt: HostRuntime,
@@ -44,7 +44,7 @@ struct Show {
     is_live: bool,
 }
 
-/// Shows all.
+/// Shows everything.
 pub fn play(rt: HostRuntime) -> Result<(), Fault> {
     let shown = on_terminal(&rt)?;
     let is_live = shown.is_some();
@@ -65,7 +65,8 @@ pub fn play(rt: HostRuntime) -> Result<(), Fault> {
 }
 
 impl Show {
-    /// The moment of the frame. (On a terminal's target moments come from its clock: it holds back draws before the one at which it was made.)
+    /// The moment of the frame. (On a terminal's target moments come from its clock: it refuses draws before the moment at which it was
+    /// made.)
     fn now(&self) -> Moment {
         self.opened.saturating_add(self.frame.saturating_mul(FRAME))
     }
@@ -87,14 +88,14 @@ impl Show {
         }
     }
 
-    /// A command of a bar.
+    /// Makes a command of a bar.
     fn tell(&mut self, bar: BarId, command: BarCommand<NoTracker>) -> Result<(), Refusal> {
         let now = self.now();
         self.board.command(bar, command, now)?;
         Ok(())
     }
 
-    /// Goes on by a frame, which takes its time on a terminal. Where there is none, each fortieth is printed.
+    /// Advances by a frame, which takes its time on a terminal. If there is none, each fortieth is printed.
     fn go_on(&mut self) -> Result<(), Fault> {
         self.frame = self.frame.saturating_add(1);
         if self.is_live {
@@ -126,7 +127,7 @@ impl Show {
     }
 }
 
-/// A download with its bytes, its rate and the time that is left: four seconds.
+/// A download with its bytes, its rate and the time left: four seconds.
 fn download(show: &mut Show) -> Result<(), Fault> {
     let bar = show.add(DOWNLOAD, Some(BYTES), "")?;
     for frame in 1..81u64 {
@@ -161,7 +162,7 @@ fn added(show: &mut Show) -> Result<Vec<BarId>, Refusal> {
     Ok(bars)
 }
 
-/// A frame of the workers: each that isn't done has copied one part more.
+/// A frame of the workers: each that isn't done has copied one more part.
 fn work_on(show: &mut Show, total: BarId, workers: &[BarId], frame: u64) -> Result<(), Fault> {
     for (bar, (name, parts)) in workers.iter().zip(WORKERS.iter()) {
         if frame <= *parts {
@@ -176,7 +177,7 @@ fn work_on(show: &mut Show, total: BarId, workers: &[BarId], frame: u64) -> Resu
     Ok(())
 }
 
-/// A line above the bars: this was copied.
+/// Logs a line above the bars: this was copied.
 fn log(show: &mut Show, name: &str) -> Result<(), Fault> {
     let now = show.now();
     let Ok(line) = format!(in show.rt.alloc(); "copied {name}") else {
@@ -186,7 +187,7 @@ fn log(show: &mut Show, name: &str) -> Result<(), Fault> {
     Ok(())
 }
 
-/// A spinner: two seconds and a half.
+/// A spinner: two and a half seconds.
 fn spin(show: &mut Show) -> Result<(), Fault> {
     let alloc = show.rt.alloc();
     let bar = show.add(WORK, None, "")?;

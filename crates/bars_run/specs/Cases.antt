@@ -1,4 +1,4 @@
--- Worked cases of what lines spell, and of what is printed. Texts are lists of bytes.
+-- Worked cases of what lines mean, and of what is printed. Texts are lists of bytes.
 use Rattle.std.specs.Prelude.{◌≡◌, ℕ, false, List, [], ◌∷◌, ◌++◌, map, Option, Some, None, codes}
 use Rattle.indicatif_term.specs.Pictures.{row_text}
 use Rattle.indicatif_term.specs.declared.draw_target.MultiProgressAlignment.TheVariants.{Top, Bottom}
@@ -31,7 +31,7 @@ LinesRead =
     × (lines_of (codes "a\n") ≡ codes "a" ∷ [])
     × (lines_of (codes "ab\n\nc") ≡ codes "ab" ∷ [] ∷ codes "c" ∷ [])
 
--- commands, and lines that are none
+-- commands, and lines that aren't commands
 abbrev pub CommandsRead : Type 0
 CommandsRead =
     (spelled (codes "add") ≡ Some (Add []))
@@ -51,11 +51,11 @@ CommandsRead =
     × (spelled (codes "size 3") ≡ None)
     × (spelled (codes "add " ++ 0xFF ∷ []) ≡ None)
 
--- what these lines come to on a terminal of 4 rows and 10 columns
+-- a request for a terminal of 4 rows and 10 columns
 abbrev pub small : Asked
 small = record { size = sized 4 10; alignment = Top }
 
--- the lines of an input spell these commands, which stand for steps that no board refuses, and then this is printed
+-- the lines of an input are these commands, whose steps no board refuses, and this is printed
 abbrev pub Printed : List ℕ → List Spelled → List ℕ → Type 0
 Printed input commands output =
     (each spelled (lines_of input) ≡ Some commands)
@@ -67,13 +67,13 @@ Printed input commands output =
 abbrev pub LogPrinted : Type 0
 LogPrinted = Printed (codes "add x\ntick 1\nlog a.txt\n") (Add (codes "x") ∷ OfBar (Some 1) Tick ∷ Log (codes "a.txt") ∷ []) (codes "a.txt\nx\n")
 
--- a bar that wasn't drawn isn't printed, and of empty rows those before one that isn't empty
+-- a bar that wasn't drawn isn't printed; empty rows are printed only before one that isn't empty
 abbrev pub EmptyPrinted : Type 0
 EmptyPrinted =
     Printed (codes "add x") (Add (codes "x") ∷ []) []
     × Printed (codes "log\nlog a\nlog\n") (Log [] ∷ Log (codes "a") ∷ Log [] ∷ []) (codes "\na\n")
 
--- on 3 columns each row is cut by itself
+-- on 3 columns each row is wrapped by itself
 abbrev pub SizePrinted : Type 0
 SizePrinted =
     Printed (codes "add abcdef\ntick 1\nlog hello\nsize 4 3\n")

@@ -1,4 +1,4 @@
--- What a line of the input spells. Texts are lists of bytes.
+-- The command of an input line. Texts are lists of bytes.
 use Rattle.std.specs.Prelude.{ℕ, ◌^◌, Bool, ◌==◌, List, [], ◌∷◌, Option, Some, None, option_map, if◌then◌else◌, codes, bytes_eq}
 use Rattle.std.specs.List.{before_first, after_first}
 use Rattle.std.specs.Str.{is_utf8}
@@ -11,30 +11,30 @@ use Rattle.bars_run.specs.declared.commands.Command.TheVariants as given
 
 -- ---- commands
 
--- what is done to a bar
+-- an action on a bar
 pub data Action : Type 0 where
   Message : (text : List ℕ) → Action
   Tick : Action
   Finish : Action
-  -- finished, and hidden
+  -- finishes and hides it
   Hide : Action
   Abandon : Action
   Drop : Action
   Remove : Action
 
--- what a line asks for; a bar is named by its number, none where that is past 2 ^ 64 - 1
+-- a command; a bar is named by its number, none if that is past 2 ^ 64 - 1
 pub data Spelled : Type 0 where
   Add : (text : List ℕ) → Spelled
   Log : (text : List ℕ) → Spelled
   Warn : (text : List ℕ) → Spelled
   Clear : Spelled
-  -- another size of the terminal
+  -- gives the terminal another size
   Resize : (size : Size) → Spelled
   OfBar : (number : Option ℕ) → (action : Action) → Spelled
 
 -- ---- lines
 
--- a byte before the first of these lines
+-- a byte added at the front of the first line
 abbrev pub with_first : ℕ → List (List ℕ) → List (List ℕ)
 with_first b [] = (b ∷ []) ∷ []
 with_first b (line ∷ lines) = (b ∷ line) ∷ lines
@@ -47,14 +47,14 @@ lines_of (b ∷ bytes) = if b == 0x0A then [] ∷ lines_of bytes else with_first
 abbrev pub is_space : ℕ → Bool
 is_space b = b == 0x20
 
--- the word before the first space, and what stands behind that; a text without a space is all word
+-- the word before the first space, and the text after it; a text without a space is all word
 abbrev pub word_of : List ℕ → List ℕ
 word_of text = before_first is_space text
 
 abbrev pub rest_of : List ℕ → List ℕ
 rest_of text = after_first is_space text
 
--- what a word that needs no text does to a bar
+-- the action of a word without a text
 abbrev pub action_named : List ℕ → Option Action
 action_named word =
     if bytes_eq word (codes "tick") then Some Tick
@@ -65,12 +65,12 @@ action_named word =
     else if bytes_eq word (codes "remove") then Some Remove
     else None
 
--- an action on the bar of a number
+-- an action on the bar with a number
 abbrev pub on_bar : List ℕ → Option Action → Option Spelled
 on_bar digits None = None
 on_bar digits (Some action) = if is_number digits then Some (OfBar (number_below (2 ^ 64) digits) action) else None
 
--- what a word asks for, with the text behind it
+-- the command of a word, with the text after it
 abbrev pub worded : List ℕ → List ℕ → Option Spelled
 worded word rest =
     if bytes_eq word (codes "add") then Some (Add rest)
@@ -80,22 +80,22 @@ worded word rest =
     else if bytes_eq word (codes "msg") then on_bar (word_of rest) (Some (Message (rest_of rest)))
     else on_bar rest (action_named word)
 
--- what a text spells; none where it is no command
+-- the command of a text; none if it isn't one
 abbrev pub spelled_text : List ℕ → Option Spelled
 spelled_text text = if bytes_eq text (codes "clear") then Some Clear else worded (word_of text) (rest_of text)
 
--- what a line spells; none also where it is no text
+-- the command of a line; none if it isn't one, or isn't UTF-8
 abbrev pub spelled : List ℕ → Option Spelled
 spelled line = if is_utf8 line then spelled_text line else None
 
 -- ---- lists
 
--- one more, where there is one
+-- one more, if there is one
 abbrev pub and_then : {Y : Type 0} → Option Y → Option (List Y) → Option (List Y)
 and_then (Some y) (Some ys) = Some (y ∷ ys)
 and_then _ _ = None
 
--- what each of these stands for, one by one; none where one of them stands for nothing
+-- the values of a list, one by one; none if one of them has none
 abbrev pub each : {X Y : Type 0} → (X → Option Y) → List X → Option (List Y)
 each f [] = Some []
 each f (x ∷ xs) = and_then (f x) (each f xs)

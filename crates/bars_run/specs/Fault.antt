@@ -1,17 +1,17 @@
--- The exit status of what ends a run early, and what is said of it. Texts are lists of bytes.
+-- The exit status and the message of a fault. Texts are lists of bytes.
 use Rattle.std.specs.Prelude.{ℕ, List, Option, Some, codes, decimal}
 use Rattle.std.specs.Fmt.{◌++?◌}
 use Rattle.indicatif_text.specs.Refusal.{refusal_number}
 use Rattle.bars_run.specs.declared.fault.Fault.{Fault}
 use Rattle.bars_run.specs.declared.fault.Fault.TheVariants.{Usage, BadCommand, Line, Refused, Input, Output}
 
--- 1 where something was refused, else 2
+-- 1 after a refusal, otherwise 2
 abbrev pub status_of : Fault → ℕ
 status_of (Line number refusal) = 1
 status_of (Refused refusal) = 1
 status_of _ = 2
 
--- what is said
+-- the message
 abbrev pub fault_text : Fault → Option (List ℕ)
 fault_text Usage = Some (codes "usage: bars demo | bars run ROWS COLS [bottom]")
 fault_text (BadCommand line) = Some (codes "bars: line ") ++? Some (decimal line) ++? Some (codes ": bad command")

@@ -1,4 +1,4 @@
--- The script of a board that commands stand for, and the rows that stand after it.
+-- The script of a board for a list of commands, and the rows that stand after it.
 use Rattle.std.specs.Prelude.{ℕ, zero, suc, ◌<◌, Bool, true, false, ◌||◌, List, [], ◌∷◌, Option, Some, None, All, codes}
 use Rattle.std.specs.List.{list_any}
 use Rattle.log.specs.declared.level.Level.TheVariants.{Warn as WarnLevel}
@@ -39,17 +39,17 @@ BarCall = Call Bar (Command NoTracker)
 abbrev pub Step : Type 0
 Step = Part BarCall Answer
 
--- a call whose answer is left open
+-- a call without an answer yet
 abbrev pub calling : BarCall → Step
 calling call = Called ((call, 0) ∷ []) []
 
--- a bar whose template is `{msg}`, and which says this
+-- a bar whose template is `{msg}`, with this message
 abbrev pub bar_saying : List ℕ → Bar
 bar_saying text =
     let made = new_bar (first_style TICKS.now (KeyText (codes "msg") plain_layout ∷ [])) None 0 in
     record made { progress = record made.progress { message = text } }
 
--- the board's bar of a number, counted from 0
+-- the board's bar with a number, counted from 0
 abbrev pub bar_at : ℕ → Id
 bar_at number = record { mark = 0; number = number }
 
@@ -63,7 +63,7 @@ call_on id Abandon = on.Tell id (bar.Finish AbandonFinish)
 call_on id Drop = on.Drop id
 call_on id Remove = on.Remove id
 
--- the step that a command stands for; none where it names bar 0 or one past 2 ^ 64 - 1, which there never are
+-- the step of a command; none if it names bar 0 or one past 2 ^ 64 - 1, which don't exist
 abbrev pub step_of : Spelled → Option Step
 step_of (Add text) = Some (calling (on.Insert End (New (bar_saying text))))
 step_of (Log text) = Some (calling (on.Log text))
@@ -81,15 +81,15 @@ machine = board (board_bars writes_nothing) 0
 abbrev pub sizing : Sizing machine
 sizing = board_sizing writes_nothing 0
 
--- the terminal at first
+-- the terminal at the start
 abbrev pub target_of : Asked → Target
 target_of asked = record { hidden = false; columns = asked.size.columns; rows = asked.size.rows }
 
--- the steps from the first on, which says where bars stand
+-- the steps, after a first one for the alignment
 abbrev pub script_of : Asked → List Step → List Step
 script_of asked steps = calling (on.Align (is_bottom asked.alignment)) ∷ steps
 
--- what they come to on a new board where nothing fails: the steps with their answers, and the board then
+-- the steps with their answers on a new board if nothing fails, and the board after them
 abbrev pub played : Asked → List Step → List Step × BoardState Bar
 played asked steps = script.played machine sizing (target_of asked) (script_of asked steps) (opening_board None)
 
@@ -109,19 +109,19 @@ SizesHaveCells [] = Unit {0}
 SizesHaveCells (Called calls answers ∷ steps) = SizesHaveCells steps
 SizesHaveCells (script.Size columns rows ∷ steps) = (0 < columns) × (0 < rows) × SizesHaveCells steps
 
--- how many columns there are after steps, from so many
+-- the number of columns after steps, from the given one
 abbrev pub columns_after : ℕ → List Step → ℕ
 columns_after w [] = w
 columns_after w (Called calls answers ∷ steps) = columns_after w steps
 columns_after w (script.Size columns rows ∷ steps) = columns_after columns steps
 
--- the rows that stand then
+-- the rows that stand after steps
 abbrev pub rows_after : Asked → List Step → List (List Cell)
 rows_after asked steps = all_rows (columns_after asked.size.columns steps) (played asked steps).1.lists
 
 -- ---- texts
 
--- the texts that a command gives consist of characters with a width and colour sequences
+-- the texts of a command consist of characters with a width and colour sequences
 abbrev pub IsPlainAction : Action → Type 0
 IsPlainAction (Message text) = IsPlainWithTabs text
 IsPlainAction _ = Unit {0}

@@ -20,12 +20,12 @@ up_to_last (text ∷ texts) = if list_all is_empty (text ∷ texts) then [] else
 abbrev pub printed : List (List ℕ) → List ℕ
 printed texts = flat_map (λ text. text ++ 0x0A ∷ []) (up_to_last texts)
 
--- what these words and these bytes of input ask for was played, and what a writer held grew by its picture
+-- what these words and this input request was played, and its picture was appended to what a writer got
 pub record Prints (words : List (List ℕ)) (input : List ℕ) (old new : Option (List ℕ)) : Type 0 where
-  -- the words ask for this terminal
+  -- the words request this terminal
   pub asked : Asked
   pub asked_is : asked_by words ≡ Some asked
-  -- the lines spell these commands, and they stand for these steps
+  -- the lines are these commands, with these steps
   pub commands : List Spelled
   pub commands_are : each spelled (lines_of input) ≡ Some commands
   pub steps : List Step
@@ -35,12 +35,12 @@ pub record Prints (words : List (List ℕ)) (input : List ℕ) (old new : Option
   pub sizes : SizesHaveCells steps
   -- and a board on it refuses none of the calls
   pub done : IsFalse (any_refused (played asked steps).0)
-  -- and where all texts are plain, exactly the texts of the rows that stand then were printed
+  -- and if all texts are plain, exactly the texts of the rows that stand at the end were printed
   pub shown : All IsPlain commands → Appends old new (printed (map row_text (rows_after asked steps)))
 
 -- ---- a run that ends early
 
--- a line of an input by its number, counted from 1, which stops at 2 ^ 64 - 1; the lines before it spell commands
+-- an input line with its number, counted from 1, up to 2^64 - 1; the lines before it are commands
 pub record IsInputLine (input : List ℕ) (number : ℕ) (line : List ℕ) : Type 0 where
   pub before : List (List ℕ)
   pub behind : List (List ℕ)
@@ -57,7 +57,7 @@ pub record IsPlayed (asked : Asked) (input : List ℕ) : Type 0 where
   pub steps_are : each step_of commands ≡ Some steps
   pub done : IsFalse (any_refused (played asked steps).0)
 
--- what is known where a run on such a terminal ended by a fault. Whether a read or a write failed, or memory was refused, nobody knows
+-- what is known if a run on such a terminal ended with a fault. Whether a read or a write failed, or memory was refused, isn't known
 abbrev pub EndsOn : Asked → Option (List ℕ) → Fault → Type 0
 EndsOn asked input Usage = ⊥
 EndsOn asked input (Refused refusal) = (refusal ≡ Memory) ⊎ ((refusal ≡ ZeroSize) × (HasCells asked.size → ⊥))
@@ -67,7 +67,7 @@ EndsOn asked input (Line number refusal) =
 EndsOn asked input Input = HasCells asked.size
 EndsOn asked input Output = HasCells asked.size × IfSome input (λ bytes. IsPlayed asked bytes)
 
--- the same of a run of these words: they ask for nothing, or for such a terminal
+-- what is known if a run of these words ended with a fault: they request nothing, or such a terminal
 abbrev pub EndsBy : List (List ℕ) → Option (List ℕ) → Fault → Type 0
 EndsBy words input Usage = asked_by words ≡ None
 EndsBy words input fault = (asked : Asked) × (asked_by words ≡ Some asked) × EndsOn asked input fault

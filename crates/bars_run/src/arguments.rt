@@ -1,4 +1,4 @@
-//! What the arguments of `bars run` ask for.
+//! The request of the arguments of `bars run`.
 ghost use Rattle.std.specs.Prelude.{◌≡◌, ◌^◌, map, option_map, string_bytes};
 ghost use Rattle.std.specs.Char.{is_ascii_digit};
 ghost use Rattle.std.specs.List.{list_all};
@@ -14,7 +14,7 @@ pub struct Size {
 }
 
 impl Size {
-    /// The size of these rows and columns, each one or more decimal digits, and at most 65,535; `None` of other words.
+    /// The size with these rows and columns, each one or more decimal digits, and at most 65,535; `None` for other words.
     pub fn spelt(rows: &str, columns: &str) -> Option<Size>
         ensures { result ≡ size_spelled rows.now columns.now }
     {
@@ -24,7 +24,7 @@ impl Size {
     }
 }
 
-/// A terminal's size, and where bars stand in what is taken back.
+/// A terminal's size, and where bars stand in the rows that a draw erases.
 #[derive(Clone, Copy, Drop)]
 pub struct Asked {
     pub size: Size,
@@ -32,7 +32,7 @@ pub struct Asked {
 }
 
 impl Asked {
-    /// What `run ROWS COLS` or `run ROWS COLS bottom` asks for; `None` of other words.
+    /// The request of `run ROWS COLS` or `run ROWS COLS bottom`; `None` for other words.
     pub fn by(args: &[String]) -> Option<Asked>
         ensures { result ≡ asked_by (map (λ word. string_bytes word) args.now) }
     {
@@ -49,7 +49,7 @@ impl Asked {
     }
 }
 
-/// The same, with the alignment read.
+/// The request, with this alignment.
 fn sized(
     run: &String,
     rows: &String,

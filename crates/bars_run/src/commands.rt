@@ -1,4 +1,4 @@
-//! What a line spells.
+//! The command of a line.
 ghost use Rattle.std.specs.Prelude.{◌≡◌, Some, option_map};
 ghost use Rattle.bars_run.specs.Arguments.{size_spelled};
 ghost use Rattle.bars_run.specs.Commands.{Resize, command_of, action_of as action_as, spelled, spelled_text, worded, word_of, rest_of, on_bar, action_named};
@@ -9,41 +9,41 @@ use std::str;
 /// A command of a line.
 #[derive(Clone, Copy, Drop)]
 pub enum Command<'a> {
-    /// A bar that says this.
+    /// Adds a bar with this message.
     Add(&'a str),
-    /// This text above the bars.
+    /// Logs this text above the bars.
     Log(&'a str),
-    /// This text above the bars, as a warning.
+    /// Logs this text above the bars, as a warning.
     Warn(&'a str),
-    /// The bars' rows taken back.
+    /// Erases the bars' rows.
     Clear,
-    /// Another size of the terminal.
+    /// Gives the terminal another size.
     Size(Size),
-    /// Something done to the bar of a number; `None` where that is past 2^64 - 1, which is no bar's.
+    /// An action on the bar with a number; `None` if that is past 2^64 - 1, which no bar has.
     Bar(Option<u64>, BarAction<'a>),
 }
 
-/// What is done to a bar.
+/// An action on a bar.
 #[derive(Clone, Copy, Drop)]
 pub enum BarAction<'a> {
-    /// It says this from now on.
+    /// Sets its message.
     Message(&'a str),
-    /// It ticks.
+    /// Ticks it.
     Tick,
-    /// It is finished.
+    /// Finishes it.
     Finish,
-    /// It is finished, and hidden.
+    /// Finishes and hides it.
     Hide,
-    /// It is finished where it is.
+    /// Finishes it where it is.
     Abandon,
-    /// Its owner is gone.
+    /// Marks it as ownerless.
     Drop,
-    /// It is taken out of the order.
+    /// Removes it from the order.
     Remove,
 }
 
 impl<'a> Command<'a> {
-    /// The command that a line spells, its newline left out; `None` where it is none, or no text.
+    /// The command of a line without its newline; `None` if it isn't one, or isn't UTF-8.
     pub fn spelt(line: &'a [u8]) -> Option<Command<'a>>
         ensures { option_map command_of result ≡ spelled line.now }
     {
@@ -54,7 +54,7 @@ impl<'a> Command<'a> {
     }
 }
 
-/// The command that a text spells.
+/// The command of a text.
 fn in_text<'a>(text: &'a str) -> Option<Command<'a>>
     ensures { option_map command_of result ≡ spelled_text text.now }
 {
@@ -67,7 +67,7 @@ fn in_text<'a>(text: &'a str) -> Option<Command<'a>>
     }
 }
 
-/// The word before the first space, and what stands behind that; a text without a space is all word.
+/// The word before the first space, and the text after it; a text without a space is all word.
 fn parted(text: &str) -> (&str, &str)
     ensures word { result.0.now ≡ word_of text.now }
     ensures rest { result.1.now ≡ rest_of text.now }
@@ -78,7 +78,7 @@ fn parted(text: &str) -> (&str, &str)
     }
 }
 
-/// The command of a word, with what stands behind the space.
+/// The command of a word, with the text after the space.
 fn with_rest<'a>(word: &str, rest: &'a str) -> Option<Command<'a>>
     ensures { option_map command_of result ≡ worded word.now rest.now }
 {
@@ -95,7 +95,7 @@ fn with_rest<'a>(word: &str, rest: &'a str) -> Option<Command<'a>>
     }
 }
 
-/// Another size of the terminal, which a text spells.
+/// The command for another size of the terminal, from its text.
 fn sizing(text: &str) -> Option<Command<'static>>
     ensures { option_map command_of result ≡ option_map Resize (size_spelled (word_of text.now) (rest_of text.now)) }
 {
@@ -106,7 +106,7 @@ fn sizing(text: &str) -> Option<Command<'static>>
     }
 }
 
-/// What a word does to a bar.
+/// The action of a word.
 fn action_of(word: &str) -> Option<BarAction<'static>>
     ensures { option_map action_as result ≡ action_named word.now }
 {
@@ -121,7 +121,7 @@ fn action_of(word: &str) -> Option<BarAction<'static>>
     }
 }
 
-/// A bar's command, where its number is one or more decimal digits.
+/// The command of a bar, if its number is one or more decimal digits.
 fn numbered<'a>(digits: &str, action: BarAction<'a>) -> Option<Command<'a>>
     ensures { option_map command_of result ≡ on_bar digits.now (Some (action_as action.entry)) }
 {

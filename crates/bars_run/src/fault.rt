@@ -1,15 +1,15 @@
-//! Why a run of the program `bars` ends before all of it is printed.
+//! Why a run of the program `bars` ends before everything is printed.
 ghost use Rattle.std.specs.Prelude.{◌≡◌};
 ghost use Rattle.bars_run.specs.Fault.{status_of};
 
 use indicatif_text::columns::Refusal;
 use std::fmt;
 
-/// What is said of wrong arguments.
+/// The message for wrong arguments.
 const USAGE: &str = "usage: bars demo | bars run ROWS COLS [bottom]";
 
-/// Why a run ended before its picture was printed. Its text is what the program says; the options of a hole, as a width in
-/// `{:>12}`, are ignored.
+/// Why a run ended before its picture was printed. Its text is the program's message; format options, such as a width in `{:>12}`, are
+/// ignored.
 ///
 /// ```
 /// let fault = Fault::Line(4, Refusal::NotMember);
@@ -18,22 +18,22 @@ const USAGE: &str = "usage: bars demo | bars run ROWS COLS [bottom]";
 /// ```
 #[derive(Clone, Copy, Drop)]
 pub enum Fault {
-    /// Arguments that ask for nothing.
+    /// Wrong arguments.
     Usage,
-    /// The line of this number, counted from 1, is no command.
+    /// The line with this number, counted from 1, isn't a command.
     BadCommand(u64),
-    /// The command in the line of this number was refused.
+    /// The command in the line with this number was refused.
     Line(u64, Refusal),
-    /// What belongs to no line was refused.
+    /// Something that belongs to no line was refused.
     Refused(Refusal),
     /// A read failed.
     Input,
-    /// A write of what is to be printed failed.
+    /// A write of the output failed.
     Output,
 }
 
 impl Fault {
-    /// The exit status: 1 where something was refused, else 2.
+    /// The exit status: 1 after a refusal, otherwise 2.
     pub fn status(&self) -> u8
         ensures { result ≡ status_of self.now }
     {

@@ -1,9 +1,9 @@
-//! What a run reads from.
+//! The input of a run.
 use std::io;
 use std::io::{ErrorKind, Read};
 
-/// A reader that never fails for want of memory: such a failure of the reader within is one of the input, as any other is, so
-/// that want of memory is always a line's that found no room.
+/// A reader that never fails for want of memory: such a failure of the inner reader counts as a failed input, like any other, so want of
+/// memory is always that of a line.
 #[derive(Drop)]
 pub struct Input<R: Drop>(pub R);
 

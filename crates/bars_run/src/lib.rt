@@ -1,13 +1,13 @@
 //! The program `bars run` over any reader and two writers. It plays commands, one on a line, on a board in memory.
 //!
-//! - `arguments`: what the arguments ask for.
+//! - `arguments`: the request of the arguments.
 //! - `cases`: worked cases of the definitions.
-//! - `commands`: what a line spells.
-//! - `input`: what is read, so that its failures are told apart from want of memory.
-//! - `laws`: what follows from the definitions.
-//! - `player`: the board, and what a command does on it.
+//! - `commands`: the command of a line.
+//! - `input`: the input, whose failures differ from want of memory.
+//! - `laws`: laws of the definitions.
+//! - `player`: the board, and the effect of a command on it.
 //! - `words`: the words of a command line.
-//! - `fault`: why a run ends before all of it is printed.
+//! - `fault`: why a run ends before everything is printed.
 #![tactic(auto)]
 
 mod arguments;
@@ -41,26 +41,24 @@ use std::alloc::Global;
 use std::io;
 use std::io::{BufRead, BufReader, ErrorKind, Read, Write};
 
-/// Does what the words behind the program's name ask for, all but the demo: `run ROWS COLS`, or `run ROWS COLS bottom`, plays
-/// the commands that it reads, one a line, on a board without bars, whose terminal has this size and is empty, and prints what
-/// stands there then, also what scrolled away: each row without the blanks at its end, up to the last one that isn't empty,
-/// each ended by a newline.
+/// Runs the program with the words after its name, except for the demo. `run ROWS COLS`, or `run ROWS COLS bottom`, plays the commands that
+/// it reads, one a line, on a board without bars, whose terminal has this size and is empty. It then prints the rows that stand there,
+/// including those that scrolled away: each without the blanks at its end, up to the last one that isn't empty, each ended by a newline.
 ///
-/// The commands are `add TEXT` (a bar that says so), `msg I TEXT`, `tick I`, `finish I`, `abandon I`, `hide I` (finished and
-/// hidden), `drop I`, `remove I`, `log TEXT`, `warn TEXT` (logged as a warning), `clear` and `size ROWS COLS` (another size of the
-/// terminal, its numbers as in the arguments). Bars are numbered from 1 as they are added. `TEXT` is the rest of the line, behind one
-/// space; it may be empty, and lacks its space then at will. A line ends at a newline, which the last one may lack.
+/// The commands are `add TEXT` (a bar with this message), `msg I TEXT`, `tick I`, `finish I`, `abandon I`, `hide I` (finished and hidden),
+/// `drop I`, `remove I`, `log TEXT`, `warn TEXT` (logged as a warning), `clear` and `size ROWS COLS` (another size of the terminal, with
+/// numbers as in the arguments). Bars are numbered from 1 as they are added. `TEXT` is the rest of the line, after one space; it may be
+/// empty, with or without the space. A line ends at a newline, which the last one may lack.
 ///
-/// The answer is the program's exit status. It is 0 where all was printed. Else what was wrong stands in `err`, as `Fault` says,
-/// with the status that it has, and the commands behind it aren't played. At status 0 nothing is written to `err`, at status 1
-/// nothing to `out`.
+/// It returns the program's exit status: 0 if everything was printed. Otherwise a message for the `Fault` is written to `err`, with the
+/// fault's status, and the following commands aren't played. With status 0 nothing is written to `err`, with status 1 nothing to `out`.
 ///
-/// At another status than 0 contracts name a fault that has it, and say where that one comes (`EndsBy`): words that ask for nothing, a
-/// size of 0, the first line that spells no command, a line that spells one, or all lines played. They don't know whether a read or a
+/// For any status other than 0, contracts name a fault with that status, and say where it comes from (`EndsBy`): words that request
+/// nothing, a size of 0, the first line that isn't a command, a line that is one, or all lines played. They don't say whether a read or a
 /// write failed or memory was refused, nor what `err` gets.
 ///
-/// Where the input tells its bytes, as a slice does, contracts know more at status 0 (`Prints`): the terminal has rows and columns,
-/// at first and after each size, each line spells a command, a board that plays them one after another refuses none, and, if their
+/// If the bytes of the input can be read in contracts, as those of a slice, these say more for status 0 (`Prints`): the terminal has rows
+/// and columns, at first and after each size, each line is a command, a board that plays them one after another refuses none, and, if their
 /// texts consist of characters with a width and colour sequences, exactly the texts of the rows that stand at the end were printed.
 ///
 /// ```
@@ -94,7 +92,7 @@ pub fn run_bars<R: Read + Drop, O: Write, E: Write>(
     }
 }
 
-/// Plays what is asked for, and prints the picture once all of it is known.
+/// Plays the request, and prints the picture once it is complete.
 fn shown<R: Read + Drop, O: Write>(
     alloc: Global,
     args: &[String],
@@ -130,7 +128,7 @@ fn played<R: Read + Drop>(alloc: Global, asked: Asked, input: R) -> Result<Vec<S
     Ok(rows)
 }
 
-/// The input, with room for what is read ahead of it.
+/// The input with a buffer.
 fn buffered<R: Read + Drop>(alloc: Global, input: R) -> Result<BufReader<Input<R>>, Fault>
     ensures remaining { IfOk result (λ reader. reader_remaining (λ given. R.remaining given.0) reader ≡ R.remaining input) }
     ensures fault { IfErr result (λ fault. fault ≡ Fault.Refused Refusal.Memory) }
@@ -159,7 +157,7 @@ fn play<R: BufRead + Drop>(alloc: Global, player: &mut Player, input: R) -> Resu
     Ok(())
 }
 
-/// Plays one line, of this number.
+/// Plays the line with this number.
 fn play_line(player: &mut Player, number: u64, line: &[u8]) -> Result<(), Fault>
     ensures played { OnOk result ((command : Spelled) × (spelled line.now ≡ Some command) × Obeys command player.old.board player.new.board) }
     ensures fault { IfErr result (λ fault. LineEnds number line.now fault) }
@@ -173,7 +171,7 @@ fn play_line(player: &mut Player, number: u64, line: &[u8]) -> Result<(), Fault>
     }
 }
 
-/// Why the line of this number couldn't be read: it found no room, or the input failed.
+/// Why the line with this number couldn't be read: there was no memory for it, or the input failed.
 fn unread(number: u64, e: &io::Error) -> Fault
     ensures { (result ≡ Fault.Line number Refusal.Memory) ⊎ (result ≡ Fault.Input) }
 {

@@ -1,4 +1,4 @@
-//! A board in memory, and what a command does on it.
+//! A board in memory, and the effect of a command on it.
 ghost use Rattle.std.specs.Prelude.{◌≡◌, ◌⊎◌, ℕ, suc, [], map, Some, IfErr, IfOk, IfSome, OnOk, string_bytes};
 ghost use Rattle.indicatif_term.specs.Memory.{view_of};
 ghost use Rattle.indicatif_term.specs.Pictures.{picture_text};
@@ -27,7 +27,7 @@ use indicatif_text::laws::template_or_refused;
 use log::Level;
 use std::alloc::Global;
 
-/// A board on a terminal in memory, without a limiter, and how many bars it was given. All happens at the moment 0.
+/// A board on a terminal in memory, without a limiter, and its number of bars. Everything happens at the moment 0.
 #[derive(Drop)]
 pub struct Player {
     alloc: Global,
@@ -38,13 +38,13 @@ pub struct Player {
 /// The board's mark; there is no other board.
 const MARK: u64 = 0;
 
-/// When all happens.
+/// The moment of all calls.
 const NOW: Moment = 0;
 
 impl Player {
     /// A board without bars on an empty terminal.
     ///
-    /// Refused: `ZeroSize` where the terminal would have no cells, or `Memory`.
+    /// Refused: `ZeroSize` if the terminal would have no cells, or `Memory`.
     pub fn new(alloc: Global, asked: Asked) -> Result<Player, Refusal>
         ensures played { IfOk result (λ player. HasPlayed asked [] player.board) }
         ensures refused { IfErr result (λ e. (e ≡ Refusal.Memory) ⊎ ((e ≡ Refusal.ZeroSize) × (HasCells asked.size → ⊥))) }
@@ -60,9 +60,9 @@ impl Player {
         Ok(player)
     }
 
-    /// Does what a command says.
+    /// Makes a command.
     ///
-    /// Refused: what the board refuses, `NotMember` also for a number that was never given, and `Memory`.
+    /// Refused: as the board, `NotMember` also for a number that was never given, and `Memory`.
     pub fn obey(&mut self, command: Command<'_>) -> Result<(), Refusal>
         ensures { OnOk result (Obeys (command_of command.entry) self.old.board self.new.board) }
     {
@@ -102,14 +102,14 @@ impl Player {
         }
     }
 
-    /// Another size of the terminal.
+    /// Gives the terminal another size.
     fn resize(&mut self, size: Size) -> Result<(), Refusal>
         ensures { OnOk result (Makes (NewSize size.columns size.rows) self.old.board self.new.board) }
     {
         self.board.resize(size.rows, size.columns)
     }
 
-    /// A bar that says this.
+    /// Adds a bar with this message.
     fn add(&mut self, text: &str) -> Result<(), Refusal>
         ensures { OnOk result (Obeys (Add text.now) self.old.board self.new.board) }
     {
@@ -120,7 +120,7 @@ impl Player {
         })
     }
 
-    /// This text above the bars.
+    /// Logs this text above the bars.
     fn log(&mut self, text: &str) -> Result<(), Refusal>
         ensures { OnOk result (Obeys (Log text.now) self.old.board self.new.board) }
     {
@@ -128,7 +128,7 @@ impl Player {
         self.make(Call::Log(line))
     }
 
-    /// The same as a warning.
+    /// Logs a text as a warning.
     fn warn(&mut self, text: &str) -> Result<(), Refusal>
         ensures { OnOk result (Obeys (Warn text.now) self.old.board self.new.board) }
     {
@@ -136,7 +136,7 @@ impl Player {
         self.make(Call::Log(line))
     }
 
-    /// An action on the bar of a number.
+    /// Makes an action on the bar with a number.
     fn tell(&mut self, number: Option<u64>, action: BarAction<'_>) -> Result<(), Refusal>
         ensures { OnOk result (Obeys (OfBar number (action_of action.entry)) self.old.board self.new.board) }
     {
@@ -145,7 +145,7 @@ impl Player {
         self.make(call)
     }
 
-    /// The bar of this number, counted from 1.
+    /// The bar with this number, counted from 1.
     fn id_of(&self, number: Option<u64>) -> Result<BarId, Refusal>
         ensures { IfOk result (λ id. (n : ℕ) × (number ≡ Some (suc n)) × (id_of id ≡ bar_at n)) }
     {
@@ -159,7 +159,7 @@ impl Player {
     }
 }
 
-/// The line of a log that warns.
+/// The log line of a warning.
 fn warning(alloc: Global, text: &str) -> Result<String, Refusal>
     ensures { IfOk result (λ line. string_bytes line ≡ bridge_bytes Level.Warn text.now) }
 {
@@ -168,7 +168,7 @@ fn warning(alloc: Global, text: &str) -> Result<String, Refusal>
     Ok(line)
 }
 
-/// The board's call for what is done to a bar.
+/// The board's call for an action on a bar.
 fn bar_call(alloc: Global, id: BarId, action: BarAction<'_>) -> Result<Call<NoTracker>, Refusal>
     ensures { IfOk result (λ call. call_as call ≡ call_on (id_of id) (action_of action.entry)) }
 {
@@ -184,7 +184,7 @@ fn bar_call(alloc: Global, id: BarId, action: BarAction<'_>) -> Result<Call<NoTr
     Ok(Call::Bar(id, command))
 }
 
-/// A bar that shows its message, which is this.
+/// A bar that shows this message.
 fn bar_saying(alloc: Global, text: &str) -> Result<BarState<NoTracker>, Refusal>
     ensures { IfOk result (λ bar. bar ≡ saying text.now) }
 {

@@ -5,9 +5,9 @@ use std::env;
 use std::env::Env;
 use std::io::ErrorKind;
 
-/// The words behind the program's name; none where one of them is no text.
+/// The words after the program's name; none if one of them isn't UTF-8.
 ///
-/// Refused: `Memory` where there is no room for them.
+/// Refused: `Memory`.
 pub fn words<R: Env + Alloc<A = Global>>(rt: &R) -> Result<Vec<String>, Refusal> {
     match env::args(rt) {
         Ok(words) => Ok(words.skip(1).collect(rt.alloc())?),

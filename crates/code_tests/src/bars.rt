@@ -1,4 +1,4 @@
-//! What crosses threads, and a terminal in a box.
+//! Which types cross threads, and a terminal in a box.
 use crate::checks::Granted;
 use crate::fronts::{Bar, Shared};
 use indicatif::{
@@ -23,10 +23,10 @@ fn a_boxed_terminal(rt: HostRuntime) {
     same!(rt; bar.position(), 2);
 }
 
-/// What may go to another thread, and be used by several.
+/// Types that may go to another thread, and be used by several.
 fn crosses<X: Send + Sync>() {}
 
-/// A test of the crate `indicatif` 0.18.6: what is shared may go to another thread, and be used by several.
+/// A test of the crate `indicatif` 0.18.6: shared types may go to another thread, and be used by several.
 #[test]
 fn progress_bar_sync_send(rt: HostRuntime) {
     crosses::<Bar<HostRuntime>>();

@@ -1,4 +1,4 @@
-//! Lines above bars, or beside them where they are hidden.
+//! Lines above bars, or beside them if they are hidden.
 use crate::checks::Granted;
 use crate::fronts::{Bar, Shared, alone, bar_on, bar_shows, board_shows, recorded, setup};
 use indicatif::bridge::{LogBridge, StderrLogger, logger_above};
@@ -16,7 +16,7 @@ use std::io::{self, ErrorKind, Write};
 use std::process::Abort;
 use std::sync::Wait;
 
-/// What was written, as a text.
+/// Ends the test if something else was written.
 fn is_written<R: Abort>(rt: &R, out: &Vec<u8>, wanted: &str) {
     same!(rt; out.as_slice(), wanted.as_bytes());
 }
@@ -35,7 +35,7 @@ impl Write for Gone {
     }
 }
 
-/// A shared bar: above it, nothing is written elsewhere; once it is hidden, each text is written whole, with a line end.
+/// A shared bar: above it, nothing is written elsewhere; once it is hidden, each text is written as a whole, with a line end.
 #[test]
 fn lines_of_a_bar(rt: HostRuntime) {
     let rt = &rt;
@@ -57,7 +57,7 @@ fn bar_lines<R: Wait + Copy + Clone + Drop + Abort>(rt: &R, bar: &Bar<R>, alloc:
     same!(rt; bar.println_or("d", &mut Gone), refused);
 }
 
-/// The same of a board.
+/// A shared board: above it, nothing is written elsewhere; once it is hidden, each text is written as a whole, with a line end.
 #[test]
 fn lines_of_a_board(rt: HostRuntime) {
     let rt = &rt;
@@ -73,7 +73,7 @@ fn board_lines<R: Wait + Copy + Clone + Drop + Abort>(rt: &R, board: &Shared<R>,
     board_shows(rt, board, "a.txt");
 }
 
-/// A board that nothing is drawn of.
+/// A hidden board.
 fn hidden_board<R: Wait + Copy + Clone + Drop + Abort>(rt: &R, alloc: Global) -> Shared<R> {
     let mut setup = setup(rt, alloc, 10);
     setup.target = ProgressDrawTarget::hidden();
@@ -119,7 +119,7 @@ fn nine<R: Abort>(rt: &R, alloc: Global, template: &str) -> BarState<NoTracker> 
     BarState::styled(alloc, style, Some(9), 0).granted(rt)
 }
 
-/// Ends the test where another line is due of a bar at this moment; an empty text is none.
+/// Ends the test if another line of a bar is due at this moment; an empty text is none.
 fn is_due<R: Abort>(
     rt: &R,
     lines: &mut PlainLines,
@@ -150,7 +150,7 @@ fn plain_lines_come_now_and_then(rt: HostRuntime) {
     is_due(rt, &mut lines, (&bar, 99), "");
 }
 
-/// A shared bar on a terminal is told no line; once it is hidden, each call reads its clock, which goes on by one.
+/// A shared bar on a terminal has no plain line; once it is hidden, each call reads its clock, which advances by one.
 #[test]
 fn a_hidden_bar_is_told(rt: HostRuntime) {
     let rt = &rt;
@@ -171,7 +171,7 @@ fn bar_is_told<R: Wait + Copy + Clone + Drop + Abort>(rt: &R, bar: &Bar<R>, allo
     same!(rt; bar.tell_line(&mut lines, &mut Gone), refused);
 }
 
-/// The same of a bar on a board that is hidden.
+/// A bar on a hidden board has plain lines.
 #[test]
 fn a_bar_of_a_hidden_board_is_told(rt: HostRuntime) {
     let rt = &rt;
@@ -184,7 +184,7 @@ fn a_bar_of_a_hidden_board_is_told(rt: HostRuntime) {
     is_written(rt, &out, "x\n");
 }
 
-/// A bar that stands alone and is hidden, and its line.
+/// A hidden bar that stands alone, and its line.
 #[test]
 fn a_lone_bar_is_told(rt: HostRuntime) {
     let rt = &rt;
@@ -201,7 +201,7 @@ fn a_lone_bar_is_told(rt: HostRuntime) {
 
 // ---- a bar that goes on
 
-/// The steps of the rate, five after the work went on.
+/// The steps of the rate, five after the work continued.
 fn goes_on<R: Wait + Copy + Clone + Drop>(bar: Bar<R>) -> Result<u64, Refusal> {
     let bar = bar.with_position(80)?.with_elapsed(60_000_000_000)?;
     bar.tick()?;
@@ -224,7 +224,7 @@ fn a_resumed_bar(rt: HostRuntime) {
 
 // ---- another target
 
-/// A bar and a board take their rows back, and draw nowhere from then on.
+/// A bar and a board clear their rows, and are hidden from then on.
 fn go_away<R: Wait + Copy + Clone + Drop>(bar: &Bar<R>, board: &Shared<R>) -> Result<(), Refusal> {
     bar.move_to(ProgressDrawTarget::hidden())?;
     board.move_to(ProgressDrawTarget::hidden())?;
@@ -243,7 +243,7 @@ fn gone_from_their_terminals(rt: HostRuntime) {
 
 // ---- bars of standard error
 
-/// A bar in a style. It is hidden where standard error is no terminal.
+/// A bar in a style. It is hidden if standard error is no terminal.
 fn styled<R: Shares>(rt: R, host: &HostRuntime) -> Result<u64, Refusal> {
     let style: ProgressStyle<NoTracker> = ProgressStyle::default_bar(rt.alloc())?;
     let bar = styled_on_stderr(rt, host, style, Some(100))?;
@@ -252,7 +252,7 @@ fn styled<R: Shares>(rt: R, host: &HostRuntime) -> Result<u64, Refusal> {
     Ok(bar.position())
 }
 
-/// A bar that a board takes in, and its logger.
+/// A bar that a board inserts, and its logger.
 fn taken_in<R: Shares>(rt: R, host: &HostRuntime) -> Result<u64, Refusal> {
     let board = MultiProgress::new(rt, rt.alloc(), on_stderr(host)?, 1)?;
     let bar = board.add(hidden_bar(rt, host)?)?;
@@ -268,7 +268,7 @@ fn copy<R: Shares>(log: &StderrLogger<R>) {
     info!(log; "copied a.txt");
 }
 
-/// A sink that drops records where the board is hidden, in its type.
+/// A sink that drops records if the board is hidden, in its type.
 type Logger<R> = Logged<R, LogBridge<StderrTerm, MachineClock<HostRuntime>, R>>;
 
 fn dropping<R: Shares>(rt: R, host: &HostRuntime) -> Result<Logger<R>, Refusal> {

@@ -1,5 +1,5 @@
-//! Boards that threads share and that keep their history: a fresh board that makes the calls that were kept gives the same answers and
-//! the same picture.
+//! Boards that threads share and that keep their history: a new board that makes the kept calls gives the same answers and the same
+//! picture.
 use crate::checks::Granted;
 use crate::fronts::{Bar, Shared, bar_on, recorded};
 use crate::recordings::{Kind, counted, is_one_run};
@@ -63,7 +63,7 @@ fn a_board_crosses_threads(rt: HostRuntime) {
 
 // ---- a ticker
 
-/// How often the bars' tickers ticked, and how often one was set and told off.
+/// How often the bars' tickers ticked, and how often one was enabled and disabled.
 fn of_tickers<R: Wait + Copy + Clone + Drop>(board: &Shared<R>) -> (u64, u64, u64) {
     (
         counted(board, Kind::TickerTick),
@@ -72,8 +72,8 @@ fn of_tickers<R: Wait + Copy + Clone + Drop>(board: &Shared<R>) -> (u64, u64, u6
     )
 }
 
-/// A board that is suspended beside a ticker draws again; the history has the ticker's ticks, and no more once it is told off. What
-/// programmers are shown of the board is its name.
+/// A board that is suspended beside a ticker draws again; the history has the ticker's ticks, and no more once it is disabled. The board's
+/// `Debug` shows its name.
 #[test]
 fn a_pause_beside_a_ticker(rt: HostRuntime) {
     let rt = &rt;
@@ -96,12 +96,12 @@ fn a_pause_beside_a_ticker(rt: HostRuntime) {
 
 const LOST: Option<Refusal> = Some(Refusal::NotMember);
 
-/// Another owner of a bar, which a builder gives up.
+/// Another owner of a bar, which a builder drops.
 fn owner<R: Wait + Copy + Clone + Drop + Abort>(rt: &R, bar: &Bar<R>) -> Bar<R> {
     bar.clone().expect(rt, "granted")
 }
 
-/// The board of this bar hasn't it: what the bar is told is refused, also where no draw is asked.
+/// The board of this bar hasn't it: each command is refused, also one that asks for no draw.
 fn is_lost<R: Wait + Copy + Clone + Drop + Abort>(rt: &R, bar: &Bar<R>) {
     same!(rt; bar.tick().err(), LOST);
     same!(rt; owner(rt, bar).with_position(3).err(), LOST);
@@ -111,7 +111,7 @@ fn is_lost<R: Wait + Copy + Clone + Drop + Abort>(rt: &R, bar: &Bar<R>) {
     same!(rt; (bar.is_finished(), bar.tab_width()), (true, 8));
 }
 
-/// A removal of the other board's bar takes out the bar here that has its number.
+/// Removing the other board's bar removes the bar here that has its number.
 #[test]
 fn a_bar_that_its_board_has_lost(rt: HostRuntime) {
     let rt = &rt;

@@ -1,4 +1,4 @@
-//! Lines of a log above the bars of a board that threads share: what reaches the board's history and its terminal.
+//! Lines of a log above the bars of a board that threads share: the calls in the board's history, and the rows on its terminal.
 use crate::checks::Granted;
 use crate::fronts::{self, Bar, Shared, bar_on, recorded, setup};
 use crate::recordings::{Kind, counted, is_one_run};
@@ -85,7 +85,7 @@ fn on_each_line<R: Wait + Copy + Clone + Drop + Abort>(rt: R, board: &Shared<R>)
     log_each_level(&Logged::new(*rt, Level::Trace, bridge));
 }
 
-/// A line of a caller's own form: the text alone.
+/// Your own form of a line: the text alone.
 #[derive(Drop)]
 struct TextAlone;
 
@@ -101,7 +101,7 @@ fn in_own_form<R: Wait + Copy + Clone + Drop + Abort>(rt: R, board: &Shared<R>) 
     log_each_level(&Logged::new(*rt, Level::Trace, bridge));
 }
 
-/// A form that finds no memory for a line.
+/// A form that gets no memory for a line.
 #[derive(Drop)]
 struct NoRoom;
 
@@ -151,8 +151,8 @@ fn log_two<L: Log>(rt: &L) {
     warn!(rt; target: "db", left = 2u32; "a\nb");
 }
 
-/// Spans stand before the message and pairs behind it, above the bars. Once the board is hidden, records go whole to the other sink, which
-/// has none of those that stand above bars; none is missed.
+/// Spans stand before the message and pairs behind it, above the bars. Once the board is hidden, whole records go to the other sink, which
+/// gets none of those above the bars; none is missed.
 #[test]
 fn a_hidden_board_hands_records_on(rt: HostRuntime) {
     let rt = &rt;
@@ -189,7 +189,7 @@ fn logs_when_hidden<R: Wait + Copy + Clone + Drop + Abort>(rt: &R, alloc: Global
     is_line(rt, texts.last(), "[WARN  db] a\nb left=2");
 }
 
-/// There is a line, of this text.
+/// Ends the test if there is no line, or another one.
 fn is_line<R: Abort>(rt: &R, line: Option<&String>, wanted: &str) {
     match line {
         Some(text) => same!(rt; text.as_str(), wanted),
@@ -199,7 +199,7 @@ fn is_line<R: Abort>(rt: &R, line: Option<&String>, wanted: &str) {
 
 // ---- a terminal that fails
 
-/// The cells of a terminal, and how many writes go well before one fails.
+/// The cells of a terminal, and how many writes succeed before one fails.
 #[derive(Drop)]
 struct Wire {
     cells: Cells,
@@ -284,7 +284,7 @@ fn tick(board: &mut Own) -> Result<Drawn, Refusal> {
     board.command(BarId { mark: 1, number }, BarCommand::Tick, 0)
 }
 
-/// Ends the test where something else stands on the board's terminal.
+/// Ends the test if something else stands on the board's terminal.
 fn shows<R: Abort>(rt: &R, board: &Own, wanted: &str) {
     let text = fronts::contents(board.term()).granted(rt);
     same!(rt; text.as_str(), wanted);

@@ -1,4 +1,4 @@
-//! Tests of the crate `indicatif` 0.18.6 on keys of the caller's own, each under its own name and with its own values.
+//! Tests of the crate `indicatif` 0.18.6 on keys of your own, each under its own name and with its own values.
 ghost use Rattle.std.specs.Prelude.{false, true, List, [], ◌++◌, if◌then◌else◌, codes, decimal, unwrap_or};
 
 use crate::checks::Granted;
@@ -9,7 +9,7 @@ use indicatif::{BarState, FnTracker, Moment, ProgressState, ProgressStyle, Refus
 use std::alloc::Global;
 use std::process::Abort;
 
-/// Tells this text.
+/// Gives this text.
 #[derive(Drop)]
 pub struct Says {
     pub alloc: Global,
@@ -24,10 +24,10 @@ impl TellsText for Says {
     }
 }
 
-/// A key that tells it.
+/// A key with that text.
 pub type Telling = FnTracker<Says>;
 
-/// The keys `foo` and `bar` make this line of a template.
+/// Ends the test if the keys `foo` and `bar` give another line for a template.
 fn expands<R: Abort>(rt: &R, alloc: Global, template: &str, wanted: &str) {
     let look = look(rt, alloc, (template, false));
     let look = saying(rt, alloc, look, ("foo", "FOO"));
@@ -44,7 +44,7 @@ fn test_expand_template(rt: HostRuntime) {
     expands(rt, alloc, json, r#"{ "foo": "FOO", "bar": BAR }"#);
 }
 
-/// The key `foo` makes this line of a template, with colours or without.
+/// Ends the test if the key `foo` gives another line for a template, with colours or without.
 fn expands_flags<R: Abort>(rt: &R, alloc: Global, template: (&str, bool), wanted: &str) {
     let look = look(rt, alloc, template);
     let look = saying(rt, alloc, look, ("foo", "XXX"));
@@ -68,7 +68,7 @@ fn test_expand_template_flags(rt: HostRuntime) {
     }
 }
 
-/// The crate tells two streams' colours apart; here a style is told whether it has colours.
+/// The crate has colours for each of two streams; here a style has colours or not.
 #[test]
 fn test_stderr_colors(rt: HostRuntime) {
     let rt = &rt;
@@ -131,7 +131,7 @@ fn tracked<R: Abort>(rt: &R, alloc: Global) -> BarState<TestTracker> {
     BarState::styled(alloc, style, Some(1), 0).expect(rt, "granted")
 }
 
-/// The bar's one line is this, on 16 columns.
+/// Ends the test if the bar's one line is another one, on 16 columns.
 fn is_line<R: Abort>(rt: &R, bar: &BarState<TestTracker>, wanted: &str) {
     is_shown(rt, &bar.lines(0, 16).granted(rt), wanted);
 }

@@ -1,27 +1,27 @@
-//! What a test expects. A check is one call, which ends the test where it doesn't hold: that is proved much faster than std's
-//! `assert_eq!`, which is a branch at each place. It prints both values, and the runner the test's name. It names no expression,
-//! since each text in a test takes as long to prove as the rest of the check.
+//! What a test expects. A check is one call, which ends the test if it doesn't hold: that is proved much faster than std's `assert_eq!`,
+//! which is a branch at each place. It prints both values, and the runner the test's name. It names no expression, since each text in a
+//! test takes as long to prove as the rest of the check.
 use std::fmt::Debug;
 use std::process::Abort;
 
-/// Ends the test where the two differ.
+/// Ends the test if the two differ.
 pub fn are_same<R: Abort, A: PartialEq + Debug + Drop>(rt: &R, got: A, wanted: A) {
     if got != wanted {
         panic!(*rt; "got {got:?}, wanted {wanted:?}")
     }
 }
 
-/// Ends the test where this doesn't hold.
+/// Ends the test if this doesn't hold.
 pub fn is_so<R: Abort>(rt: &R, holds: bool) {
     if !holds {
         panic!(*rt; "a check doesn't hold")
     }
 }
 
-/// What a test is sure to get. A test calls `expect` where a call below it asks something of the value, and for a value whose type has
-/// parameters, as a shared bar: there a trait's call takes longer to prove.
+/// A result that a test relies on. A test calls `expect` if a later call requires something of the value, and for a value whose type has
+/// parameters, such as a shared bar: there a trait's call takes longer to prove.
 pub trait Granted<T> {
-    /// The value; ends the test where there is none.
+    /// The value; ends the test if there is none.
     fn granted<R: Abort>(self, rt: &R) -> T;
 }
 

@@ -1,4 +1,4 @@
-//! Closures that a bar calls: the lock is held meanwhile, so that nobody else's call comes between.
+//! Closures that a bar calls: the lock is held meanwhile, so no other call comes between.
 use crate::fronts::{Bar, alone, bar_on, recorded};
 use indicatif::{Change, ProgressState};
 use std::process::Abort;
@@ -7,7 +7,7 @@ use std::thread::{Threads, join};
 
 // ---- updates
 
-/// One further.
+/// One step further.
 fn further(state: &ProgressState) -> Change {
     Change {
         pos: Some(state.pos().wrapping_add(1)),
@@ -15,7 +15,7 @@ fn further(state: &ProgressState) -> Change {
     }
 }
 
-/// Sets the position that the bar has, and one more, so many times; how often it was refused.
+/// Sets the position to the current one plus 1, `times` times; how often it was refused.
 fn updates<R: Wait + Copy + Clone + Drop>(bar: &Bar<R>, times: u32) -> u32 {
     let mut refused: u32 = 0;
     for _ in 0..times {

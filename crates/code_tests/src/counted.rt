@@ -1,4 +1,4 @@
-//! Bars that are shared, and the threads that count for them.
+//! Shared bars, and the threads that count for them.
 ghost use Rattle.std.specs.Prelude.{◌≡◌};
 
 use crate::checks::Granted;
@@ -19,7 +19,7 @@ fn bar_at<R: Wait + Copy + Clone + Drop + Abort>(rt: R, alloc: Global, position:
     bar
 }
 
-/// Of 1 and 2, from 2^64 - 2 on.
+/// Absorbs 1 and 2, from 2^64 - 2 on.
 #[test]
 fn a_bar_absorbs_past_2_to_the_64(rt: HostRuntime) {
     let rt = &rt;
@@ -47,7 +47,7 @@ fn a_thousand_times(done: &Done, mut worker: BarWorker) -> BarWorker
     worker
 }
 
-/// The bar goes on once their sum is taken in, not before.
+/// The bar advances when it absorbs their sum, not before.
 #[test]
 fn two_threads_count_for_a_bar(rt: HostRuntime) {
     let rt = &rt;

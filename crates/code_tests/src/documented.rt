@@ -1,4 +1,4 @@
-//! The examples of the libraries' documentation that say what comes. Those here have an assert in their comment.
+//! The examples of the libraries' documentation with a result. Those here have an assert in their comment.
 //!
 //! - `texts`: others of `indicatif_text`. `memory`, `engines`, `targets`: of `indicatif_term`.
 //! - `records`, `lone`: of `indicatif_bar`. `boards`: of `indicatif_board`; those of its histories are in `histories`, beside this module.
@@ -163,7 +163,7 @@ fn templates(rt: HostRuntime) {
         Some(TemplateError::WidthTooLarge));
 }
 
-/// A template has the lines `a` and `b`.
+/// Ends the test if a template hasn't the lines `a` and `b`.
 fn are_two_lines(rt: &impl Abort, lines: &Template) {
     same!(rt; lines.part_count(), 3);
     holds!(rt; lines.part(2) == Some(Part::Literal("b")));

@@ -1,8 +1,8 @@
-//! The examples of the documentation comments of crate `indicatif` that no other test has, each with what it gives.
-//! `tools/pages.py` looks for an example's lines in each file of the tests.
+//! The examples of the documentation comments of the crate `indicatif` that no other test has, each with its result. `tools/pages.py` looks
+//! for an example's lines in each file of the tests.
 //!
-//! - `bars`: shared bars. `several`: a board and its history. `wrappers`: what a bar wraps. `machine`: what is asked of the machine.
-//! - `places`: where wrapped readers stand.
+//! - `bars`: shared bars. `several`: a board and its history. `wrappers`: what a bar wraps. `machine`: the module `machine`.
+//! - `places`: the places of wrapped readers.
 mod bars;
 mod machine;
 mod places;

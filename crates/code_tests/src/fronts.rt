@@ -1,5 +1,5 @@
-//! Bars and boards for tests, on terminals in memory of 4 rows and 10 columns, by clocks that go on by 1 with each reading; and what
-//! stands on such terminals. Their calls have no clauses, so that a test of many calls is proved call by call.
+//! Bars and boards for tests, on terminals in memory of 4 rows and 10 columns, with clocks that advance by 1 with each reading; and the
+//! rows on such terminals. Their calls have no clauses, so that a test of many calls is proved call by call.
 use crate::checks::Granted;
 use indicatif::style::Tracks;
 use indicatif::{
@@ -10,12 +10,12 @@ use std::alloc::Global;
 use std::process::Abort;
 use std::sync::Wait;
 
-/// A bar that is shared.
+/// A shared bar.
 pub type Bar<R> = ProgressBar<InMemoryTerm, StepClock, R>;
 
-/// A shared bar in a type of the tests' own, which moves as the bar does, but keeps the default `place_after`. So a wrapper reads its
-/// place and sets it in two steps. Generic code that goes along with any bar is proved in a tenth of the time with it: the prover
-/// compares an instance of a library's type by all that it owns.
+/// A shared bar in the tests' own type, which moves as the bar does, but keeps the default `place_after`. So a wrapper reads its place and
+/// sets it in two steps. Generic code over any bar is proved in a tenth of the time with it: the prover compares an instance of a library's
+/// type by everything that it owns.
 #[derive(Drop)]
 pub struct Led<R: Wait + Clone + Drop> {
     pub bar: Bar<R>,
@@ -53,7 +53,7 @@ pub fn another_of<R: Wait + Copy + Clone + Drop + Abort>(rt: &R, bar: &Bar<R>) -
     Led { bar }
 }
 
-/// A board that is shared.
+/// A shared board.
 pub type Shared<R> = MultiProgress<InMemoryTerm, StepClock, R>;
 
 /// A terminal with nothing on it.
@@ -61,7 +61,7 @@ pub fn target(alloc: Global) -> Result<ProgressDrawTarget<InMemoryTerm>, Refusal
     Ok(ProgressDrawTarget::term_like(InMemoryTerm::new(alloc, 4, 10)?))
 }
 
-/// A terminal of 4 rows and so many columns, and a clock.
+/// A terminal of 4 rows and `cols` columns, and a clock.
 pub fn setup<R: Abort>(rt: &R, alloc: Global, cols: u16) -> Setup<InMemoryTerm, StepClock> {
     let term = InMemoryTerm::new(alloc, 4, cols).granted(rt);
     let setup = Setup {
@@ -71,7 +71,7 @@ pub fn setup<R: Abort>(rt: &R, alloc: Global, cols: u16) -> Setup<InMemoryTerm, 
     setup
 }
 
-/// A board of the mark 1 that keeps its history.
+/// A board with the mark 1 that keeps its history.
 pub fn recorded<R: Wait + Copy + Clone + Drop + Abort>(rt: R, alloc: Global) -> Shared<R> {
     let rt = &rt;
     let Setup { target, clock } = setup(rt, alloc, 10);
@@ -90,7 +90,7 @@ pub fn alone<R: Wait + Copy + Clone + Drop + Abort>(
     ProgressBar::styled(*rt, alloc, style, None, setup).expect(rt, "granted")
 }
 
-/// A bar behind all others of a board, whose one line is this text, which has no keys.
+/// A bar after all others of a board, whose one line is this text, which has no keys.
 pub fn bar_on<R: Wait + Copy + Clone + Drop + Abort>(
     board: &Shared<R>,
     rt: R,
@@ -102,12 +102,12 @@ pub fn bar_on<R: Wait + Copy + Clone + Drop + Abort>(
     board.add(bar).expect(rt, "granted")
 }
 
-/// What stands on a terminal.
+/// The contents of a terminal.
 pub fn contents(term: Option<&InMemoryTerm>) -> Option<String> {
     term?.contents().ok()
 }
 
-/// Ends the test where something else stands on a bar's terminal.
+/// Ends the test if something else stands on a bar's terminal.
 pub fn bar_shows<C: Clock + Drop, R: Wait + Clone + Drop + Abort, K: Tracks>(
     rt: &R,
     bar: &ProgressBar<InMemoryTerm, C, R, K>,
@@ -117,7 +117,7 @@ pub fn bar_shows<C: Clock + Drop, R: Wait + Clone + Drop + Abort, K: Tracks>(
     same!(rt; text.as_str(), wanted);
 }
 
-/// Ends the test where something else stands on a board's terminal.
+/// Ends the test if something else stands on a board's terminal.
 pub fn board_shows<C: Clock + Drop, R: Wait + Clone + Drop + Abort, K: Tracks>(
     rt: &R,
     board: &MultiProgress<InMemoryTerm, C, R, K>,

@@ -7,7 +7,7 @@ use std::sync::atomic::{AtomicU64, Ordering};
 use std::thread::sleep;
 use std::time::{Clock, Duration};
 
-/// Holds nobody. (This is the example of `Gate`.)
+/// Lets every piece pass. (This is the example of `Gate`.)
 #[derive(Drop)]
 pub struct Open;
 
@@ -15,7 +15,7 @@ impl Gate for Open {
     fn pass(&self, piece: usize) {}
 }
 
-/// Counts who passes, who is at work, and how many were so at the same time at most.
+/// Counts how many pass, how many are at work, and the most that were at work at the same time.
 #[derive(Drop)]
 pub struct AtWork {
     pub passed: AtomicU64,
@@ -48,7 +48,7 @@ impl Gate for AtWork {
     }
 }
 
-/// So many counts of 0.
+/// `count` counts of 0.
 pub fn counts<R: Abort>(rt: &R, alloc: Global, count: u32) -> Vec<AtomicU64> {
     let mut counts = Vec::new(alloc);
     for _ in 0..count {
@@ -64,7 +64,7 @@ pub struct Roll {
 }
 
 impl Roll {
-    /// For so many pieces.
+    /// For the given number of pieces.
     pub fn of<R: Abort>(rt: &R, alloc: Global, pieces: u32) -> Roll {
         let passed = counts(rt, alloc, pieces);
         Roll { passed }
@@ -87,10 +87,10 @@ impl Gate for Roll {
     }
 }
 
-/// For how many milliseconds a piece waits for the others.
+/// How many milliseconds a piece waits for the others.
 const PATIENCE: u32 = 10_000;
 
-/// Holds each piece until so many have come, or for so long.
+/// Holds each piece until all have come, or for a limited time.
 #[derive(Drop)]
 pub struct Meeting<C> {
     clock: C,
@@ -100,7 +100,7 @@ pub struct Meeting<C> {
 }
 
 impl<C: Clock> Meeting<C> {
-    /// Of so many pieces.
+    /// For `all` pieces.
     pub fn of(clock: C, all: u64) -> Meeting<C> {
         Meeting {
             clock,

@@ -1,4 +1,4 @@
-//! What is given up: by threads of tickers that are told to end, and by calls that find no memory for another owner.
+//! What is dropped: by threads of tickers that have to end, and by calls that get no memory for another owner.
 use crate::fronts::setup;
 use crate::lent::{Count, Lent, first};
 use crate::ticking::{tick_off, ticks_on};
@@ -12,7 +12,7 @@ use std::{thread, time};
 
 type Bar<R> = ProgressBar<InMemoryTerm, StepClock, Lent<R>>;
 
-/// A spinner with a runtime that is counted, and the count.
+/// A spinner with a counted runtime, and the count.
 fn counted_bar<R: Wait + Copy + Drop + Abort>(
     rt: R,
     alloc: Global,
@@ -31,7 +31,7 @@ const HOUR: u64 = 3_600_000_000_000;
 /// 50 milliseconds.
 const OFTEN: u64 = 50_000_000;
 
-/// Tells a ticker of this interval on, which ticks. Of one of an hour the thread waits then.
+/// Enables a ticker with this interval, which ticks. With an interval of an hour the thread then waits.
 fn ticks_each<R: Wait + Threads + time::Clock + Copy + Drop + Abort + Send + 'static>(
     rt: &R,
     bar: &Bar<R>,
@@ -42,7 +42,7 @@ fn ticks_each<R: Wait + Threads + time::Clock + Copy + Drop + Abort + Send + 'st
     holds!(rt; ticks_on(rt, bar, before));
 }
 
-/// Whether so many runtimes are left, by the last of 10,000 looks a millisecond apart. The thread of a ticker has one.
+/// Whether this many runtimes are left, at the latest after 10,000 looks a millisecond apart. The thread of a ticker has one.
 fn comes_to<R: time::Clock>(rt: &R, count: &Count, left: u64) -> bool {
     for _ in 0..10_000u32 {
         if count.living() == left {
@@ -53,8 +53,8 @@ fn comes_to<R: time::Clock>(rt: &R, count: &Count, left: u64) -> bool {
     false
 }
 
-/// The thread of a ticker of an hour gives its runtime up long before the hour is over: where the ticker is told off, where another
-/// takes its place, and where the bar's last owner is gone.
+/// The thread of a ticker of an hour drops its runtime long before the hour is over: if the ticker is disabled, if another replaces it, and
+/// if the bar's last owner is gone.
 #[test]
 fn threads_of_tickers_end(rt: HostRuntime) {
     let rt = &rt;
@@ -70,7 +70,7 @@ fn threads_of_tickers_end(rt: HostRuntime) {
     holds!(rt; comes_to(rt, &count, 0));
 }
 
-/// A test of the crate `indicatif` 0.18.6. The crate waits for the thread's end; here it is told to end, and does.
+/// A test of the crate `indicatif` 0.18.6. The crate waits for the thread's end; here the ticker is disabled, and the thread ends.
 #[test]
 fn ticker_thread_terminates_on_drop(rt: HostRuntime) {
     let rt = &rt;
@@ -96,7 +96,7 @@ fn ticker_thread_terminates_on_drop_2(rt: HostRuntime) {
     holds!(rt; comes_to(rt, &count, 0));
 }
 
-/// Where there is no memory for a ticker's thread, the ticker that was installed goes on.
+/// If there is no memory for a ticker's thread, the installed ticker goes on.
 #[test]
 fn no_memory_for_a_ticker(rt: HostRuntime) {
     let rt = &rt;
@@ -110,8 +110,8 @@ fn no_memory_for_a_ticker(rt: HostRuntime) {
 
 // ---- another owner
 
-/// Where there is no memory for another owner, a weak bar says so, which isn't that no owner is left; so does a bar that is to be cloned.
-/// Nothing has changed then: the owner that is left is the last.
+/// If there is no memory for another owner, a weak bar's refusal differs from having no owner left; a clone is refused too. Then nothing
+/// has changed: the owner that is left is the last.
 #[test]
 fn no_memory_for_another_owner(rt: HostRuntime) {
     let rt = &rt;

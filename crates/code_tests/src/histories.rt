@@ -1,4 +1,4 @@
-//! A board that keeps its history: the examples of the documentation, what an entry holds, and what the board opened with.
+//! A board that keeps its history: the examples of the documentation, the content of an entry, and the opening of the board.
 use crate::checks::Granted;
 use indicatif_bar::state::{BarCommand, BarState};
 use indicatif_bar::style::{NoTracker, ProgressStyle};
@@ -20,7 +20,7 @@ fn terminal(rt: &impl Abort, alloc: Global) -> InMemoryTerm {
 
 // ---- entries
 
-/// All that is kept is that the board was cleared at the moment 5, with this answer, on a target of this size.
+/// Ends the test if anything else is kept than that the board was cleared at the moment 5, with this answer, on a target of this size.
 fn is_clear(rt: &impl Abort, record: &Recording, (answer, size): (&Answer, Option<Size>)) {
     let entries = record.entries();
     same!(rt; entries.len(), 1);
@@ -61,17 +61,17 @@ fn entry_where_nothing_is_shown(rt: HostRuntime) {
 
 // ---- openings
 
-/// The bar that the board of the mark 7 takes in first.
+/// The first bar of the board with the mark 7.
 const FIRST: BarId = BarId { mark: 7, number: 0 };
 
-/// A bar that shows this, to be taken in.
+/// A bar that shows this, to insert.
 fn bar_saying(rt: &impl Abort, alloc: Global, text: &str) -> Candidate<NoTracker> {
     let style = ProgressStyle::with_template(alloc, text).granted(rt);
     let bar = BarState::styled(alloc, style, None, 0).granted(rt);
     Candidate::New(bar)
 }
 
-/// Takes a bar in, which is drawn then, without force.
+/// Inserts a bar, which is then drawn, without force.
 fn takes_in_and_draws(rt: &impl Abort, alloc: Global, record: &mut Recording) {
     let call = Call::Insert {
         at: InsertLocation::End,
@@ -95,7 +95,7 @@ fn allowed(rt: &impl Abort, opening: &Opening) -> u32 {
     count
 }
 
-/// The limiter stays as the target came: 20 draws are in hand, though one was made.
+/// The limiter is kept as it was in the target: 20 draws are in hand, although one was made.
 #[test]
 fn beginning_of_a_history(rt: HostRuntime) {
     let rt = &rt;

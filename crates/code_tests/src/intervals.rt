@@ -1,4 +1,4 @@
-//! How often a steady ticker ticks, by the machine's clock. A machine that is slow makes ticks late, and never early.
+//! How often a steady ticker ticks, by the machine's clock. A slow machine makes ticks late, never early.
 use crate::fronts::{Bar, alone};
 use indicatif::machine::MachineClock;
 use indicatif::{Clock, Moment};
@@ -9,8 +9,8 @@ use std::time::{self, Duration};
 /// A tenth of a second.
 const INTERVAL: u64 = 100_000_000;
 
-/// How the first 21 ticks come of a ticker that was told on after this moment: within ten seconds, of which one of this interval needs
-/// two, by the last of 10,000 readings a millisecond apart; and at no more than twice the rate.
+/// The pace of the first 21 ticks of a ticker that was enabled after this moment: within ten seconds, of which this interval needs two, at
+/// the latest after 10,000 readings a millisecond apart; and at no more than twice the rate.
 fn pace_of<R: Wait + time::Clock + Copy + Clone + Drop>(
     rt: &R,
     bar: &Bar<R>,

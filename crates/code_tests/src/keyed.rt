@@ -1,5 +1,5 @@
-//! Bars with a key of the test's own that threads share, on their own target and on a board; and wrappers that get such a bar. What
-//! the key says follows from its documentation: how many steps of ten are left.
+//! Shared bars with the tests' own key, on their own target and on a board; and wrappers that get such a bar. What the key shows follows
+//! from its documentation: how many of ten steps are left.
 ghost use Rattle.std.specs.Prelude.{◌-◌, decimal};
 ghost use Rattle.indicatif_bar.specs.Trackers.{telling};
 
@@ -16,7 +16,7 @@ use std::process::Abort;
 use std::sync::Wait;
 use std::thread;
 
-/// Tells how many steps of so many are left.
+/// Says how many of the steps are left.
 #[derive(Clone, Copy, Drop)]
 pub struct Left {
     of: u64,
@@ -40,7 +40,7 @@ impl ProgressTracker for Left {
     }
 }
 
-/// A bar that is shared, whose key `left` is the tests' own.
+/// A shared bar whose key `left` is the tests' own.
 type Keyed<R> = ProgressBar<InMemoryTerm, StepClock, R, Left>;
 
 /// A board of such bars.
@@ -71,11 +71,11 @@ fn files<R: Wait + Copy + Clone + Drop + Abort>(rt: R, alloc: Global) -> Keyed<R
     bar
 }
 
-/// Where the bar is set, and what it shows then.
+/// Positions of the bar, and what it shows there.
 const SHOWN: &[(u64, &str)] = &[(12, "files 0"), (3, "files 7"), (0, "files 10")];
 
 /// The bar has the length that it was made with. The key follows the position, whoever owns the bar, and stays at 0 past the end. Another
-/// thread moves the bar, and then the key with it. A style that is told later, and one that was read of the bar, have the key too.
+/// thread moves the bar, and the key with it. A style that is set later, and one that was read from the bar, have the key too.
 #[test]
 fn what_is_left(rt: HostRuntime) {
     let rt = &rt;
@@ -131,7 +131,7 @@ fn on_a_board(rt: HostRuntime) {
     shows_two(rt, rt.alloc());
 }
 
-/// Two of three items are taken from an iterator that has a bar of its own in that style.
+/// Two of three items are taken from an iterator with its own bar in that style.
 #[test]
 fn in_a_loop(rt: HostRuntime) {
     let rt = &rt;

@@ -1,5 +1,4 @@
-//! A runtime of the tests' own, which passes everything on to the machine's. It counts how many of it there are, and refuses another
-//! one where it is told to.
+//! The tests' own runtime, which passes everything on to the machine's. It counts its copies, and refuses another one on request.
 use crate::checks::Granted;
 use std::alloc::{AllocError, Global};
 use std::io;
@@ -9,7 +8,7 @@ use std::sync::{Arc, Wait};
 use std::thread::Threads;
 use std::time::{Clock, Duration};
 
-/// How many there are, and whether another is refused.
+/// The number of copies, and whether another is refused.
 #[derive(Drop)]
 pub struct Count {
     living: AtomicU64,
@@ -17,24 +16,24 @@ pub struct Count {
 }
 
 impl Count {
-    /// How many there are.
+    /// How many texts there are.
     pub fn living(&self) -> u64 {
         self.living.load(Ordering::SeqCst)
     }
 
-    /// From now on another one is refused, or none is.
+    /// Sets whether another copy is refused.
     pub fn refuse(&self, refusing: bool) {
         self.refusing.store(u64::from(refusing), Ordering::SeqCst);
     }
 }
 
-/// One of them.
+/// A copy of the runtime.
 pub struct Lent<R: Drop> {
     rt: R,
     count: Arc<Count, Global>,
 }
 
-/// The first one, and its count.
+/// The first copy, and the count.
 pub fn first<R: Copy + Drop + Abort>(rt: R, alloc: Global) -> (Lent<R>, Arc<Count, Global>) {
     let rt = &rt;
     let count = Count {

@@ -1,39 +1,40 @@
-//! Tests that need code: they have trackers, closures, threads, terminals and types of their own. All other tests are rows of data (crate
-//! `rows`). Expected values come from outside.
+//! Tests that need code: their own trackers, closures, threads, terminals and types. All other tests are rows of data (crate `rows`).
+//! Expected values come from outside.
 //!
-//! Of the four lower libraries, and of what plays rows and scripts over them:
+//! Of the four lower libraries, and of the players of rows and scripts over them:
 //!
-//! - `values`: what bars return, what comes by default, and closures that bars take.
+//! - `values`: what bars return, defaults, and closures that bars take.
 //! - `writers`: boxed terminals, and buffers. `lone_shown`: a bar on a terminal.
 //! - `histories`: boards that keep their history. `many`: a board of many bars. `sums`: workers that add to one sum.
 //! - `played`: which lines of a file are rows, and which of them agree.
-//! - `rates`: keys of the last seconds. `styles`, `term`, `text`: keys of a template, what targets hand out, numbers and formatters. `words`: those of a command line.
-//! - `documented`: the examples of these libraries' documentation that say what comes.
+//! - `rates`: keys of the last seconds. `styles`, `term`, `text`: keys of a template, the parts of targets, numbers and formatters.
+//!   `words`: those of a command line.
+//! - `documented`: the examples of these libraries' documentation with a result.
 //!
 //! Of `indicatif`:
 //!
-//! - `fronts`: bars and boards for tests, and what they show. `recordings`: what a board has recorded.
-//! - `shown`: a terminal that others see. `owners`: what the last owner of a bar leaves there. `watched`: boards there, while a closure
-//!   runs, and where the cursor only moves. `pauses`: what answers and what waits meanwhile, with threads. `bars`: what crosses threads,
-//!   and a terminal in a box.
+//! - `fronts`: bars and boards for tests, and what they show. `recordings`: the histories of boards.
+//! - `shown`: a terminal that others read. `owners`: what the last owner of a bar leaves there. `watched`: boards there, while a closure
+//!   runs, and with a cursor that only moves. `pauses`: what answers and what waits meanwhile, with threads. `bars`: which types cross
+//!   threads, and a terminal in a box.
 //! - `boards`: boards that threads share. `unlocked`: bars and boards that leave their locks.
-//! - `shared`: what is said of a wrapper's bar, and threads at one bar. `readers`: two readers of one bar.
-//! - `closures`: what is done under a lock. `given_up`: what threads of tickers give up, also in two tests of the crate `indicatif`, and
-//!   calls that find no memory, over a runtime that is counted (`lent`).
-//! - `machines`: what is asked of the machine. `made`: iterators that get a bar when they are wrapped.
+//! - `shared`: builders of a wrapper's bar, and threads at one bar. `readers`: two readers of one bar.
+//! - `closures`: closures under a lock. `given_up`: what threads of tickers drop, also in two tests of the crate `indicatif`, and calls
+//!   that get no memory, over a counted runtime (`lent`).
+//! - `machines`: the module `machine`. `made`: iterators that get a bar when they are wrapped.
 //! - `bridges`: lines of a log above a board's bars. `beside`: a program's own lines, above bars or beside hidden ones.
 //! - `carried_trackers`: tests of the crate `indicatif` that need code, of trackers.
 //! - `counted`: threads that count for a bar. `documented_shared`: the examples of the documentation comments. `readme`: the README's
 //!   program.
-//! - `ticking`: a bar's ticker, looked at from outside. `intervals`: how often it ticks. `keyed`: shared bars with a key of the tests' own.
+//! - `ticking`: a bar's ticker, seen from outside. `intervals`: how often it ticks. `keyed`: shared bars with the tests' own key.
 //!   `odd_keys`: keys that write what no line holds.
-//! - `lists`: lists, block by block. `own_bars`: lists with a bar of their own. `pieces`: pieces that threads work on. `stepped`,
-//!   `gates`: a bar and gates for them, and what is done with an item.
+//! - `lists`: lists, block by block. `own_bars`: lists with their own bar. `pieces`: pieces that threads work on. `stepped`, `gates`: a bar
+//!   and gates for them, and functions on an item.
 //!
-//! `checks`: what `same!`, `holds!` and `granted` do.
+//! `checks`: the functions behind `same!`, `holds!` and `granted`.
 #![tactic(auto)]
 
-/// Ends the test where a value isn't the one that is wanted.
+/// Ends the test if a value isn't the expected one.
 #[cfg(test)]
 macro_rules! same {
     ($rt:expr; $got:expr, $wanted:expr $(,)?) => {
@@ -41,7 +42,7 @@ macro_rules! same {
     };
 }
 
-/// Ends the test where this doesn't hold.
+/// Ends the test if this doesn't hold.
 #[cfg(test)]
 macro_rules! holds {
     ($rt:expr; $holds:expr $(,)?) => {

@@ -1,4 +1,4 @@
-//! Lists in threads: the blocks that a bar goes on by, and what a bar that is shared shows within one.
+//! Lists in threads: the blocks by which a bar advances, and what a shared bar shows within one.
 use crate::checks::Granted;
 use crate::fronts::{Bar, another_of};
 use crate::gates::counts;
@@ -23,7 +23,7 @@ fn numbers<R: Abort>(rt: &R, alloc: Global, count: u32) -> Vec<u32> {
     items
 }
 
-/// The items of a list doubled in threads, and the bar that went along from this position.
+/// The items of a list doubled in threads, and the bar that followed from this position.
 fn doubled<R: Threads + Sync + Abort>(
     rt: &R,
     alloc: Global,
@@ -35,7 +35,7 @@ fn doubled<R: Threads + Sync + Abort>(
     (made.granted(rt), bar)
 }
 
-/// There are so many items, each of which is twice its place.
+/// Ends the test if there aren't `count` items, each of which is twice its place.
 fn are_doubled<R: Abort>(rt: &R, made: &[u32], count: usize) {
     same!(rt; made.len(), count);
     for (k, x) in made.iter().enumerate() {
@@ -43,7 +43,7 @@ fn are_doubled<R: Abort>(rt: &R, made: &[u32], count: usize) {
     }
 }
 
-/// So many items are doubled, and their bar goes to the end of the list by these steps. It isn't finished.
+/// Doubles `count` items, and checks that their bar goes to the end of the list by these steps. It isn't finished.
 fn goes_by<R: Threads + Sync + Abort>(rt: &R, alloc: Global, count: u32, steps: &[u64]) {
     let items = numbers(rt, alloc, count);
     let (made, bar) = doubled(rt, alloc, items.as_slice(), 0);
@@ -53,8 +53,8 @@ fn goes_by<R: Threads + Sync + Abort>(rt: &R, alloc: Global, count: u32, steps: 
     holds!(rt; !bar.finished);
 }
 
-/// Ten thousand items are three blocks, the last of which is what is left; and there may be a whole block and one item more. A list that
-/// is no longer than a block moves its bar by a tenth at a time: of 2,000 items by 200. One item is a block.
+/// Ten thousand items are three blocks, the last of which is the rest; and there may be a whole block and one item more. A list that is no
+/// longer than a block moves its bar by a tenth at a time: of 2,000 items by 200. One item is a block.
 #[test]
 fn blocks_and_tenths(rt: HostRuntime) {
     let rt = &rt;
@@ -65,10 +65,10 @@ fn blocks_and_tenths(rt: HostRuntime) {
     goes_by(rt, alloc, 1, &[1]);
 }
 
-/// For how many milliseconds an item waits for the other one to begin.
+/// How many milliseconds an item waits for the other one to begin.
 const PATIENCE: u32 = 10_000;
 
-/// Marks this one of two as begun; whether the other one begins within so long.
+/// Marks this one of two as begun; whether the other one begins within that time.
 fn meets<C: Clock>(clock: &C, begun: &[AtomicU64; 2], item: usize) -> bool {
     let (mine, other) = if item == 0 { (0, 1) } else { (1, 0) };
     begun[mine].store(1, Ordering::SeqCst);
@@ -81,8 +81,8 @@ fn meets<C: Clock>(clock: &C, begun: &[AtomicU64; 2], item: usize) -> bool {
     false
 }
 
-/// Two items are worked on at the same time: each sees that the other has begun. (Where there is one processor alone, or nobody tells
-/// how many, they are worked on one after another.)
+/// Two items are worked on at the same time: each sees that the other has begun. (With one processor, or if their number is unknown, they
+/// are worked on one after another.)
 #[test]
 fn pieces_of_a_list_run_at_the_same_time(rt: HostRuntime) {
     let rt = &rt;
@@ -99,7 +99,7 @@ fn pieces_of_a_list_run_at_the_same_time(rt: HostRuntime) {
     }
 }
 
-/// Whether the machine tells that it has more than one processor.
+/// Whether the machine reports more than one processor.
 fn has_processors<R: Threads>(rt: &R) -> bool {
     match available_parallelism(rt) {
         Ok(count) => count.get() > 1,
@@ -107,7 +107,7 @@ fn has_processors<R: Threads>(rt: &R) -> bool {
     }
 }
 
-/// What is done with an item that nobody needs.
+/// Does nothing with an item.
 fn pass_over(_x: &u32) {}
 
 #[test]
@@ -167,7 +167,7 @@ fn each_item_is_met_once(rt: HostRuntime) {
     holds!(rt; are_met_once(met.as_slice()));
 }
 
-/// A bar that may stop within a block, and tells the threads where it stands.
+/// A bar that may stop within a block, and shows the threads its position.
 #[derive(Drop)]
 struct Telling<'a> {
     place: &'a AtomicU64,
@@ -216,8 +216,8 @@ fn stood_at(steps: &[u64], places: &[u64]) -> bool {
     passed == places.len() && places.last() == Some(&position)
 }
 
-/// Smaller steps add up, and each block's end is one of them. (How many there are hangs on the threads: none but these, where the one that has
-/// the bar meets no item.)
+/// Smaller steps add up, and each block's end is one of them. (Their number depends on the threads: only these, if the thread that has the
+/// bar meets no item.)
 #[test]
 fn a_bar_that_stops_within_blocks_stops_behind_each(rt: HostRuntime) {
     let rt = &rt;
@@ -234,12 +234,12 @@ fn a_bar_that_stops_within_blocks_stops_behind_each(rt: HostRuntime) {
     holds!(rt; stood_at(bar.steps.as_slice(), &[4096, 8192, 10_000]));
 }
 
-/// For how many milliseconds this item of a list looks at a bar. Threads that work on items of unequal times don't end together.
+/// How many milliseconds this item of a list watches a bar. Threads whose items take different times don't end together.
 fn patience(item: u32) -> u32 {
     (item % 7).saturating_mul(5).saturating_add(5)
 }
 
-/// A shared bar of 40 on no terminal.
+/// A hidden shared bar of 40.
 fn shared_bar<R: Wait + Copy + Clone + Drop + Abort>(rt: R, alloc: Global) -> Bar<R> {
     let rt = &rt;
     let setup = Setup {
@@ -249,7 +249,7 @@ fn shared_bar<R: Wait + Copy + Clone + Drop + Abort>(rt: R, alloc: Global) -> Ba
     ProgressBar::new(*rt, alloc, 40, setup).expect(rt, "granted")
 }
 
-/// Whether this item, while it looks at a shared bar, sees it within a block of four.
+/// Whether this item, while it watches a shared bar, sees it within a block of four.
 fn sees_within<R: Wait + Clone + Drop, C: Clock>(clock: &C, bar: &Bar<R>, item: u32) -> bool {
     for _ in 0..patience(item) {
         if bar.position() % 4 != 0 {
@@ -260,8 +260,8 @@ fn sees_within<R: Wait + Clone + Drop, C: Clock>(clock: &C, bar: &Bar<R>, item: 
     false
 }
 
-/// A shared bar moves while threads work, by less than a block too. (Forty items are blocks of four, or of more where there are more
-/// processors. A bar of any type that stops within blocks is moved by the same calls.) Another list goes on with it from there, and finishes nothing.
+/// A shared bar moves while threads work, by less than a block too. (Forty items are blocks of four, or of more with more processors. A
+/// bar of any type that stops within blocks is moved by the same calls.) Another list goes on with it from there, and finishes nothing.
 #[test]
 fn a_shared_bar_moves_within_a_block(rt: HostRuntime) {
     let rt = &rt;

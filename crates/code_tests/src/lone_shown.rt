@@ -1,5 +1,5 @@
-//! A bar on a terminal whose calls promise nothing here, so that a test of many calls is proved call by call: what the prover knows
-//! of one call isn't carried through all that follow it. It stands in a box, so that each way out of a test drops it by one call.
+//! A bar on a terminal whose calls have no clauses here, so that a test of many calls is proved call by call: what the prover knows of one
+//! call isn't carried through all that follow it. It is in a box, so that each way out of a test drops it by one call.
 use crate::checks::Granted;
 use indicatif_bar::lone::LoneBar;
 use indicatif_bar::state::BarState;
@@ -16,7 +16,7 @@ pub struct Shown<T: Drop> {
     bar: Box<LoneBar<NoTracker, T>>,
 }
 
-/// A record that says this.
+/// A record with this message.
 fn state_of(alloc: Global, message: &str) -> Result<BarState<NoTracker>, Refusal> {
     let style = ProgressStyle::with_template(alloc, "{msg}")?;
     let mut state = BarState::styled(alloc, style, None, 0)?;
@@ -25,7 +25,7 @@ fn state_of(alloc: Global, message: &str) -> Result<BarState<NoTracker>, Refusal
 }
 
 impl<T: TermLike + Drop> Shown<T> {
-    /// A bar that says this on this terminal.
+    /// A bar with this message on this terminal.
     pub fn on(alloc: Global, message: &str, term: T) -> Result<Shown<T>, Refusal> {
         let state = state_of(alloc, message)?;
         let bar = Box::new(
@@ -58,7 +58,7 @@ pub enum Step {
     Log(&'static str),
 }
 
-/// The calls of a bar that first says `ab`.
+/// The calls of a bar with the first message `ab`.
 pub const SCRIPT: &[Step] = &[
     Step::Tick,
     Step::Log("l1"),
@@ -68,10 +68,10 @@ pub const SCRIPT: &[Step] = &[
     Step::Message("e"),
 ];
 
-/// The place in the script of the tick that changes no line: the log before it wrote all of them. Such a drawing writes nothing.
+/// The place in the script of the tick that changes no line: the log before it wrote all of them. Such a draw writes nothing.
 pub const STILL: usize = 4;
 
-/// Two lines were written to the terminal before. The log scrolls the first of them away unchanged.
+/// Two lines were already written to the terminal. The log scrolls the first of them away unchanged.
 #[test]
 fn a_log_on_the_last_row_scrolls(rt: HostRuntime) {
     let rt = &rt;

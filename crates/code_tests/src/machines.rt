@@ -1,4 +1,4 @@
-//! What is asked of the machine: its clock, and the terminals behind the program's own streams or behind a writer.
+//! The module `machine`: its clock, and the terminals behind the program's own streams or behind a writer.
 use crate::checks::Granted;
 use crate::values::is_shown;
 use indicatif::machine::{
@@ -27,7 +27,7 @@ fn facts(attended: bool, term: Option<String>) -> Facts {
     }
 }
 
-/// What a bar is made with behind a writer, on a terminal of 7 rows and 40 columns of which this is told.
+/// The setup of a bar behind a writer, on a terminal of 7 rows and 40 columns with these facts.
 fn setup_of(
     rt: &HostRuntime,
     attended: bool,
@@ -61,7 +61,7 @@ fn a_terminal_of_which_is_told(rt: HostRuntime) {
     holds!(rt; goes_on(&mut clock));
 }
 
-/// No terminal; one without moves; and one without a name.
+/// No terminal; one without cursor moves; and one without a name.
 const HIDDEN: &[(bool, Option<&str>)] = &[
     (false, Some("xterm")),
     (true, Some("dumb")),
@@ -91,7 +91,7 @@ impl Write for Broken {
     }
 }
 
-/// What two logs of a bar answer behind such a writer, and whether the terminal has gone then.
+/// The answers of two logs of a bar behind such a writer, and whether the terminal is gone afterwards.
 fn logged_twice(rt: &HostRuntime, number: i32) -> Result<(Drawn, Drawn, bool), Refusal> {
     let term = String::from_str(rt.alloc(), "xterm")?;
     let setup = told_setup(rt, Broken(number), facts(true, Some(term)))?;
@@ -106,13 +106,13 @@ fn logged_twice(rt: &HostRuntime, number: i32) -> Result<(Drawn, Drawn, bool), R
     Ok((first, second, is_gone))
 }
 
-/// An input or output error, as of a closed terminal; a call that would block; a closed pipe; a closed connection.
+/// An input/output error, as from a closed terminal; a call that would block; a closed pipe; a closed connection.
 const GONE: &[i32] = &[5, 11, 32, 104];
 
 /// A full disk.
 const FULL: i32 = 28;
 
-/// Work goes on where nobody reads any more; another failure is a refusal.
+/// Work goes on if the reader is gone; another failure is a refusal.
 #[test]
 fn a_terminal_that_goes_away(rt: HostRuntime) {
     let rt = &rt;
@@ -135,7 +135,7 @@ fn a_plain_terminal_that_goes_away(rt: HostRuntime) {
     same!(rt; bar.tick(0), wanted);
 }
 
-/// Whether a bar is hidden by these facts: its stream is no terminal, or one without moves.
+/// Whether these facts hide a bar: its stream is no terminal, or one without cursor moves.
 fn is_hidden_by(facts: &Facts) -> bool {
     match &facts.term {
         Some(term) => !facts.attended || term.as_str() == "dumb",
@@ -155,7 +155,7 @@ fn the_programs_own_streams(rt: HostRuntime) {
     same!(rt; on_stderr(rt).granted(rt).target.is_hidden(), err);
 }
 
-/// A bar with the message `x` has this one line in a style.
+/// Ends the test if a bar with the message `x` has another line in a style.
 fn shows<R: Abort>(rt: &R, alloc: Global, style: ProgressStyle<NoTracker>, wanted: &str) {
     let bar = BarState::styled(alloc, style, None, 0).expect(rt, "granted");
     let mut bar = Box::new(alloc, bar).expect(rt, "granted");
@@ -164,7 +164,7 @@ fn shows<R: Abort>(rt: &R, alloc: Global, style: ProgressStyle<NoTracker>, wante
     is_shown(rt, &lines, wanted);
 }
 
-/// A style for standard error has colours where they are wanted there, and none elsewhere.
+/// A style for standard error has colours if they are wanted there, and none elsewhere.
 #[test]
 fn a_style_for_standard_error(rt: HostRuntime) {
     let rt = &rt;
@@ -178,7 +178,7 @@ fn a_style_for_standard_error(rt: HostRuntime) {
 
 // ---- clocks
 
-/// A machine that tells these nanoseconds one after another, and then refuses.
+/// A machine that gives these nanoseconds one after another, and then refuses.
 #[derive(Drop)]
 struct Telling {
     nanos: &'static [u64],
@@ -200,7 +200,7 @@ impl time::Clock for Telling {
     }
 }
 
-/// Whether the clock tells these moments, one after another.
+/// Whether the clock gives these moments, one after another.
 fn tells(clock: &mut MachineClock<Telling>, moments: &[u64]) -> bool {
     for moment in moments {
         if clock.now() != *moment {
@@ -210,7 +210,7 @@ fn tells(clock: &mut MachineClock<Telling>, moments: &[u64]) -> bool {
     true
 }
 
-/// It tells what the machine tells, doesn't go back, and stands where the machine refuses.
+/// It gives the machine's time, doesn't go back, and stands still if the machine refuses.
 #[test]
 fn a_clock_of_a_machine(rt: HostRuntime) {
     let rt = &rt;
@@ -228,7 +228,7 @@ fn a_clock_of_a_machine(rt: HostRuntime) {
     holds!(rt; tells(&mut clock, moments.as_slice()));
 }
 
-/// A machine that runs for so many seconds.
+/// A machine that has run for the given number of seconds.
 #[derive(Drop)]
 struct Aged {
     secs: u64,
@@ -244,12 +244,12 @@ impl time::Clock for Aged {
     }
 }
 
-/// What the clock of a machine tells that runs for so many seconds.
+/// The moment of the clock of a machine that has run for `secs` seconds.
 fn told_at(secs: u64) -> Moment {
     MachineClock::new(Aged { secs }).now()
 }
 
-/// After 584 years the nanoseconds are more than 64 bits hold, and the clock stands at the greatest number.
+/// After 584 years the nanoseconds exceed 64 bits, and the clock stands still at 2^64 - 1.
 #[test]
 fn a_clock_of_an_old_machine(rt: HostRuntime) {
     let rt = &rt;
@@ -258,7 +258,7 @@ fn a_clock_of_an_old_machine(rt: HostRuntime) {
     same!(rt; told_at(u64::MAX), u64::MAX);
 }
 
-/// Whether the clock goes on within so many readings.
+/// Whether the clock advances within `readings` readings.
 fn goes_on_within<R: time::Clock>(clock: &mut MachineClock<R>, readings: u32) -> bool {
     let opened = clock.now();
     for _ in 0..readings {

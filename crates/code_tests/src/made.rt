@@ -1,4 +1,4 @@
-//! Iterators that get a bar when they are wrapped, or are handed one.
+//! Iterators that get a bar when they are wrapped, or that are given one.
 use crate::checks::Granted;
 use crate::fronts::{Led, setup};
 use crate::stepped::bar_at;
@@ -10,10 +10,10 @@ use std::alloc::Global;
 use std::process::Abort;
 use std::vec::IntoIter;
 
-/// What is wrapped by a bar of its own.
+/// A value wrapped with its own bar.
 type Shown<I> = ProgressBarIter<I, OwnedBar<NoTracker, InMemoryTerm, StepClock>>;
 
-/// The number 7, over and over, of which nobody says how often.
+/// The number 7, repeated without a known end.
 #[derive(Drop)]
 struct Sevens;
 
@@ -30,7 +30,7 @@ fn length<I>(wrapped: &Shown<I>) -> Option<u64> {
     wrapped.progress.bar().bar().state().len()
 }
 
-/// As far as anybody knows, up to 4 items come: `size_hint` is (0, Some(4)).
+/// Up to 4 items come: `size_hint` is (0, Some(4)).
 #[test]
 fn a_length_by_the_upper_bound(rt: HostRuntime) {
     let rt = &rt;
@@ -49,7 +49,7 @@ fn a_length_by_the_upper_bound(rt: HostRuntime) {
     same!(rt; wrapped.next(), Some(2));
 }
 
-/// An endless iterator gets no bar of which no length is told, and one of the length that is told.
+/// An endless iterator gets no bar without a length, and one with a given length.
 #[test]
 fn no_length_no_bar(rt: HostRuntime) {
     let rt = &rt;
@@ -75,7 +75,7 @@ fn list<R: Abort>(rt: &R, alloc: Global) -> IntoIter<u32> {
     items.into_iter()
 }
 
-/// Behind the end of a list nothing comes, however often it is asked. The bar stands at three, and is finished.
+/// After the end of a list nothing comes, however often `next` is called. The bar stands at three, and is finished.
 #[test]
 fn behind_the_end(rt: HostRuntime) {
     let rt = &rt;

@@ -1,4 +1,4 @@
-//! A board of many bars: a draw looks at those alone that have room in the window.
+//! A board of many bars: a draw looks only at those that fit in the window.
 use crate::checks::Granted;
 use indicatif::machine::MachineClock;
 use indicatif::{
@@ -16,7 +16,7 @@ const BOUND: u64 = 30_000_000_000;
 
 type Many = Board<NoTracker, Term<Vec<u8>>>;
 
-/// Takes so many bars in.
+/// Inserts `BARS` bars.
 fn added(alloc: Global, board: &mut Many) -> Result<Vec<BarId>, Refusal> {
     let mut bars = Vec::new(alloc);
     for _ in 0..BARS {
@@ -42,7 +42,7 @@ fn finished(board: &mut Many, bars: &[BarId]) -> Result<u64, Refusal> {
     Ok(drawn)
 }
 
-/// Each of twenty thousand bars is finished and drawn, in a time that doesn't grow with all of them at each draw.
+/// Each of twenty thousand bars is finished and drawn, in a time that doesn't depend on all of them at each draw.
 #[test]
 fn twenty_thousand_bars(rt: HostRuntime) {
     let rt = &rt;

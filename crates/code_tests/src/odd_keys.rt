@@ -1,4 +1,4 @@
-//! Keys of the tests' own that write what no line holds, on a board that threads share and that keeps its history.
+//! The tests' own keys, which write what no line holds, on a board that threads share and that keeps its history.
 use crate::carried_trackers::{Says, Telling};
 use crate::checks::Granted;
 use crate::fronts::{board_shows, setup};
@@ -14,7 +14,7 @@ type Bar<R> = ProgressBar<InMemoryTerm, StepClock, R, Telling>;
 
 type Shared<R> = MultiProgress<InMemoryTerm, StepClock, R, Telling>;
 
-/// A bar whose key writes this text, with two spaces for a tab.
+/// A bar whose key writes this text, with a tab width of two.
 fn saying<R: Wait + Copy + Clone + Drop + Abort>(
     rt: R,
     alloc: Global,
@@ -30,7 +30,8 @@ fn saying<R: Wait + Copy + Clone + Drop + Abort>(
     bar
 }
 
-/// A board that has drawn a bar whose key writes this text shows this; so does a fresh board that makes the calls of its history.
+/// Ends the test if a board that has drawn a bar whose key writes this text shows something else, or if a new board that makes the calls of
+/// its history does.
 fn shows<R: Wait + Copy + Clone + Drop + Abort>(
     rt: R,
     alloc: Global,
@@ -46,8 +47,8 @@ fn shows<R: Wait + Copy + Clone + Drop + Abort>(
     is_one_run(*rt, &board, alloc);
 }
 
-/// A tab is two spaces, and a newline parts two lines. What isn't a colour sequence is drawn; what it does to a terminal isn't claimed.
-/// One in memory passes it over.
+/// A tab is two spaces, and a newline separates two lines. Anything that isn't a colour sequence is drawn; its effect on a terminal isn't
+/// stated. One in memory ignores it.
 #[test]
 fn what_no_line_holds(rt: HostRuntime) {
     let rt = &rt;

@@ -1,4 +1,4 @@
-//! Lists that threads work on, with a bar of their own or with one that is handed in, on a terminal in memory.
+//! Lists that threads work on, with their own bar or with one that is passed, on a terminal in memory.
 use crate::checks::Granted;
 use crate::fronts::{Led, setup};
 use crate::stepped::twice;
@@ -11,7 +11,7 @@ use std::process::Abort;
 use std::sync::Wait;
 use std::thread::Threads;
 
-/// Doubles the items of the list 1, 2, 3, each by one of several threads; its bar stands at 3 then.
+/// Doubles the items of the list 1, 2, 3, each by one of several threads; its bar then stands at 3.
 fn doubles<R: Threads + Sync + Abort, P: Moves + Drop>(
     rt: &R,
     alloc: Global,

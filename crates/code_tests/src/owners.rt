@@ -1,4 +1,4 @@
-//! What the last owner of a bar leaves, what stays on another target, and threads with owners of their own, on a terminal that others see.
+//! What the last owner of a bar leaves, what stays on another target, and threads that are owners, on a terminal that others read.
 use crate::checks::Granted;
 use crate::shown::{Bytes, Shown, is_seen, no_bytes, setup_on};
 use crate::watched::board_on;
@@ -10,7 +10,7 @@ use std::thread::{self, join};
 
 pub type Bar<R> = ProgressBar<Term<Shown<R>>, StepClock, R>;
 
-/// A bar on that terminal, of this template and a length of 10.
+/// A bar on that terminal, with this template and a length of 10.
 pub fn bar_on<R: Wait + Copy + Clone + Drop + Abort>(
     rt: R,
     alloc: Global,
@@ -25,8 +25,8 @@ pub fn bar_on<R: Wait + Copy + Clone + Drop + Abort>(
 
 // ---- owners
 
-/// Draws a bar that is finished so once it has no owner, and gives up its owner, and then another one, which is the last; or drops the one
-/// owner that it has: this stands there then.
+/// Draws a bar with this stored finish, and releases its owner, and then another one, which is the last; or drops its only owner: then this
+/// must stand there.
 fn leaves<R: Wait + Copy + Clone + Drop + Abort>(
     rt: R,
     alloc: Global,
@@ -50,8 +50,8 @@ fn leaves<R: Wait + Copy + Clone + Drop + Abort>(
     holds!(rt; !bytes.lock(rt).is_empty());
 }
 
-/// The last owner finishes the bar by its stored finish, whether it is given up or dropped. Where it is to be cleared, its row goes. (What
-/// the first one leaves is a row.)
+/// The last owner finishes the bar by its stored finish, whether it is released or dropped. With `AndClear` its row goes. (What the first
+/// bar leaves is a row.)
 #[test]
 fn the_last_owner_finishes(rt: HostRuntime) {
     let rt = &rt;
@@ -63,7 +63,7 @@ fn the_last_owner_finishes(rt: HostRuntime) {
 
 // ---- another target
 
-/// What a bar drew on its own target stays there: once it has another one, and once a board has taken it in.
+/// What a bar drew on its own target stays there: after it gets another one, and after a board has inserted it.
 #[test]
 fn what_was_drawn_stays(rt: HostRuntime) {
     let rt = &rt;
@@ -86,7 +86,7 @@ fn what_was_drawn_stays(rt: HostRuntime) {
 
 // ---- threads
 
-/// Advances, as often as is asked; how often it was refused.
+/// Advances `times` times; how often it was refused.
 fn advance<R: Wait + Clone + Drop>(bar: &Bar<R>, times: u32) -> u64 {
     let mut refused: u64 = 0;
     for _ in 0..times {

@@ -1,4 +1,4 @@
-//! Pauses, with threads: while the closure of a `suspend` runs, readings answer, and what draws waits until it has run.
+//! Pauses, with threads: while the closure of a `suspend` runs, readings answer, and calls that draw wait until it has run.
 use crate::checks::Granted;
 use crate::owners::{Bar, bar_on};
 use crate::shown::{Bytes, is_seen, no_bytes, setup_on};
@@ -12,7 +12,7 @@ use std::sync::{Arc, Wait};
 use std::thread::{Threads, sleep, spawn};
 use std::time::{Clock, Duration};
 
-/// A board with two bars on a terminal that others see; and what is called while a closure runs.
+/// A board with two bars on a terminal that others read; and the call that is made while a closure runs.
 #[derive(Drop)]
 struct Scene<R: Wait + Clone + Drop> {
     rt: R,
@@ -28,7 +28,7 @@ struct Scene<R: Wait + Clone + Drop> {
 /// A scene that threads and closures own. (A closure of `suspend` owns what it reads.)
 type Shared<R> = Arc<Scene<R>, Global>;
 
-/// What is called while a closure runs.
+/// The call that is made while a closure runs.
 #[derive(Clone, Copy, Drop)]
 enum Call {
     Inc,
@@ -39,7 +39,7 @@ enum Call {
 /// Stages: the closure runs.
 const PAUSED: u64 = 1;
 
-/// The other thread is at its call.
+/// The other thread is making its call.
 const MADE: u64 = 2;
 
 /// Its call has come back.
@@ -100,7 +100,7 @@ fn lone_scene<R: Wait + Copy + Clone + Drop + Abort>(
     Arc::new(alloc, scene).expect(rt, "granted")
 }
 
-/// Whether this stage comes, by the last of 10,000 looks a millisecond apart.
+/// Whether this stage comes, at the latest after 10,000 looks a millisecond apart.
 fn comes<R: Clock>(rt: &R, stage: &AtomicU64, wanted: u64) -> bool {
     for _ in 0..10_000u32 {
         if stage.load(Ordering::SeqCst) >= wanted {
@@ -111,7 +111,7 @@ fn comes<R: Clock>(rt: &R, stage: &AtomicU64, wanted: u64) -> bool {
     false
 }
 
-/// While a closure runs: the other thread is at its call, which doesn't come back. Nothing stands on the terminal, and the bars are read.
+/// While a closure runs: the other thread is making its call, which doesn't return. Nothing stands on the terminal, and the bars are read.
 fn looks<R: Wait + Clock + Clone + Drop + Abort>(scene: &Scene<R>) -> (u64, Option<u64>, bool) {
     let rt = &scene.rt;
     scene.stage.store(PAUSED, Ordering::SeqCst);
@@ -142,7 +142,7 @@ fn calls<R: Wait + Clock + Clone + Drop + Abort>(scene: &Scene<R>) -> Result<Dra
     answer
 }
 
-/// What draws waits for the end of a board's pause.
+/// Calls that draw wait for the end of a board's pause.
 #[test]
 fn what_draws_waits_for_a_board(rt: HostRuntime) {
     let rt = &rt;
@@ -156,7 +156,7 @@ fn what_draws_waits_for_a_board(rt: HostRuntime) {
     is_seen(rt, scene.alloc, &scene.bytes, "1/10\nb");
 }
 
-/// So it does for one that a bar of the board began: a line above another bar.
+/// They wait for a pause that a bar of the board began: a line above another bar.
 #[test]
 fn what_draws_waits_for_another_bar(rt: HostRuntime) {
     let rt = &rt;
@@ -170,7 +170,7 @@ fn what_draws_waits_for_another_bar(rt: HostRuntime) {
     is_seen(rt, scene.alloc, &scene.bytes, "x\n0/10\nb");
 }
 
-/// So it does for that of a bar that stands alone.
+/// They wait for the pause of a bar that stands alone.
 #[test]
 fn what_draws_waits_for_a_bar(rt: HostRuntime) {
     let rt = &rt;
@@ -189,7 +189,7 @@ fn what_draws_waits_for_a_bar(rt: HostRuntime) {
 /// An hour, in nanoseconds.
 const HOUR: u64 = 3_600_000_000_000;
 
-/// While a closure runs: a bar goes, and another comes, whose ticker is told on and off. Nothing is drawn. That bar.
+/// While a closure runs: a bar goes, and another comes, whose ticker is enabled and disabled. Nothing is drawn. Returns that bar.
 fn takes_turns<R: Wait + Threads + Clock + Copy + Clone + Drop + Abort + Send + 'static>(
     scene: &Scene<R>,
 ) -> Bar<R> {
@@ -202,7 +202,7 @@ fn takes_turns<R: Wait + Threads + Clock + Copy + Clone + Drop + Abort + Send + 
     third
 }
 
-/// What draws nothing waits for nothing, also in the closure itself.
+/// Calls that draw nothing don't wait, not even in the closure itself.
 #[test]
 fn what_draws_nothing_waits_for_nothing(rt: HostRuntime) {
     let rt = &rt;
@@ -229,7 +229,7 @@ fn is_still<R: Wait + Clock + Clone + Drop + Abort>(scene: &Scene<R>) -> bool {
     scene.one.ticks() == before
 }
 
-/// A ticker doesn't tick while a closure runs, and goes on behind it.
+/// A ticker doesn't tick while a closure runs, and goes on afterwards.
 #[test]
 fn a_ticker_waits(rt: HostRuntime) {
     let rt = &rt;
@@ -246,7 +246,7 @@ fn a_ticker_waits(rt: HostRuntime) {
 
 // ---- another target
 
-/// Ticks the first bar until the other thread has changed the target; what stands on the old one has been taken back.
+/// Ticks the first bar until the other thread has changed the target; the rows on the old one have been cleared.
 fn moves_away<R: Wait + Threads + Clock + Copy + Clone + Drop + Abort + Send + 'static>(
     scene: &Scene<R>,
 ) {
@@ -263,7 +263,7 @@ fn moves_away<R: Wait + Threads + Clock + Copy + Clone + Drop + Abort + Send + '
     is_seen(rt, scene.alloc, &bytes, "0/10\nb");
 }
 
-/// `move_to` beside a ticker leaves no row on the old target, and bars go on on the new one.
+/// `move_to` beside a ticker leaves no row on the old target, and bars continue on the new one.
 #[test]
 fn another_target_at_once(rt: HostRuntime) {
     let rt = &rt;

@@ -19,7 +19,7 @@ fn pieces_of_ones<R: Abort>(rt: &R, alloc: Global, count: u32, items: u32) -> Ve
     pieces
 }
 
-/// The number 1, so many times.
+/// The number 1, `items` times.
 fn ones<R: Abort>(rt: &R, alloc: Global, items: u32) -> Vec<u32> {
     let mut piece = Vec::new(alloc);
     for _ in 0..items {
@@ -28,7 +28,7 @@ fn ones<R: Abort>(rt: &R, alloc: Global, items: u32) -> Vec<u32> {
     piece
 }
 
-/// The items of these pieces doubled in threads, behind a gate, while a bar goes along.
+/// The items of these pieces doubled in threads, behind a gate, with a bar.
 fn doubled<R: Threads + Wait + Sync + Abort, G: Gate>(
     rt: &R,
     alloc: Global,
@@ -77,7 +77,7 @@ fn no_piece_is_refused(rt: HostRuntime) {
     holds!(rt; bar.steps.is_empty());
 }
 
-/// So many pieces of one item, each of which waits for all others: all see them come.
+/// The given number of pieces of one item, each of which waits for all others: all see them come.
 fn all_meet<R: Copy + Threads + Wait + Sync + Abort + Clock>(rt: R, alloc: Global, count: u32) {
     let rt = &rt;
     let pieces = pieces_of_ones(rt, alloc, count, 1);
@@ -105,7 +105,7 @@ fn answers_in(made: &[Vec<u32>]) -> usize {
     answers
 }
 
-/// So many pieces of so many items each, over a bar at 5: the bar is advanced once, by all of them.
+/// Pieces of the given numbers, with a bar at 5: the bar is advanced once, by all items.
 fn all_are_answered<R: Copy + Threads + Wait + Sync + Abort>(
     rt: R,
     alloc: Global,
@@ -164,7 +164,7 @@ fn six_hundred_pieces(rt: HostRuntime) {
     holds!(rt; gate.most.load(Ordering::SeqCst) <= processors as u64);
 }
 
-/// So many pieces, each with its own number, twice.
+/// The given number of pieces, each with its own number, twice.
 fn numbered<R: Abort>(rt: &R, alloc: Global, count: u32) -> Vec<Vec<u32>> {
     let mut pieces = Vec::new(alloc);
     for number in 0..count {

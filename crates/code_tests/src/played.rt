@@ -2,7 +2,7 @@
 use scripts::got::{Bad, Got};
 use scripts::play::{Tally, World, play_rows};
 
-/// Gives each step back, `no` excepted, which it can't read, and counts them.
+/// Returns each step, except `no`, which it can't read, and counts them.
 #[derive(Drop)]
 struct Echo {
     steps: u64,

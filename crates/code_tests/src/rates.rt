@@ -18,7 +18,7 @@ fn hundred<R: Abort>(rt: &R, alloc: Global) -> BarState<Recent> {
     BarState::styled(alloc, style, Some(100), 0).granted(rt)
 }
 
-/// Ends the test where the bar's line is another one.
+/// Ends the test if the bar's line is another one.
 fn shows<R: Abort>(rt: &R, bar: &BarState<Recent>, now: Moment, wanted: &str) {
     let lines = bar.lines(now, 80).granted(rt);
     same!(rt; lines.first().is_some_and(|line: &LineType| line.as_str() == wanted), true);
@@ -29,8 +29,8 @@ const TENTH: u64 = 100_000_000;
 
 const SECOND: u64 = 1_000_000_000;
 
-/// Ninety steps at ten a second; then one a second. The mean is 7.75 a second in the end, where the truth is one. A bar that is finished shows
-/// its mean, and one that is reset nothing yet.
+/// Ninety steps at ten a second; then one a second. The mean is 7.75 a second at the end, although the speed is one. A bar that is finished
+/// shows its mean, and one that is reset nothing yet.
 #[test]
 fn a_rate_follows(rt: HostRuntime) {
     let rt = &rt;
@@ -73,7 +73,7 @@ fn rates_in_their_forms(rt: HostRuntime) {
     text_of(rt, alloc, RecentKey::EtaPrecise, "00:00:04");
 }
 
-/// The whole steps of a second, and the nanoseconds of six steps.
+/// The whole steps a second, and the nanoseconds for six steps.
 fn in_whole_numbers(steps: u64, nanos: u64) -> (u64, u64) {
     let rate = Rate { steps, nanos };
     (rate.steps_a_second(), rate.time_for(6))
@@ -95,7 +95,7 @@ fn rates_as_whole_numbers(rt: HostRuntime) {
     same!(rt; in_whole_numbers(1, u64::MAX), (0, u64::MAX));
 }
 
-/// Two samples: what they count from, and steps that went back.
+/// Two samples: where they count from, and steps that went back.
 #[test]
 fn samples_of_the_last_seconds(rt: HostRuntime) {
     let rt = &rt;

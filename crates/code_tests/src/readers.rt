@@ -23,13 +23,13 @@ fn reads_all<T: Read, R: Wait + Clone + Drop>(
     Ok(sum)
 }
 
-/// How many bytes a wrapper of the bar reads; `None` where a read fails.
+/// How many bytes a wrapper of the bar reads; `None` if a read fails.
 fn reads_along<R: Wait + Clone + Drop + Abort>(rt: &R, bar: &Bar<R>, bytes: &[u8]) -> Option<u64> {
     let mut wrapped = bar.wrap_read(bytes).expect(rt, "granted");
     reads_all(&mut wrapped).ok()
 }
 
-/// Two threads read 20,000 bytes each through wrappers of one bar, which stands at 40,000 then.
+/// Two threads read 20,000 bytes each through wrappers of one bar, which then stands at 40,000.
 #[test]
 fn two_readers_of_one_bar_lose_no_byte(rt: HostRuntime) {
     let rt = &rt;

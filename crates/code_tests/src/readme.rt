@@ -1,4 +1,4 @@
-//! The program of the README, as a test: a bar of 1,000 steps on standard error. Where that is no terminal, the bar is hidden.
+//! The program of the README, as a test: a bar of 1,000 steps on standard error. If that is no terminal, the bar is hidden.
 use anyhow::Result;
 use indicatif::ProgressBar;
 use indicatif::machine::on_stderr;

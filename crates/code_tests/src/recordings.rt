@@ -1,5 +1,4 @@
-//! What a board has kept: how many calls of a kind, and whether a fresh board that makes them gives the same answers and the same
-//! picture.
+//! What a board has kept: how many calls of a kind, and whether a new board that makes them gives the same answers and the same picture.
 use crate::checks::Granted;
 use crate::fronts::{Shared, target};
 use indicatif::style::Tracks;
@@ -21,12 +20,12 @@ const SIZE: Option<Size> = Some(Size {
 #[derive(Clone, Copy, Drop)]
 pub enum Kind<'a> {
     Any,
-    /// This text, logged above all bars.
+    /// A log of this text above all bars.
     Log(&'a str),
-    /// A bar whose owner is gone.
+    /// Tells the board that a bar's owner is gone.
     Gone,
     TickerTick,
-    /// A ticker that is installed, or told off.
+    /// A ticker that is enabled or disabled.
     Ticker(bool),
 }
 
@@ -73,7 +72,7 @@ pub fn counted<R: Wait + Copy + Clone + Drop>(board: &Shared<R>, kind: Kind<'_>)
     board.with_record(kind)
 }
 
-/// A board makes these calls with the same answers.
+/// Ends the test if a board gives other answers to these calls.
 fn answers_so<R: Abort, K: Tracks>(
     rt: &R,
     board: &mut Board<K, InMemoryTerm>,
@@ -88,13 +87,13 @@ fn answers_so<R: Abort, K: Tracks>(
     }
 }
 
-/// The rows of a terminal, those that have scrolled away too.
+/// The rows of a terminal, including those that scrolled away.
 fn rows_of<R: Abort>(rt: &R, term: Option<&InMemoryTerm>) -> Vec<String> {
     let term = term.granted(rt);
     term.picture().granted(rt)
 }
 
-/// A fresh board makes the calls that were kept with the same answers, and then shows the same rows.
+/// A new board makes the kept calls with the same answers, and then shows the same rows.
 #[derive(Drop)]
 struct RunsAgain<R: Abort + Drop> {
     rt: R,
@@ -110,7 +109,7 @@ impl<R: Abort + Drop, K: Tracks> RecordReader<InMemoryTerm, K> for RunsAgain<R> 
     }
 }
 
-/// The same of this history.
+/// Ends the test if a new board that makes the calls of this history gives other answers or shows other rows.
 fn runs_again<R: Abort, K: Tracks>(rt: &R, alloc: Global, recorded: &Recorded<K, InMemoryTerm>) {
     let target = target(alloc).granted(rt);
     let board = Board::new(alloc, target, recorded.opening().mark);
@@ -119,7 +118,7 @@ fn runs_again<R: Abort, K: Tracks>(rt: &R, alloc: Global, recorded: &Recorded<K,
     same!(rt; rows_of(rt, fresh.term()), rows_of(rt, recorded.board().term()));
 }
 
-/// What a board has kept is one run: a fresh board that makes those calls gives the same answers, and shows the same.
+/// Ends the test if what a board has kept isn't one run: a new board that makes those calls gives the same answers, and shows the same.
 pub fn is_one_run<R: Wait + Copy + Clone + Drop + Abort, K: Tracks>(
     rt: R,
     board: &MultiProgress<InMemoryTerm, StepClock, R, K>,

@@ -1,4 +1,4 @@
-//! Bars that something wraps, and threads that work on one bar at a time.
+//! Wrapped bars, and threads that use one bar at the same time.
 use crate::checks::Granted;
 use crate::fronts::{Bar, bar_shows, setup};
 use crate::ticking::{tick_off, ticks_on, waits};
@@ -18,7 +18,7 @@ const SECOND: u64 = 1_000_000_000;
 /// An hour: such a ticker ticks once in a test.
 const HOUR: u64 = 3600 * SECOND;
 
-/// A bar without a length, on a machine that runs for an hour and whose clock stands still.
+/// A bar without a length, on a machine that has run for an hour and whose clock stands still.
 fn bar_after_an_hour<R: Wait + Copy + Clone + Drop + Abort>(rt: R, alloc: Global) -> Bar<R> {
     let rt = &rt;
     let Setup { target, clock: _ } = setup(rt, alloc, 20);
@@ -29,7 +29,7 @@ fn bar_after_an_hour<R: Wait + Copy + Clone + Drop + Abort>(rt: R, alloc: Global
     ProgressBar::no_length(*rt, alloc, Setup { target, clock }).expect(rt, "granted")
 }
 
-/// Tells the bar of a wrapper all that it can be told.
+/// Calls all builders of a wrapper's bar.
 fn told<R: Wait + Copy + Clone + Drop + Abort>(
     rt: R,
     alloc: Global,
@@ -46,8 +46,8 @@ fn told<R: Wait + Copy + Clone + Drop + Abort>(
     wrapped.expect(rt, "granted")
 }
 
-/// A wrapper's bar is told before it moves, and what is told is seen by its other owners. A machine that runs for an hour has room for an
-/// elapsed hour, and for no second more. Programmers are shown the fields of the wrapper, and the name of its bar.
+/// A wrapper's bar is set up before it moves, which its other owners see. On a machine that has run for an hour an elapsed hour is
+/// accepted, and no second more. The wrapper's `Debug` shows its fields, and its bar's the name.
 #[test]
 fn a_wrappers_bar_is_told(rt: HostRuntime) {
     let rt = &rt;
@@ -76,7 +76,7 @@ fn bar_on<R: Wait + Copy + Clone + Drop + Abort>(rt: R, alloc: Global) -> Bar<R>
     ProgressBar::no_length(*rt, alloc, setup(rt, alloc, 20)).expect(rt, "granted")
 }
 
-/// Tells a ticker of this interval on so many times, each in the place of the one before.
+/// Enables a ticker with this interval `times` times, each in place of the last one.
 fn tells_on<R: Wait + Threads + time::Clock + Clone + Drop + Send + 'static>(
     bar: &Bar<R>,
     interval: u64,
@@ -88,7 +88,7 @@ fn tells_on<R: Wait + Threads + time::Clock + Clone + Drop + Send + 'static>(
     Ok(())
 }
 
-/// Tells it off so many times.
+/// Disables it `times` times.
 fn tells_off<R: Wait + Clone + Drop>(bar: &Bar<R>, times: u32) -> Result<(), Refusal> {
     for _ in 0..times {
         tick_off(bar)?;
@@ -96,8 +96,8 @@ fn tells_off<R: Wait + Clone + Drop>(bar: &Bar<R>, times: u32) -> Result<(), Ref
     Ok(())
 }
 
-/// Of ten tickers of an hour, each of which replaces the one before, none ticks more than once: that others are told off and end
-/// makes none of them tick before its hour is over.
+/// Of ten tickers of an hour, each of which replaces the last one, none ticks more than once: disabling and ending others makes none of
+/// them tick before its hour is over.
 fn replaced_wake_none<R: Wait + Threads + time::Clock + Clone + Drop + Abort + Send + 'static>(
     rt: &R,
     bar: &Bar<R>,
@@ -110,7 +110,7 @@ fn replaced_wake_none<R: Wait + Threads + time::Clock + Clone + Drop + Abort + S
     same!(rt; tick_off(bar), Ok(()));
 }
 
-/// One thread tells a ticker on while another tells it off: both come to an end, and once it is off it is off. Then others are told on.
+/// One thread enables a ticker while another disables it: both finish, and once it is off it stays off. Then others are enabled.
 #[test]
 fn on_and_off_from_two_threads(rt: HostRuntime) {
     let rt = &rt;

@@ -1,4 +1,4 @@
-//! A terminal that others see: a writer whose bytes stand under a lock.
+//! A terminal that others read: a writer whose bytes are behind a lock.
 use crate::checks::Granted;
 use indicatif::{Cells, ProgressDrawTarget, Refusal, Setup, StepClock, Term};
 use std::alloc::Global;
@@ -6,7 +6,7 @@ use std::io::{self, Write};
 use std::process::Abort;
 use std::sync::{Arc, Mutex, Wait};
 
-/// A writer whose bytes stand under a lock.
+/// A writer whose bytes are behind a lock.
 #[derive(Drop)]
 pub struct Shown<R: Wait + Drop> {
     bytes: Bytes,
@@ -30,12 +30,12 @@ impl<R: Wait + Drop> Write for Shown<R> {
     }
 }
 
-/// No bytes as yet.
+/// No bytes yet.
 pub fn no_bytes<R: Abort>(rt: &R, alloc: Global) -> Bytes {
     Arc::new(alloc, Mutex::new(Vec::new(alloc))).granted(rt)
 }
 
-/// That terminal, of 4 rows and so many columns, with a clock that goes on by 1 with each reading.
+/// That terminal, of 4 rows and `cols` columns, with a clock that advances by 1 with each reading.
 pub fn setup_on<R: Wait + Drop + Abort>(
     rt: R,
     bytes: &Bytes,
@@ -59,13 +59,13 @@ fn seen<R: Wait>(rt: &R, alloc: Global, bytes: &Mutex<Vec<u8>>) -> Result<String
     }
 }
 
-/// Ends the test where something else stands in that window.
+/// Ends the test if something else stands in that window.
 pub fn is_seen<R: Wait + Abort>(rt: &R, alloc: Global, bytes: &Mutex<Vec<u8>>, wanted: &str) {
     let text = seen(rt, alloc, bytes).granted(rt);
     same!(rt; text.as_str(), wanted);
 }
 
-/// Ends the test where the bytes are others.
+/// Ends the test if the bytes are others.
 pub fn is_written<R: Wait + Abort>(rt: &R, bytes: &Mutex<Vec<u8>>, wanted: &str) {
     same!(rt; bytes.lock(rt).as_slice(), wanted.as_bytes());
 }

@@ -1,4 +1,4 @@
-//! A bar of the tests', which tells where it stands and keeps what it is advanced by; and what threads do with an item.
+//! The tests' own bar, whose position can be read and which keeps its advances; and functions of threads on an item.
 use indicatif::{Drawn, Moves, Refusal};
 use std::alloc::Global;
 
@@ -40,7 +40,7 @@ impl Moves for Stepped {
     }
 }
 
-/// A bar at this position, which kept nothing yet.
+/// A bar at this position, without advances.
 pub fn bar_at(alloc: Global, position: u64) -> Stepped {
     Stepped {
         position,

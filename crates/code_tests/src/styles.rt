@@ -1,4 +1,4 @@
-//! Keys of a template that are the caller's own.
+//! Your own keys of a template.
 ghost use Rattle.std.specs.Prelude.{true, false, if◌then◌else◌, codes};
 
 use crate::carried_trackers::{Says, Telling};
@@ -14,7 +14,7 @@ use std::process::Abort;
 
 // ---- styles and bars
 
-/// A style of this template, with colours or without.
+/// A style with this template, with colours or without.
 pub fn look<K: ProgressTracker>(
     rt: &impl Abort,
     alloc: Global,
@@ -24,7 +24,7 @@ pub fn look<K: ProgressTracker>(
     style.with_colors(colours).expect(rt, "granted")
 }
 
-/// The lines on so many columns, each with a newline behind it, are these.
+/// Ends the test if the lines for this many columns, each followed by a newline, are others.
 fn shows<K: ProgressTracker>(
     rt: &impl Abort,
     alloc: Global,
@@ -34,7 +34,7 @@ fn shows<K: ProgressTracker>(
     are_lines(rt, alloc, bar.lines(0, columns), wanted);
 }
 
-/// These lines, each with a newline behind it, are this text.
+/// Ends the test if these lines, each followed by a newline, are another text.
 fn are_lines(rt: &impl Abort, alloc: Global, lines: Result<Vec<LineType>, Refusal>, wanted: &str) {
     let mut text = String::new(alloc);
     for line in &lines.granted(rt) {
@@ -46,7 +46,7 @@ fn are_lines(rt: &impl Abort, alloc: Global, lines: Result<Vec<LineType>, Refusa
 
 // ---- a text that stays
 
-/// The same style with a tracker of this name that writes this text.
+/// The style with a tracker with this name that writes this text.
 pub fn saying(
     rt: &impl Abort,
     alloc: Global,
@@ -57,7 +57,7 @@ pub fn saying(
     look.with_key(name, tracker).expect(rt, "granted")
 }
 
-/// A style of this template with a tracker of the name `t`, without colours.
+/// A style with this template and a tracker named `t`, without colours.
 fn tracked(
     rt: &impl Abort,
     alloc: Global,
@@ -68,11 +68,11 @@ fn tracked(
     look.progress_chars("=>-").expect(rt, "granted")
 }
 
-/// A template, the text of its tracker, spaces for a tab, and the lines on 10 columns.
+/// A template, the text of its tracker, a tab width, and the lines on 10 columns.
 type Said = (&'static str, &'static str, usize, &'static str);
 
-/// A tracker's text has its tabs expanded, its newlines part lines, its NULs are fillers, and what isn't a colour sequence
-/// counts by its characters. (With colours it is in `carried_trackers`.)
+/// A tracker's text has its tabs expanded, its newlines separate lines, its NULs are fillers, and what isn't a colour sequence counts by
+/// its characters. (With colours it is in `carried_trackers`.)
 const SAID: &[Said] = &[
     ("{t}", "a\tb", 4, "a    b\n"),
     ("{t}", "a\tb\nc", 2, "a  b\nc\n"),
@@ -87,7 +87,7 @@ const SAID: &[Said] = &[
     ("{t}", "", 8, ""),
 ];
 
-/// The lines of a bar of 4 are these.
+/// Ends the test if the lines of a bar of 4 are others.
 fn is_told(rt: &impl Abort, alloc: Global, row: &Said) {
     let (template, text, tab, wanted) = *row;
     let look = tracked(rt, alloc, (template, text));
@@ -106,7 +106,7 @@ fn texts_of_trackers(rt: HostRuntime) {
 
 // ---- names of keys
 
-/// Trackers of the names of keys, and two of one name.
+/// Trackers with the names of keys, and two with one name.
 fn named(rt: &impl Abort, alloc: Global) -> ProgressStyle<Telling> {
     let look = look(rt, alloc, ("{pos}{wide_msg}{t}", false));
     let look = saying(rt, alloc, look, ("pos", "p"));
@@ -115,13 +115,13 @@ fn named(rt: &impl Abort, alloc: Global) -> ProgressStyle<Telling> {
     saying(rt, alloc, look, ("t", "2"))
 }
 
-/// The one line of a bar of 10 that looks so is this, on 80 columns.
+/// Ends the test if the one line of a bar of 10 in this style is another, on 80 columns.
 pub fn shows_line(rt: &impl Abort, alloc: Global, look: ProgressStyle<Telling>, wanted: &str) {
     let bar = BarState::styled(alloc, look, Some(10), 0).expect(rt, "granted");
     is_shown(rt, &bar.lines(0, 80).granted(rt), wanted);
 }
 
-/// A tracker comes before a key of its name, and before an earlier tracker of its name.
+/// A tracker comes before a key with its name, and before an earlier tracker with its name.
 #[test]
 fn names_of_trackers(rt: HostRuntime) {
     let rt = &rt;
@@ -190,7 +190,7 @@ enum Step {
     Finish,
 }
 
-/// What a message says.
+/// A message.
 fn said(rt: &impl Abort, alloc: Global) -> String {
     String::from_str(alloc, "m").granted(rt)
 }
@@ -213,8 +213,8 @@ fn command(rt: &impl Abort, alloc: Global, call: Step) -> BarCommand<Light> {
     }
 }
 
-/// Calls one after another, and what the bar shows then. Each that updates the bar ticks its trackers; a reset resets them, and nothing
-/// else touches them.
+/// Calls one after another, and what the bar shows after each. Each that updates the bar ticks its trackers; a reset resets them, and
+/// nothing else changes them.
 const CALLS: &[(Step, &str)] = &[
     (Step::WithPosition, "off\n"),
     (Step::ForceDraw, "off\n"),
@@ -236,7 +236,7 @@ const CALLS: &[(Step, &str)] = &[
     (Step::Finish, "off\n"),
 ];
 
-/// After this call the bar shows this.
+/// Ends the test if the bar shows something else after this call.
 fn shows_after(
     rt: &impl Abort,
     alloc: Global,

@@ -5,7 +5,7 @@ use indicatif_board::done::{BarWorker, Done};
 use std::process::Abort;
 use std::thread::join;
 
-/// A worker that added 1 a thousand times, and the total that it read then.
+/// A worker that added 1 a thousand times, and the total that it then read.
 #[derive(Drop)]
 struct Worked {
     worker: BarWorker,
@@ -80,7 +80,7 @@ fn a_sum_wraps_at_2_to_the_64(rt: HostRuntime) {
     same!(rt; done.close(worker), 1);
 }
 
-/// Splits a hundred times in a row; the worker of the k-th split that stays behind adds k. The one that was given last.
+/// Splits a hundred times in a row; the worker of the k-th split that stays behind adds k. Returns the last one.
 fn last_of_a_hundred_splits(rt: &impl Abort, done: &Done, worker: BarWorker) -> BarWorker
     requires of { worker.adds_to ≡ done.now }
     ensures of { result.adds_to ≡ done.now }

@@ -1,4 +1,4 @@
-//! What targets hand out, and a terminal in memory whose memory is refused.
+//! The parts of targets, and a terminal in memory whose memory is refused.
 use crate::checks::Granted;
 use indicatif_term::draw_target::{Engine, ProgressDrawTarget, Setup};
 use indicatif_term::in_memory::InMemoryTerm;
@@ -39,7 +39,7 @@ fn engines_of_targets(rt: HostRuntime) {
     same!(rt; (engine.is_some(), limiter.is_some()), (true, false));
 }
 
-/// Rows and columns of a target's terminal, where it has one and no limiter.
+/// Rows and columns of a target's terminal, if it has one and no limiter.
 fn size_of(target: Target) -> Option<(u16, u16)> {
     match target.into_parts() {
         Some((term, None)) => Some((term.height(), term.width())),
@@ -73,7 +73,7 @@ fn what_a_bar_is_made_with(rt: HostRuntime) {
 
 const TEXTS: &[&str] = &["abcdef", "\u{56FD}", "e\u{308}", "\r\n\r\nx"];
 
-/// Writes texts; the failures that the terminal counts are those that it told, each of them want of memory.
+/// Writes texts; the terminal counts exactly the failures that it returned, each of them want of memory.
 fn writes_all(term: &mut InMemoryTerm) -> bool {
     let mut failed: u64 = 0;
     for text in TEXTS {
@@ -90,7 +90,7 @@ fn writes_all(term: &mut InMemoryTerm) -> bool {
     true
 }
 
-/// Whether the cursor stands on the terminal, whose text is told or memory is refused.
+/// Whether the cursor is on the terminal, and its text can be read or memory is refused.
 fn goes_on(term: &InMemoryTerm) -> bool {
     let (row, column) = term.cursor();
     let is_told = match term.contents() {
@@ -100,8 +100,8 @@ fn goes_on(term: &InMemoryTerm) -> bool {
     row < 2 && column <= 4 && is_told
 }
 
-/// Want of memory is a fault of its kind, counted once, and leaves a terminal that goes on. The gate runs this with ample
-/// memory; that it holds with each allocation failing in turn is tried by hand, by `rt try --test --fail-alloc N`.
+/// Want of memory is a fault of its kind, counted once, and leaves a terminal that works. The gate runs this with enough memory; that it
+/// holds with each allocation failing in turn is tried by hand, by `rt try --test --fail-alloc N`.
 #[test]
 fn want_of_memory(rt: HostRuntime) {
     let rt = &rt;

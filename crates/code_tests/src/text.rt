@@ -15,7 +15,7 @@ fn nearest_whole_numbers(rt: HostRuntime) {
     same!(rt; nearest(5, 2), 2);
 }
 
-/// A formatter's text is this, whatever options its hole has.
+/// Ends the test if a formatter's text is another, with any format options.
 fn ignores_options<T: Display>(rt: &impl Abort, alloc: Global, shown: &T, wanted: &str) {
     let text = format!(in alloc;
         "{shown:>6}|{shown:>12}|{shown:<6}|{shown:^12}|{shown:06}|{shown:.1}"
@@ -25,7 +25,7 @@ fn ignores_options<T: Display>(rt: &impl Abort, alloc: Global, shown: &T, wanted
     }
 }
 
-/// The options of a hole don't reach a formatter's text.
+/// Format options don't change a formatter's text.
 #[test]
 fn options_of_a_hole_are_ignored(rt: HostRuntime) {
     let rt = &rt;
@@ -40,7 +40,7 @@ fn options_of_a_hole_are_ignored(rt: HostRuntime) {
     ignores_options(rt, alloc, &half, "0.5");
 }
 
-/// They do reach a text that was made before.
+/// They do change a text that was made before.
 #[test]
 fn options_of_a_hole_reach_a_text(rt: HostRuntime) {
     let rt = &rt;

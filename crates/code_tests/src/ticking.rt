@@ -1,17 +1,17 @@
-//! A bar's ticker, looked at from outside: no limit of time, but of turns.
+//! A bar's ticker, seen from outside: with a limit on turns, not on time.
 use indicatif::{Clock, ProgressBar, Refusal, TermLike};
 use std::sync::Wait;
 use std::time::Duration;
 use std::{thread, time};
 
-/// Tells a bar's ticker off.
+/// Disables a bar's ticker.
 pub fn tick_off<T: TermLike + Drop, C: Clock + Drop, R: Wait + Clone + Drop>(
     bar: &ProgressBar<T, C, R>,
 ) -> Result<(), Refusal> {
     bar.disable_steady_tick()
 }
 
-/// Whether the bar has ticked more often than so, by the last of 10,000 readings a millisecond apart.
+/// Whether the bar has ticked more often than the given number, at the latest after 10,000 readings a millisecond apart.
 pub fn ticks_on<T: TermLike + Drop, C: Clock + Drop, R: Wait + Clone + Drop, S: time::Clock>(
     rt: &S,
     bar: &ProgressBar<T, C, R>,
@@ -26,7 +26,7 @@ pub fn ticks_on<T: TermLike + Drop, C: Clock + Drop, R: Wait + Clone + Drop, S: 
     false
 }
 
-/// Fifty turns of a millisecond: a ticker of a millisecond that goes on ticks meanwhile.
+/// Fifty turns of a millisecond: a running ticker of a millisecond ticks meanwhile.
 pub fn waits<R: Wait + time::Clock>(rt: &R) {
     for _ in 0..50u32 {
         thread::sleep(rt, Duration::from_millis(1));

@@ -22,7 +22,7 @@ fn history_of<R: Wait + Copy + Clone + Drop + Abort>(
     record
 }
 
-/// The same board, which has another owner.
+/// A board that has another owner, which is returned.
 fn owned_still<R: Wait + Copy + Clone + Drop + Abort>(rt: &R, board: Shared<R>) -> Shared<R> {
     match board.into_inner() {
         Ok(_) => panic!(*rt; "no other owner"),
@@ -30,7 +30,7 @@ fn owned_still<R: Wait + Copy + Clone + Drop + Abort>(rt: &R, board: Shared<R>) 
     }
 }
 
-/// The same bar, which has another owner.
+/// A bar that has another owner, which is returned.
 fn bar_owned_still<R: Wait + Copy + Clone + Drop + Abort>(rt: &R, bar: Bar<R>) -> Bar<R> {
     match bar.into_inner() {
         Ok(_) => panic!(*rt; "no other owner"),
@@ -46,7 +46,7 @@ fn number_of<R: Wait + Copy + Clone + Drop + Abort>(rt: &R, bar: Bar<R>) -> BarI
     }
 }
 
-/// Logs a text, and gives the owner up.
+/// Logs a text, and drops the owner.
 fn logs_and_goes<R: Wait + Copy + Clone + Drop>(
     board: Shared<R>,
     text: &str,
@@ -110,7 +110,7 @@ fn an_open_board_leaves_its_lock(rt: HostRuntime) {
     same!(rt; shown.as_str(), "mine\nlast");
 }
 
-/// Moves a bar, and gives the owner up.
+/// Moves a bar, and drops the owner.
 fn moves_and_goes<R: Wait + Copy + Clone + Drop>(bar: Bar<R>) -> Result<Drawn, Refusal> {
     let drawn = bar.inc(4);
     drop(bar);

@@ -1,4 +1,4 @@
-//! What bars hand out, what comes by default, and closures that are handed to bars.
+//! What bars return, defaults, and closures that are passed to bars.
 use crate::checks::Granted;
 use indicatif_bar::lone::LoneBar;
 use indicatif_bar::state::{Ask, BarState, Change, ProgressFinish, SpareLines};
@@ -14,7 +14,7 @@ type Bar = BarState<NoTracker>;
 
 type Lone = LoneBar<NoTracker, InMemoryTerm>;
 
-/// A record of this length that shows its position, in a box: each way out of a function drops it by one call.
+/// A record with this length that shows its position, in a box: each way out of a function drops it by one call.
 fn plain_bar(rt: &impl Abort, alloc: Global, len: u64) -> Box<Bar> {
     let style = ProgressStyle::with_template(alloc, "{pos}").granted(rt);
     let bar = BarState::styled(alloc, style, Some(len), 0).granted(rt);
@@ -31,7 +31,7 @@ fn finish_and_alignment_by_default(rt: HostRuntime) {
         MultiProgressAlignment::Top);
 }
 
-/// This is the one line.
+/// Ends the test if there are other lines than this one.
 pub fn is_shown(rt: &impl Abort, lines: &[LineType], wanted: &str) {
     match lines {
         [line] => same!(rt; line.as_str(), wanted),
@@ -45,7 +45,7 @@ fn advance(bar: &mut Bar, steps: u64) -> Ask {
     bar.inc(steps, 0)
 }
 
-/// Two bars have one room, one after another, and the lines that each has without it.
+/// Two bars use one `SpareLines`, one after another, and have the lines that each has without it.
 #[test]
 fn spare_lines(rt: HostRuntime) {
     let rt = &rt;
@@ -67,7 +67,7 @@ fn spare_lines(rt: HostRuntime) {
 
 // ---- closures
 
-/// Twice as far as it is, of one more than that.
+/// Doubles the position, and sets the length to one more than that.
 fn update_twice(bar: &mut Bar) -> Ask {
     bar.update(
         |state| {
@@ -90,7 +90,7 @@ fn an_update_of_a_record(rt: HostRuntime) {
     same!(rt; (bar.state().pos(), bar.state().len()), (24, Some(25)));
 }
 
-/// One further than it is.
+/// One step further.
 fn update_next(bar: &mut Lone) -> Result<Drawn, Refusal> {
     bar.update(
         |state| Change {
@@ -110,7 +110,7 @@ fn shown_at(rt: &impl Abort, alloc: Global, place: u64) -> Box<Lone> {
     Box::new(alloc, LoneBar::new(Box::into_inner(bar), target)).granted(rt)
 }
 
-/// What stands on a bar's terminal.
+/// The contents of a bar's terminal.
 fn contents(rt: &impl Abort, bar: &Lone) -> String {
     let term = bar.term().granted(rt);
     term.contents().granted(rt)

@@ -1,4 +1,4 @@
-//! Boards on a terminal that others see: what stands there while a closure runs, and what is written where the cursor only moves.
+//! Boards on a terminal that others read: the rows while a closure runs, and the bytes if the cursor only moves.
 use crate::checks::Granted;
 use crate::owners::{Bar, bar_on};
 use crate::shown::{Bytes, Shown, is_seen, is_written, no_bytes, setup_on};
@@ -9,7 +9,7 @@ use std::sync::{Arc, Wait};
 
 pub type Board<R> = MultiProgress<Term<Shown<R>>, StepClock, R>;
 
-/// A board on that terminal, of so many columns.
+/// A board on that terminal, with this many columns.
 pub fn board_on<R: Wait + Copy + Clone + Drop + Abort>(
     rt: R,
     alloc: Global,
@@ -32,7 +32,7 @@ pub fn bar_of<R: Wait + Copy + Clone + Drop + Abort>(
     board.add(bar).expect(rt, "granted")
 }
 
-/// A tick that draws. Its call promises nothing here.
+/// A tick that draws. Its call has no clauses here.
 fn draws<R: Wait + Copy + Clone + Drop + Abort>(rt: R, bar: &Bar<R>) {
     let rt = &rt;
     same!(rt; bar.tick(), Ok(Drawn::Yes));
@@ -46,7 +46,7 @@ fn seven<R: Wait + Abort>(rt: &R, alloc: Global, bytes: &Bytes) -> u8 {
     7
 }
 
-/// The board's rows are gone while a closure runs, whose value is handed on, and it draws.
+/// The board's rows are cleared while a closure runs, whose value is returned, and it draws.
 fn board_pauses<R: Wait + Copy + Clone + Drop + Abort>(
     board: &Board<R>,
     rt: R,
@@ -59,7 +59,7 @@ fn board_pauses<R: Wait + Copy + Clone + Drop + Abort>(
     same!(rt; paused, (7, Ok(Drawn::Yes)));
 }
 
-/// The same by a call of a bar.
+/// The board's rows are cleared while a closure of one of its bars runs, whose value is returned, and it draws.
 fn bar_pauses<R: Wait + Copy + Clone + Drop + Abort>(
     bar: &Bar<R>,
     rt: R,
@@ -72,8 +72,8 @@ fn bar_pauses<R: Wait + Copy + Clone + Drop + Abort>(
     same!(rt; paused, (7, Ok(Drawn::Yes)));
 }
 
-/// A board's bars stand there before and behind a pause of the board or of one of them, and not while the closure runs. The same of a bar
-/// that stands alone.
+/// A board's bars stand there before and after a pause of the board or of one of them, and not while the closure runs. The same holds for a
+/// bar that stands alone.
 #[test]
 fn bars_are_taken_back_while_a_closure_runs(rt: HostRuntime) {
     let rt = &rt;
@@ -98,8 +98,8 @@ fn bars_are_taken_back_while_a_closure_runs(rt: HostRuntime) {
 
 // ---- a cursor that only moves
 
-/// On two columns each of two lines fills its row. A draw goes up to the first row, and writes both lines from its front; it ends no
-/// row and empties none. Once that is off again, a draw writes what changed alone.
+/// On two columns each of two lines fills its row. A draw goes up to the first row, and writes both lines from its front; it ends no row
+/// and empties none. Once that is off again, a draw writes only what changed.
 #[test]
 fn a_cursor_only_moves(rt: HostRuntime) {
     let rt = &rt;

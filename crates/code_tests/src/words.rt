@@ -1,10 +1,10 @@
-//! What the words of a command line are, by what started the program.
+//! The words of a command line.
 use crate::checks::Granted;
 use bars_run::words::words;
 use std::env::{Env, FillError};
 use std::process::Abort;
 
-/// A program that was started by these words.
+/// A program that was started with these words.
 #[derive(Drop)]
 struct Started(&'static [&'static [u8]]);
 
@@ -31,7 +31,7 @@ impl Env for Started {
     }
 }
 
-/// The words are these.
+/// Ends the test if the words are others.
 fn are_words(rt: &impl Abort, words: &[String], wanted: &[&str]) {
     same!(rt; words.len(), wanted.len());
     for (word, wanted) in words.iter().zip(wanted) {
@@ -39,7 +39,7 @@ fn are_words(rt: &impl Abort, words: &[String], wanted: &[&str]) {
     }
 }
 
-/// What started a program, and its words behind its name; none where one of them is no text.
+/// The command line of a program, and its words after its name; none if one of them isn't UTF-8.
 const STARTED: &[(&[&[u8]], &[&str])] = &[
     (&[b"bars", b"demo"], &["demo"]),
     (&[], &[]),

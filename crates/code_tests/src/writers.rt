@@ -1,4 +1,4 @@
-//! What a terminal hands on to its writer, and what it makes of the writer's answers; and terminals in a box.
+//! What a terminal passes to its writer, and how it handles the writer's answers; and terminals in a box.
 use crate::checks::Granted;
 use crate::lone_shown::{SCRIPT, STILL, Shown, Step};
 use indicatif_term::in_memory::InMemoryTerm;
@@ -43,7 +43,7 @@ fn writes_and_flushes(bar: &Buffered) -> Option<(u64, u64)> {
     Some((count.writes, count.flushes))
 }
 
-/// Each call of the script is drawn by one more flush, and by one more write where it changes a line.
+/// Each call of the script is drawn with one more flush, and with one more write if it changes a line.
 fn each_is_one_write(rt: &impl Abort, mut bar: Buffered) {
     let (mut writes, mut flushes): (u64, u64) = (0, 0);
     for (place, step) in SCRIPT.iter().enumerate() {
@@ -54,7 +54,8 @@ fn each_is_one_write(rt: &impl Abort, mut bar: Buffered) {
     }
 }
 
-/// Behind a `BufWriter` each drawing that changes a line is one write; one that changes none makes none, as a call that is refused.
+/// Behind a `BufWriter` each draw that changes a line is one write; one that changes none makes none, and neither does a call that is
+/// refused.
 #[test]
 fn a_drawing_is_one_write(rt: HostRuntime) {
     let rt = &rt;
@@ -148,7 +149,7 @@ fn faults<T: TermLike + Drop>(bar: &Shown<T>) -> Option<u64> {
     Some(bar.term()?.faults())
 }
 
-/// A tick is drawn, a line fails and is counted, and the same line is drawn then.
+/// A tick is drawn, a line fails and is counted, and then the same line is drawn.
 fn fails_at_a_line<T: TermLike + Drop>(rt: &impl Abort, mut bar: Shown<T>) {
     same!(rt; bar.makes(Step::Tick), Ok(Drawn::Yes));
     let broken = Err(Refusal::Terminal(ErrorKind::BrokenPipe));
@@ -156,7 +157,7 @@ fn fails_at_a_line<T: TermLike + Drop>(rt: &impl Abort, mut bar: Shown<T>) {
     same!(rt; (bar.makes(Step::Log("l")), faults(&bar)), (Ok(Drawn::Yes), Some(1)));
 }
 
-/// A boxed terminal whose writer fails once, behind the ten bytes of a first drawing on ten columns.
+/// A boxed terminal whose writer fails once, after the ten bytes of a first draw on ten columns.
 fn failing(rt: &impl Abort, alloc: Global) -> Boxed {
     let record = Record::new(alloc, Plan::Byte(10), 64).granted(rt);
     let size = Size { rows: 5, cols: 10 };

@@ -1,4 +1,4 @@
-//! Shows a download of 500,000 bytes a second: bytes, rate and time left, and what stands on the terminal at four moments.
+//! Shows a download of 500,000 bytes a second: bytes, rate and time left, and the rows on the terminal at four moments.
 use crate::shown::print;
 use anyhow::Result;
 use indicatif::{BarState, InMemoryTerm, LoneBar, NoTracker, ProgressDrawTarget, ProgressStyle};
@@ -6,7 +6,7 @@ use indicatif::{BarState, InMemoryTerm, LoneBar, NoTracker, ProgressDrawTarget, 
 /// The file's length in bytes.
 const LENGTH: u64 = 3_000_000;
 
-/// The moments at which is looked.
+/// The moments at which the rows are printed.
 const SECONDS: &[u32] = &[0, 1, 3, 6];
 
 fn download(rt: &HostRuntime, bar: &mut LoneBar<NoTracker, InMemoryTerm>) -> Result<()> {

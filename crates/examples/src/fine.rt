@@ -1,4 +1,4 @@
-//! Shows a bar of fine characters: a cell is full, empty or one of seven parts, so that 14 columns tell 112 steps apart.
+//! Shows a bar of fine characters: a cell is full, empty or one of seven parts, so that 14 columns show 112 different steps.
 use crate::shown::print;
 use anyhow::Result;
 use indicatif::{BarState, InMemoryTerm, LoneBar, NoTracker, ProgressDrawTarget, ProgressStyle};

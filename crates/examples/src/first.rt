@@ -1,4 +1,4 @@
-//! Shows a first program, the guide's first bar: three steps. It stands on a terminal in memory, whose rows are printed in the end.
+//! Shows a first program, the guide's first bar: three steps. It draws on a terminal in memory, whose rows are printed at the end.
 use crate::shown::{print, setup};
 use anyhow::Result;
 use indicatif::ProgressBar;

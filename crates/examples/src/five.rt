@@ -1,5 +1,5 @@
-//! Copies five files at once, each by a thread with a bar of its own. Where standard error is no terminal, plain lines say how far each is: one
-//! each five seconds, and one at the end.
+//! Copies five files at once, each by a thread with its own bar. If standard error is no terminal, plain lines show the progress of each:
+//! one each five seconds, and one at the end.
 use anyhow::Result;
 use indicatif::machine::{Shares, StderrBoard, on_stderr};
 use indicatif::{MultiProgress, PlainLines, Refusal};

@@ -1,5 +1,5 @@
-//! Shows the programs of the guide at the head of crate `indicatif`: templates and keys of one's own, a board, a wrapper, and what goes
-//! wrong beside what goes right (`first` is the first one). Each prints what stands on a terminal in memory in the end.
+//! Shows the programs of the guide at the head of the crate `indicatif`: templates and your own keys, a board, a wrapper, and what goes
+//! wrong beside what goes right (`first` is the first one). Each prints the rows of a terminal in memory at the end.
 use crate::guide_key;
 use crate::shown::{self, print};
 use anyhow::Result;
@@ -20,7 +20,7 @@ pub fn setup(alloc: Global) -> Result<Setup<InMemoryTerm, StepClock>, Refusal> {
     shown::setup(alloc, 5, 30)
 }
 
-/// Prints what stands on a bar's terminal.
+/// Prints the rows of a bar's terminal.
 pub fn show<R: Print + Wait + Copy + Drop, K: Tracks>(
     rt: R,
     name: &str,
@@ -30,7 +30,7 @@ pub fn show<R: Print + Wait + Copy + Drop, K: Tracks>(
     bar.with_term(|term| print(&rt, term))
 }
 
-/// Prints what stands on a board's terminal.
+/// Prints the rows of a board's terminal.
 fn show_all<R: Print + Wait + Copy + Drop>(rt: R, name: &str, board: &Several<R>) -> Result<()> {
     println!(rt; "-- {name}")?;
     board.with_term(|term| print(&rt, term))
@@ -102,7 +102,7 @@ fn dropped_early<R: AllocGlobal + Print + Wait + Copy + Drop>(rt: R) -> Result<(
     show_all(rt, "a bar dropped too early", &board)
 }
 
-/// Bars of files that are done, each finished. Both have an owner, which comes back.
+/// Bars of files that are done, each finished. The owners of both are returned.
 fn finish_each<R: AllocGlobal + Wait + Copy + Drop>(
     rt: R,
     board: &Several<R>,

@@ -1,4 +1,4 @@
-//! Shows the guide's key of one's own: how many files are left.
+//! Shows the guide's own key: how many files are left.
 ghost use Rattle.std.specs.Prelude.{◌-◌, decimal};
 
 use crate::guide::{setup, show};
@@ -7,7 +7,7 @@ use indicatif::{FnTracker, Moment, ProgressBar, ProgressState, ProgressStyle, Re
 use std::alloc::Global;
 use std::sync::Wait;
 
-/// Tells how many of so many files are left.
+/// Says how many of `of` files are left.
 #[derive(Drop)]
 pub struct Left {
     pub alloc: Global,

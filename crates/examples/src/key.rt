@@ -1,4 +1,4 @@
-//! Shows a key of one's own on standard error: how many of 400 files are left. Where that is no terminal, the bar is hidden.
+//! Shows your own key on standard error: how many of 400 files are left. If that is no terminal, the bar is hidden.
 ghost use Rattle.std.specs.Prelude.{◌-◌, ◌++◌, codes, decimal};
 
 use anyhow::Result;

@@ -1,5 +1,5 @@
-//! Logs above two bars: the macros of `log` write through a bridge, while a thread ticks one of the bars. On standard error; where
-//! that is no terminal, the bars are hidden, and the kit's console writes the lines.
+//! Logs above two bars: the macros of `log` write through a bridge, while a thread ticks one of the bars. On standard error; if that is no
+//! terminal, the bars are hidden, and the lines are written as the kit's console does.
 use anyhow::Result;
 use indicatif::MultiProgress;
 use indicatif::bridge::{StderrLogger, logger_above};

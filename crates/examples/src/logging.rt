@@ -1,9 +1,9 @@
-//! Shows lines that are logged above a bar: they stay, and the bar goes on below them. The terminal has four rows, so that the
-//! first line scrolls away; the picture has it all the same.
+//! Shows lines that are logged above a bar: they stay, and the bar goes on below them. The terminal has four rows, so the first line
+//! scrolls away; the picture still has it.
 use anyhow::Result;
 use indicatif::{BarState, InMemoryTerm, LoneBar, NoTracker, ProgressDrawTarget, ProgressStyle};
 
-/// What is logged, and what the bar says behind it.
+/// The logged lines, and the bar's message after each.
 const LINES: &[(&str, &str)] = &[
     ("copied a.txt", "copying\n1 of 4"),
     ("copied b.txt", "copying\n2 of 4"),

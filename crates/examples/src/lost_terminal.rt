@@ -11,7 +11,7 @@ use std::time::Duration;
 /// The steps of the board's work.
 const STEPS: u64 = 20;
 
-/// Those of the bar alone.
+/// The steps of the bar alone.
 const MORE: u64 = 30;
 
 type Logger<R> = Logged<R, LogBridge<StderrTerm, MachineClock<HostRuntime>, R>>;
@@ -23,7 +23,7 @@ fn step<R: Shares>(rt: &R, bar: &StderrBar<R>) -> Result<()> {
     Ok(())
 }
 
-/// The board's work: each step is told in a line above the bars.
+/// The board's work: each step logs a line above the bars.
 fn on_board<R: Shares>(
     rt: &R,
     log: &Logger<R>,

@@ -1,13 +1,13 @@
 //! Pieces of work that threads do, with a bar: a thousand, by as many threads as there are processors; then a hundred that all wait for one
-//! another, so that each needs a thread of its own. Printed is how many have answers, or what was refused, and where the bar is.
-//! `tools/refused.py` refuses threads to it.
+//! another, so that each needs its own thread. It prints how many have answers, or the refusal, and the bar's position. `tools/refused.py`
+//! refuses threads to it.
 use anyhow::Result;
 use indicatif::machine::{Shares, StderrBar, hidden_bar};
 use indicatif::{Gate, run_workers};
 use std::alloc::Global;
 use std::sync::Barrier;
 
-/// Holds nobody.
+/// Lets every piece pass.
 #[derive(Drop)]
 struct Open;
 
@@ -32,7 +32,7 @@ impl<'a, R: Shares> Gate for Meeting<'a, R> {
     }
 }
 
-/// So many pieces of three items.
+/// The given number of pieces with three items each.
 fn pieces_of(alloc: Global, count: usize) -> Result<Vec<Vec<u32>>> {
     let mut pieces = Vec::new(alloc);
     for _ in 0..count {

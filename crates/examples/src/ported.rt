@@ -1,4 +1,4 @@
-//! Three programs of the documentation of the Rust crate, carried over. They draw on standard error, in colours where these are wanted.
+//! Three programs of the documentation of the Rust crate, carried over. They draw on standard error, in colours if they are wanted.
 //!
 //! - `download`: bytes and a rate. `multi`: two bars that threads move, with logged lines. `iterator`: a loop with a spinner.
 mod download;

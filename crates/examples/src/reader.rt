@@ -1,4 +1,4 @@
-//! Hands standard input on to standard output, and shows on standard error how much went: `examples reader < FILE > OTHER`.
+//! Copies standard input to standard output, and shows on standard error how much was copied: `examples reader < FILE > OTHER`.
 use anyhow::Result;
 use indicatif::ProgressBar;
 use indicatif::machine::{Shares, StderrBar, on_stderr, style_on_stderr};

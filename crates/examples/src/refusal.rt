@@ -1,4 +1,4 @@
-//! Shows a refusal: a character that is wider than the terminal. Nothing is written then, and the bar goes on.
+//! Shows a refusal: a character that is wider than the terminal. Nothing is written, and the bar goes on.
 use anyhow::Result;
 use indicatif::{BarState, InMemoryTerm, LoneBar, NoTracker, ProgressDrawTarget, ProgressStyle};
 

@@ -1,4 +1,4 @@
-//! Three bars at once on standard error, each moved by a thread of its own.
+//! Three bars at once on standard error, each moved by its own thread.
 use anyhow::Result;
 use indicatif::machine::{Shares, StderrBar, on_stderr};
 use indicatif::{Drawn, MultiProgress, Refusal};

@@ -1,9 +1,9 @@
-//! A terminal in memory, and what stands there: some of the other programs have their bars on it, and print it.
+//! A terminal in memory, and its rows: some of the other programs draw their bars on it, and print it.
 use anyhow::{Result, bail};
 use indicatif::{InMemoryTerm, ProgressDrawTarget, Refusal, Setup, StepClock};
 use std::alloc::Global;
 
-/// What a bar or a board is made with on a terminal in memory: a target, and a clock that goes on by a nanosecond at each look.
+/// The setup of a bar or a board on a terminal in memory: a target, and a clock that advances by a nanosecond at each reading.
 pub fn setup(
     alloc: Global,
     rows: u16,
@@ -14,7 +14,7 @@ pub fn setup(
     Ok(Setup { target, clock })
 }
 
-/// Prints what stands on the terminal.
+/// Prints the rows of the terminal.
 pub fn print<R: Print>(rt: &R, term: Option<&InMemoryTerm>) -> Result<()> {
     match term {
         Some(term) => {

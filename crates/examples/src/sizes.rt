@@ -1,5 +1,5 @@
-//! Shows a bar whose terminal gets other sizes. They come from a text here, a line each as `stty size` prints it; in a program they come from
-//! whoever hears of them.
+//! Shows a bar whose terminal gets other sizes. They come from a text here, one a line as `stty size` prints it; in a program they come
+//! from whatever reports them.
 use crate::shown::print;
 use anyhow::Result;
 use indicatif::{BarState, InMemoryTerm, LoneBar, NoTracker, ProgressDrawTarget};

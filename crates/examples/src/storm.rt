@@ -1,6 +1,6 @@
-//! A storm on standard error: 64 threads log above four bars, move them and pause them, all at once, while one more thread ticks a bar; three
-//! times, each time on a new target, and once more while they run. How many lines each thread has written is printed.
-//! `tools/programs.py storms` looks whether all of them stand.
+//! A storm on standard error: 64 threads log above four bars, move them and pause them, all at once, while one more thread ticks a bar;
+//! three times, each time on a new target, and once more while they run. It prints how many lines each thread has written.
+//! `tools/programs.py storms` checks that all of them stand.
 use anyhow::Result;
 use indicatif::bridge::{StderrLogger, logger_above};
 use indicatif::machine::{Shares, StderrBar, StderrBoard, on_stderr};
@@ -33,7 +33,7 @@ struct Storm<'a, R: Wait + Clone + Drop> {
     log: &'a StderrLogger<R>,
 }
 
-/// Writes a line while the bars are away, as another program does.
+/// Writes a line while the bars are cleared, as another program does.
 fn write_in_pause<R: AllocGlobal + Wait + Clock + Copy + Clone + Drop>(
     storm: &Storm<'_, R>,
     text: &str,
@@ -80,7 +80,7 @@ fn move_bar<R: AllocGlobal + Wait + Clock + Copy + Clone + Drop>(
     }
 }
 
-/// A thread's steps on a target, a line after each move; how many lines it has written. One thread goes to another target meanwhile.
+/// A thread's steps on a target, a line after each move; how many lines it has written. One thread sets another target meanwhile.
 fn run<R: AllocGlobal + Wait + Clock + Copy + Clone + Drop>(
     storm: &Storm<'_, R>,
     target: u64,

@@ -1,4 +1,4 @@
-//! Shows the parts of a template, and where one is refused.
+//! Shows the parts of a template, and the place where one is refused.
 use anyhow::Result;
 use indicatif::{Part, Template};
 use std::io;

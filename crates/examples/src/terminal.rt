@@ -1,10 +1,10 @@
-//! Shows a bar on standard error, behind a `BufWriter`: each drawing is one write. Where standard error is no terminal, or
-//! one without moves of the cursor (`TERM` unset or `dumb`), the bar is hidden. The size is what `LINES` and `COLUMNS` say.
+//! Shows a bar on standard error, behind a `BufWriter`: each draw is one write. If standard error is no terminal, or one without cursor
+//! moves (`TERM` unset or `dumb`), the bar is hidden. The size is that of `LINES` and `COLUMNS`.
 use anyhow::Result;
 use indicatif::machine::on_stderr;
 use indicatif::{BarState, Clock, LoneBar, NoTracker, ProgressStyle, Setup, TermLike};
 
-/// Says `copying`, and logs a line above it.
+/// Shows `copying`, and logs a line above it.
 fn copy<T: TermLike + Drop, C: Clock>(
     bar: &mut LoneBar<NoTracker, T>,
     clock: &mut C,

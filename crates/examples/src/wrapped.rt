@@ -1,4 +1,4 @@
-//! Shows a loop over a list with a bar of its own: the terminal is printed after each item.
+//! Shows a loop over a list with its own bar: the terminal is printed after each item.
 use crate::shown::{print, setup};
 use anyhow::Result;
 use indicatif::{

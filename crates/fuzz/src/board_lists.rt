@@ -22,7 +22,7 @@ fn board_on(alloc: Global, record: &Rc<Record>, setting: Setting) -> Result<OnWi
     Ok(board)
 }
 
-/// How many calls a list has at most.
+/// The most calls of a list.
 const MOST: usize = 40;
 
 fn random_calls(alloc: Global, numbers: &mut Numbers) -> Result<Calls, Law> {
@@ -35,7 +35,7 @@ fn random_calls(alloc: Global, numbers: &mut Numbers) -> Result<Calls, Law> {
     Ok(calls)
 }
 
-/// What a call has to answer before anything is drawn.
+/// The expected answer of a call before anything is drawn.
 #[derive(Clone, Copy, Drop)]
 enum Wanted {
     /// This refusal.
@@ -44,7 +44,7 @@ enum Wanted {
     Id(BarId),
     /// That it was done.
     Done,
-    /// What a draw answers.
+    /// The answer of a draw.
     Draw,
 }
 
@@ -56,7 +56,7 @@ fn drawn_of(answer: &Answer) -> Result<Result<Drawn, Refusal>, Law> {
     }
 }
 
-/// A board that makes calls one by one, what its terminal is given, how many bars came, and which of them have no owner.
+/// A board that makes calls one by one, what its terminal gets, how many bars were inserted, and which of them have no owner.
 #[derive(Drop)]
 struct Stage {
     alloc: Global,
@@ -83,7 +83,7 @@ impl Stage {
         })
     }
 
-    /// What refuses a call of this bar.
+    /// Why a call of this bar is refused, if it is.
     fn lacks(&self, id: BarId) -> Option<Refusal> {
         if id.mark != MARK {
             return Some(Refusal::ForeignBar);
@@ -114,7 +114,7 @@ impl Stage {
         }
     }
 
-    /// What a call has to answer before anything is drawn.
+    /// The expected answer of a call before anything is drawn.
     fn wanted(&self, call: &Call<NoTracker>, now: Moment) -> Wanted {
         match call {
             Call::Insert { at, candidate } => self.of_insertion(*at, candidate),
@@ -133,7 +133,7 @@ impl Stage {
         }
     }
 
-    /// An answer is the one that it has to be.
+    /// Checks that an answer is as expected.
     fn is_right(&self, wanted: Wanted, answer: &Answer, wrote: Wrote) -> Held {
         let is_right = match wanted {
             Wanted::Draw => return self.setting.draws(&drawn_of(answer)?, wrote),
@@ -145,7 +145,7 @@ impl Stage {
         Law::Written.holds(!wrote.has_bytes && !wrote.has_failed)
     }
 
-    /// What is known of the bars behind a call that was taken.
+    /// Notes the bars after a call that wasn't refused.
     fn notes(
         &mut self,
         call: &Call<NoTracker>,
@@ -168,7 +168,7 @@ impl Stage {
         Law::Order.holds(self.is_order())
     }
 
-    /// Each bar that came stands at most once.
+    /// Checks that each bar stands at most once.
     fn is_order(&self) -> bool {
         let order = self.board.order();
         for (at, bar) in order.iter().enumerate() {
@@ -180,7 +180,7 @@ impl Stage {
         true
     }
 
-    /// Makes a call that has to answer so, and to leave what it should.
+    /// Makes a call, and checks its answer and its effect.
     fn makes(&mut self, call: &Call<NoTracker>, now: Moment, in_run: &Answer) -> Held {
         let before = self.watch.point();
         let wanted = self.wanted(call, now);
@@ -197,7 +197,7 @@ impl Stage {
         }
     }
 
-    /// The calls of a list, one by one, answer and write what they did in a run of this board, and leave the same order.
+    /// Checks that the calls of a list, made one by one, answer and write what they did in a run of this board, and leave the same order.
     fn repeats(
         &mut self,
         numbers: &mut Numbers,
@@ -215,7 +215,7 @@ impl Stage {
     }
 }
 
-/// A random list of calls of a board: in a run and one by one they answer and write the same, as they should.
+/// A random list of calls of a board: in a run and one by one they must answer and write the same, as defined.
 pub fn played(alloc: Global, numbers: &mut Numbers) -> Held {
     let setting = Setting::by(numbers);
     let mut again = numbers.again()?;

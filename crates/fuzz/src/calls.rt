@@ -13,7 +13,7 @@ use std::alloc::Global;
 /// The board's mark.
 pub const MARK: u64 = 1;
 
-/// A small number, or once in eight times the greatest.
+/// A small number, or once in eight times the maximum.
 fn number(numbers: &mut Numbers) -> u64 {
     match numbers.one_in(8) {
         true => u64::MAX,
@@ -36,7 +36,7 @@ fn finish(alloc: Global, numbers: &mut Numbers) -> Result<ProgressFinish, Law> {
     })
 }
 
-/// A bar somewhere on its way.
+/// A bar in some state.
 pub fn bar(alloc: Global, numbers: &mut Numbers) -> Result<Box<BarState<NoTracker>>, Law> {
     let len = match numbers.one_in(2) {
         true => Some(number(numbers)),
@@ -77,7 +77,7 @@ fn rare_command(alloc: Global, numbers: &mut Numbers) -> Result<BarCommand<NoTra
     })
 }
 
-/// A command of a bar's numbers.
+/// A command on a bar's numbers.
 fn counting(numbers: &mut Numbers) -> BarCommand<NoTracker> {
     let name = numbers.text_of(&COUNTING);
     let first = number(numbers);

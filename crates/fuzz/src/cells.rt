@@ -5,7 +5,7 @@ use indicatif_term::in_memory::Cells;
 use indicatif_text::columns::columns;
 use std::alloc::Global;
 
-/// Sequences, characters of all widths, and beginnings of both.
+/// Sequences, characters of all widths, and prefixes of both.
 const PIECES: &[&[u8]] = &[
     b"\r",
     b"\n",
@@ -41,7 +41,7 @@ const PIECES: &[&[u8]] = &[
     b"\xF0\x9F\x98\x80",
 ];
 
-/// So many bytes: half of them from pieces, the others any.
+/// The given number of bytes: half of them from pieces, the others any.
 fn random_bytes(alloc: Global, numbers: &mut Numbers, count: usize) -> Result<Vec<u8>, Law> {
     let mut bytes = Vec::new(alloc);
     for _ in 0..count {
@@ -65,7 +65,7 @@ fn feed(cells: &mut Cells, bytes: &[u8]) -> Held {
     }
 }
 
-/// Feeds bytes in pieces, each of which ends behind a byte once in so many times.
+/// Feeds bytes in pieces, which end after a byte once in `count` times.
 fn feed_cut(
     alloc: Global,
     numbers: &mut Numbers,
@@ -83,7 +83,7 @@ fn feed_cut(
     feed(cells, &piece)
 }
 
-/// Two terminals show the same, and so do their cursors.
+/// Checks that two terminals show the same, with the same cursor.
 fn are_alike(one: &Cells, other: &Cells) -> Held {
     let same = one.picture()? == other.picture()? && one.cursor() == other.cursor();
     Law::Cut.holds(same)
@@ -92,7 +92,8 @@ fn are_alike(one: &Cells, other: &Cells) -> Held {
 /// Rows and columns of a terminal.
 type Sizes = (u16, u16);
 
-/// Feeds bytes in two halves: what has scrolled away behind the first stays, no row is too wide, and the cursor stands in the window.
+/// Feeds bytes in two halves: what has scrolled away after the first must stay, no row may be too wide, and the cursor must be in the
+/// window.
 fn feed_halves(cells: &mut Cells, (front, back): (&[u8], &[u8]), (rows, cols): Sizes) -> Held {
     feed(cells, front)?;
     let before = cells.picture()?;
@@ -107,7 +108,7 @@ fn feed_halves(cells: &mut Cells, (front, back): (&[u8], &[u8]), (rows, cols): S
     Law::Window.holds(row < rows && column <= cols)
 }
 
-/// Bytes, a terminal that was fed with all of them at once, and its size.
+/// Bytes, a terminal that got all of them at once, and its size.
 #[derive(Drop)]
 struct Input<'a> {
     alloc: Global,
@@ -117,7 +118,7 @@ struct Input<'a> {
 }
 
 impl Input<'_> {
-    /// The bytes give the same cells in two halves, parted at this place.
+    /// Checks that the bytes give the same cells in two halves, cut at this place.
     fn is_alike_in_halves(&self, middle: usize) -> Held {
         let front = self.bytes.get(..middle).unwrap_or(&[]);
         let back = self.bytes.get(middle..).unwrap_or(&[]);
@@ -126,14 +127,14 @@ impl Input<'_> {
         are_alike(self.whole, &cells)
     }
 
-    /// They do so in pieces, each of which ends behind a byte once in so many times.
+    /// Checks that they do so in pieces, which end after a byte once in `count` times.
     fn is_alike_cut(&self, numbers: &mut Numbers, count: usize) -> Held {
         let mut cells = Cells::new(self.alloc, self.sizes.0, self.sizes.1)?;
         feed_cut(self.alloc, numbers, &mut cells, (self.bytes, count))?;
         are_alike(self.whole, &cells)
     }
 
-    /// They do so in two halves, in random pieces and one by one.
+    /// Checks that they do so in two halves, in random pieces and one by one.
     fn is_alike(&self, numbers: &mut Numbers, middle: usize) -> Held {
         self.is_alike_in_halves(middle)?;
         self.is_alike_cut(numbers, 3)?;
@@ -141,7 +142,7 @@ impl Input<'_> {
     }
 }
 
-/// So many random bytes give the same cells whole, in two halves, in random pieces and one by one.
+/// Checks that `count` random bytes give the same cells at once, in two halves, in random pieces and one by one.
 pub fn fed(alloc: Global, numbers: &mut Numbers, count: usize) -> Held {
     let bytes = random_bytes(alloc, numbers, count)?;
     let sizes = (

@@ -1,9 +1,9 @@
-//! What has to hold of each run.
+//! What must hold of each run.
 use indicatif_text::columns::Refusal;
 use scripts::judged::judge::Finding;
 use std::alloc::{AllocError, AllocFailed};
 
-/// What doesn't hold of a run.
+/// A law that a run breaks.
 #[derive(Debug, Drop)]
 pub enum Law {
     /// The same bytes give the same cells, however they are cut.
@@ -12,11 +12,11 @@ pub enum Law {
     Scrolled,
     /// A row has no more columns than the terminal, and the cursor stands in the window.
     Window,
-    /// What is refused of a beginning of a template is refused of the whole.
+    /// A refusal of a template's prefix is that of the whole.
     Beginning,
-    /// A style is made of a template that has parts, and of no other.
+    /// A style is made from a template that has parts, and from no other.
     Style,
-    /// A builder takes what its rule allows, and refuses the rest by the rule's refusal.
+    /// A builder takes what its rule allows, and refuses anything else as the rule says.
     Builder,
     /// A line has no newline and no tab.
     Line,
@@ -24,21 +24,21 @@ pub enum Law {
     Colours,
     /// A copy has the same lines.
     Copy,
-    /// A call answers what it has to.
+    /// A call has its expected answer.
     Answer,
     /// A call that draws nothing writes nothing.
     Written,
-    /// Bars stand once each in the order, and each was taken in.
+    /// Bars stand once each in the order, and each was inserted.
     Order,
-    /// A limited target is drawn at most as often as its rate allows.
+    /// A limited target draws at most as often as its rate allows.
     Limit,
-    /// Each call alone answers and writes what it does in a run, and so does a fresh board that makes the calls of a history.
+    /// Each call alone answers and writes what it does in a run, and so does a new board that makes the calls of a history.
     Replay,
-    /// A line that was logged stands.
+    /// A logged line stands.
     Logged,
     /// What the judge of the bytes found.
     Judged(Finding),
-    /// A refusal where there is to be none.
+    /// Something was refused that must not be.
     Refused(Refusal),
 }
 
@@ -70,7 +70,7 @@ impl<V: Drop> From<AllocFailed<V>> for Law {
 pub type Held = Result<(), Law>;
 
 impl Law {
-    /// This law holds if that is so.
+    /// Whether this law holds, by a test.
     pub fn holds(self, so: bool) -> Held {
         match so {
             true => Ok(()),

@@ -27,7 +27,7 @@ fn lone_on(
     Ok(lone)
 }
 
-/// How many calls a list has at most.
+/// The most calls of a list.
 const MOST: usize = 30;
 
 fn random_calls(alloc: Global, numbers: &mut Numbers) -> Result<Calls, Law> {
@@ -48,10 +48,10 @@ fn copy_of(alloc: Global, call: &LoneCall<NoTracker>) -> Result<LoneCall<NoTrack
     })
 }
 
-/// What a call answers.
+/// The answer of a call.
 type Said = Result<Drawn, Refusal>;
 
-/// A bar that makes calls one by one, what its terminal is given, and how often it was drawn without force.
+/// A bar that makes calls one by one, what its terminal gets, and how many unforced draws it made.
 #[derive(Drop)]
 struct Stage {
     alloc: Global,
@@ -74,7 +74,7 @@ impl Stage {
         })
     }
 
-    /// Makes a call that has to answer so, and to leave what it should. A time that is beyond its moment is refused.
+    /// Makes a call, and checks its answer and its effect. A time beyond its moment is refused.
     fn makes(&mut self, call: &LoneCall<NoTracker>, now: Moment, wanted: Said) -> Held {
         let before = self.watch.point();
         let said = self.bar.call(copy_of(self.alloc, call)?, now);
@@ -94,7 +94,7 @@ impl Stage {
         }
     }
 
-    /// The calls of a list, one by one, answer and write what they did in a run.
+    /// Checks that the calls of a list, made one by one, answer and write what they did in a run.
     fn repeats(&mut self, numbers: &mut Numbers, answers: &[Said], record: &Record) -> Held {
         Law::Replay.holds(numbers.up_to(MOST) == answers.len())?;
         let mut now: Moment = 0;
@@ -106,7 +106,7 @@ impl Stage {
     }
 }
 
-/// A random list of calls of a lone bar: in a run and one by one they answer and write the same, as they should.
+/// A random list of calls of a lone bar: in a run and one by one they must answer and write the same, as defined.
 pub fn played(alloc: Global, numbers: &mut Numbers) -> Held {
     let setting = Setting::by(numbers);
     let bar = bar(alloc, numbers)?;

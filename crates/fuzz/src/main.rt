@@ -1,18 +1,19 @@
-//! Random input, and laws that have to hold whatever it is; terminals that fail; and the engine beside one that writes whole frames.
+//! Random input, and laws that hold for all of it; terminals that fail; and the engine beside one that writes whole frames.
 //!
-//! `fuzz laws SEED BYTES TEMPLATES LONE BOARD THREADS [STEPS]` feeds so many random bytes to cell terminals, reads so many random templates,
-//! and plays so many random lists of calls: of a lone bar, of a board, and of a board in four threads with random delays, each of which
-//! makes so many calls, 8 where none are said. It prints how many runs of each kind there were and how many broke a law; of the first of
-//! these its number and the law. The same seed gives the same bytes, templates and lists. The exit status is 1 where a law was broken.
+//! `fuzz laws SEED BYTES TEMPLATES LONE BOARD THREADS [STEPS]` feeds BYTES random bytes to cell terminals, reads TEMPLATES random
+//! templates, and plays random lists of calls: LONE of a lone bar, BOARD of a board, and THREADS of a board in four threads with random
+//! delays, each of which makes STEPS calls, 8 by default. It prints how many runs of each kind there were and how many broke a law; for the
+//! first of these its number and the law. The same seed gives the same bytes, templates and lists. The exit status is 1 if a law was
+//! broken.
 //!
-//! `fuzz sweeps ..` and `fuzz whole_frames ..` do what the modules of these names say. `fuzz SEED BYTES ..`, with the numbers alone, plays
+//! `fuzz sweeps ..` and `fuzz whole_frames ..` do what the modules with these names say. `fuzz SEED BYTES ..`, with numbers only, plays
 //! random input, then the sweeps, and compares the engines last.
 //!
-//! - `numbers`: random numbers. `law`: what has to hold. `texts`, `calls`: random texts and calls.
+//! - `numbers`: random numbers. `law`: what must hold. `texts`, `calls`: random texts and calls.
 //! - `cells`: bytes. `templates`: templates and styles.
-//! - `setting`: a terminal, how it fails, and who looks at its bytes. `lone_lists`, `board_lists`: lists of calls.
-//! - `threads`: a shared board that keeps its history. `player`: what a thread does.
-//! - `sweeps`: terminals that fail, at each place where they can. `whole_frames`: engines beside one that writes whole frames.
+//! - `setting`: a terminal, how it fails, and the checks of its bytes. `lone_lists`, `board_lists`: lists of calls.
+//! - `threads`: a shared board that keeps its history. `player`: the calls of a thread.
+//! - `sweeps`: terminals that fail, at each possible place. `whole_frames`: engines beside one that writes whole frames.
 #![tactic(auto)]
 
 mod board_lists;
@@ -48,13 +49,13 @@ struct Counts {
     steps: u64,
 }
 
-/// How many calls each of four threads makes, where the arguments don't say it.
+/// How many calls each of four threads makes by default.
 const STEPS: u64 = 8;
 
-/// What is asked for.
+/// A request.
 #[derive(Drop)]
 enum Asked {
-    /// All three: random input by these counts, and the other two as without words.
+    /// All three: random input by these counts, and the other two with their defaults.
     All(Counts),
     /// Random input.
     Laws(Counts),
@@ -62,7 +63,7 @@ enum Asked {
     WholeFrames(whole_frames::Asked),
 }
 
-/// The numbers behind so many words.
+/// The numbers after the first `passed` words.
 fn counts_behind<R: AllocGlobal + Env>(rt: &R, passed: usize) -> Result<Counts> {
     let mut numbers: Vec<u64> = Vec::new(rt.alloc());
     for word in env::args(rt)?.skip(passed) {
@@ -84,7 +85,7 @@ fn counts_behind<R: AllocGlobal + Env>(rt: &R, passed: usize) -> Result<Counts> 
     }
 }
 
-/// What the arguments ask for: the words, the first of which is the program's name. They are read once more where memory was refused.
+/// The request of the arguments: the words, the first of which is the program's name. They are read again if memory was refused.
 fn request<R: AllocGlobal + Env>(rt: &R) -> Result<Asked> {
     let mut words = match env::args(rt) {
         Ok(words) => words,
@@ -106,7 +107,7 @@ enum Kind {
     Templates,
     Lone,
     Board,
-    /// Each in four threads that make so many calls.
+    /// Each in four threads that make this many calls.
     Threads(u64),
 }
 
@@ -114,7 +115,7 @@ enum Kind {
 const BYTES: usize = 1000;
 
 impl Kind {
-    /// Makes the run of this number, by the numbers of a stream of its own.
+    /// Makes the run with this number, with its own stream of numbers.
     fn plays<R: Plays>(&self, rt: R, seed: u64, number: u64) -> Held {
         let mut numbers = Numbers::new(seed, number);
         match self {
@@ -132,7 +133,7 @@ impl Kind {
         }
     }
 
-    /// Makes so many runs, and says what came of them by this name; whether none broke a law.
+    /// Makes the given number of runs, and prints their result under this name; whether none broke a law.
     fn all<R: Plays + Print>(&self, rt: R, seed: u64, (name, count): (&str, u64)) -> Result<bool> {
         let mut broken: u64 = 0;
         let mut first = None;

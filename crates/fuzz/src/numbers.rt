@@ -5,7 +5,7 @@ use rand_core::utils::NextWord;
 use rand_pcg::Pcg32;
 use std::alloc::AllocError;
 
-/// Numbers one after another, which a seed and the number of a stream determine.
+/// Numbers one after another, determined by a seed and the number of a stream.
 #[derive(Drop)]
 pub struct Numbers {
     words: Pcg32,
@@ -25,12 +25,12 @@ impl Numbers {
         Ok(Numbers { words })
     }
 
-    /// The next one.
+    /// The next number.
     pub fn next(&mut self) -> u32 {
         self.words.next_word()
     }
 
-    /// A number below this one; 0 where there is none.
+    /// A number below this one; 0 if there is none.
     pub fn below(&mut self, count: usize) -> usize
         ensures { 0 < count → result < count }
     {
@@ -49,7 +49,7 @@ impl Numbers {
         u16::from_le_bytes([low, high]) % most.saturating_add(1).max(1)
     }
 
-    /// The moment of the next call: mostly the same or a little later, and once in eight times any in the first second.
+    /// The moment of the next call: usually the same or a little later, and once in eight times any in the first second.
     pub fn moment(&mut self, now: u64) -> u64 {
         match self.below(8) {
             0 => u64::from(self.next() % 1_000_000_000),
@@ -58,7 +58,7 @@ impl Numbers {
         }
     }
 
-    /// True once in so many times.
+    /// True once in `count` times.
     pub fn one_in(&mut self, count: usize) -> bool {
         self.below(count) == 0
     }

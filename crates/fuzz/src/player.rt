@@ -1,4 +1,4 @@
-//! What a thread does.
+//! The calls of a thread.
 use crate::numbers::Numbers;
 use indicatif::machine::MachineClock;
 use indicatif::{
@@ -8,7 +8,7 @@ use std::sync::Wait;
 use std::thread::{Threads, sleep};
 use std::time::{Clock, Duration};
 
-/// What the runtime is asked for.
+/// What it needs from the runtime.
 pub trait Plays: AllocGlobal + Threads + Wait + Clock + Sync + Send + Copy + Drop + 'static {}
 
 impl<R: AllocGlobal + Threads + Wait + Clock + Sync + Send + Copy + Drop + 'static> Plays for R {}
@@ -30,7 +30,7 @@ pub struct Random {
     pub steps: u64,
 }
 
-/// A thread with its number, and what its calls are. The last bar is for `tosses` alone.
+/// A thread with its number, and what its calls use. The last bar is only for `tosses`.
 #[derive(Drop)]
 pub struct Player<'a, R: Plays> {
     pub rt: R,
@@ -60,7 +60,7 @@ impl<R: Plays> Player<'_, R> {
         Ok(logged)
     }
 
-    /// Makes the call of this number below 20, of a bar that another number picks.
+    /// Makes the call with this number below 20, of a bar that another number picks.
     fn makes(&self, deed: usize, pick: usize, step: u64) -> Result<(), Refusal> {
         let Some(bar) = self.bars.get(pick) else {
             return Ok(());
@@ -107,7 +107,7 @@ impl<R: Plays> Player<'_, R> {
         Ok(format!(in self.rt.alloc(); "{word} {} {step}", self.number)?)
     }
 
-    /// A bar comes to the end of the board, ticks and steps, and goes with its ticker.
+    /// A bar is added at the end of the board, ticks and steps, and goes with its ticker.
     fn comes_and_goes(&self) -> Result<(), Refusal> {
         let bar = self.board.new_spinner()?;
         bar.enable_steady_tick(500_000)?;
@@ -116,7 +116,7 @@ impl<R: Plays> Player<'_, R> {
         Ok(())
     }
 
-    /// A bar that was on no board is taken in as the second one, and out again.
+    /// A bar that was on no board is inserted as the second one, and removed.
     fn in_and_out(&self) -> Result<(), Refusal> {
         let bar = ProgressBar::hidden(self.rt, self.rt.alloc(), MachineClock::new(self.rt))?;
         let bar = self.board.insert(1, bar)?;
@@ -124,8 +124,8 @@ impl<R: Plays> Player<'_, R> {
         self.board.remove(&bar)
     }
 
-    /// A bar that all threads have is taken out, told something while it stands alone, and taken in before all others. (No line is logged
-    /// by it: one that is logged meanwhile goes to no board.)
+    /// A bar that all threads share is removed, changed while it stands alone, and inserted before all others. (It logs no line: one that
+    /// is logged meanwhile goes to no board.)
     fn tosses(&self) -> Result<(), Refusal> {
         let Some(bar) = self.bars.last() else {
             return Ok(());

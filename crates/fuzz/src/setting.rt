@@ -1,4 +1,4 @@
-//! Where a list of calls is played.
+//! The terminal on which a list of calls is played.
 use crate::law::{Held, Law};
 use crate::numbers::Numbers;
 use indicatif_term::draw_target::ProgressDrawTarget;
@@ -9,27 +9,28 @@ use std::alloc::Global;
 use std::io::ErrorKind;
 use std::rc::Rc;
 
-/// A terminal of this size that fails so, how often it is drawn, whether by moves of the cursor alone, and how closely its bytes are looked at.
+/// A terminal of this size that fails in this way, its limiter, whether draws use cursor moves alone, and at which bytes its rows are
+/// checked.
 #[derive(Clone, Copy, Drop)]
 pub struct Setting {
     size: Size,
     plan: Plan,
     is_limited: bool,
-    /// Whether draws write over what stands, by moves of the cursor alone.
+    /// Whether draws write over what stands, by cursor moves alone.
     pub moves_cursor: bool,
     look: Look,
 }
 
-/// Draws a second of a limited target, and the time between two of them.
+/// Draws a second on a limited target, and the time between two of them.
 const RATE: u8 = 20;
 
 const INTERVAL: Moment = 50_000_000;
 
-/// How many draws are in hand at once.
+/// How many draws a new limiter allows at once.
 const AT_ONCE: u64 = 20;
 
 impl Setting {
-    /// Any: one to five rows and one to ten columns; once in twenty times any of the two may be 0.
+    /// A random setting: one to five rows and one to ten columns; once in twenty times either may be 0.
     pub fn by(numbers: &mut Numbers) -> Setting {
         let least = if numbers.one_in(20) { 0 } else { 1 };
         Setting {
@@ -54,12 +55,12 @@ impl Setting {
         }
     }
 
-    /// What the terminal is given.
+    /// A record of what the terminal gets.
     pub fn record(self, alloc: Global) -> Result<Rc<Record>, Refusal> {
         Record::new(alloc, self.plan, 1024)
     }
 
-    /// The target before a record.
+    /// The target that writes to a record.
     pub fn target(self, record: &Rc<Record>) -> Result<ProgressDrawTarget<Behind>, Refusal> {
         let term = self.size.terminal(record)?;
         match self.is_limited {
@@ -68,13 +69,13 @@ impl Setting {
         }
     }
 
-    /// So many draws that weren't forced, the last of them at this moment, are as many as the rate allows.
+    /// Checks that the rate allows this many unforced draws, the last of them at this moment.
     pub fn allows(self, draws: u64, last: Moment) -> Held {
         let most = AT_ONCE.saturating_add(last / INTERVAL);
         Law::Limit.holds(!self.is_limited || draws <= most)
     }
 
-    /// A call that may draw answers so only where that is right.
+    /// Checks the answer of a call that may draw.
     pub fn draws(self, said: &Result<Drawn, Refusal>, wrote: Wrote) -> Held {
         let cols = self.size.cols;
         let is_right = match said {
@@ -92,7 +93,7 @@ impl Setting {
     }
 }
 
-/// What a call did to the terminal.
+/// The effect of a call on the terminal.
 #[derive(Clone, Copy, Drop)]
 pub struct Wrote {
     /// It wrote something.
@@ -101,7 +102,7 @@ pub struct Wrote {
     pub has_failed: bool,
 }
 
-/// The terminal behind a call, and who judges what it was given.
+/// The terminal after a call, and the judge of its bytes.
 pub struct Watch {
     alloc: Global,
     record: Rc<Record>,
@@ -119,7 +120,7 @@ impl Drop for Watch {
 }
 
 impl Watch {
-    /// Watches this record in this setting. Nobody judges the bytes where the terminal has no rows or no columns.
+    /// Watches this record in this setting. The bytes aren't judged if the terminal has no rows or no columns.
     pub fn new(alloc: Global, setting: Setting, record: Rc<Record>) -> Result<Watch, Law> {
         let Setting { size, look, .. } = setting;
         let judge = match size.rows == 0 || size.cols == 0 {
@@ -133,7 +134,7 @@ impl Watch {
         })
     }
 
-    /// What was written behind so many bytes and failures; rows above stand.
+    /// What was written after this point; checks that the rows above stand.
     pub fn looks(&mut self, before: Point) -> Result<Wrote, Law> {
         let bytes = self.record.since(self.alloc, before)?;
         let has_failed = self.record.point().failures != before.failures;
@@ -146,19 +147,19 @@ impl Watch {
         })
     }
 
-    /// How much the terminal was given.
+    /// How much the terminal got.
     pub fn point(&self) -> Point {
         self.record.point()
     }
 
-    /// It took all that another one did.
+    /// Checks that it took the same bytes as another one.
     pub fn has_bytes_of(&self, other: &Record) -> Held {
         let wanted = other.since(self.alloc, Point::default())?;
         let bytes = self.record.since(self.alloc, Point::default())?;
         Law::Replay.holds(bytes == wanted)
     }
 
-    /// A text was to be logged by a call that answered so.
+    /// Notes a text to log, by a call with this answer.
     pub fn logged(&mut self, text: &str, said: &Result<Drawn, Refusal>) -> Held {
         match &mut self.judge {
             Some(judge) if *said == Ok(Drawn::Yes) => Ok(judge.logged(text)?),

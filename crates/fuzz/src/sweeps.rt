@@ -1,15 +1,15 @@
-//! Plays scripts of calls on terminals that fail, at each place where they can, and has them judged.
+//! Plays scripts of calls on terminals that fail, at each possible place, and has them judged.
 //!
-//! `fuzz sweeps` says of each sweep whether all of its runs are as they should be, and `fuzz sweeps count` how many runs there are, too.
-//! `fuzz sweeps pairs` makes those of two calls at each size, which take longer.
+//! `fuzz sweeps` prints for each sweep whether all of its runs are right, and `fuzz sweeps count` also how many runs there are. `fuzz
+//! sweeps pairs` makes those with two failing calls at each size, which take longer.
 //!
 //! `fuzz sweeps memory SCRIPT` plays one of the scripts `board`, `sized-board`, `lone`, `sized-lone`, `shared`, `loop` and `run` once, for
-//! `tools/refused.py`, which refuses it an allocation, and says whether it is as it is defined; so it does behind the sweeps of each of
-//! them, where nothing is refused. With `grows` the terminal takes memory too. With `grows count` or `stays count` it says where memory was
-//! refused; with `unjudged` in the place of `count` the script is played alone. Rows and columns behind that are the terminal's.
+//! `tools/refused.py`, which refuses it an allocation, and prints whether the run is as defined; the sweeps of each script end with such a
+//! run, in which nothing is refused. With `grows` the terminal takes memory too. With `grows count` or `stays count` it prints where memory
+//! was refused; with `unjudged` in place of `count` the script is only played. Rows and columns after that are the terminal's.
 //!
 //! - `sweep`: the runs of a script. `kinds`: what plays a script. `on_shared`, `in_loop`: a shared board and a wrapped loop that do.
-//! - `printing`: `bars run` before an output that fails. `memory`: want of memory. `planted`: wrong bodies that its judge finds.
+//! - `printing`: `bars run` with an output that fails. `memory`: want of memory. `planted`: wrong bodies that its judge finds.
 mod in_loop;
 mod kinds;
 mod memory;
@@ -28,16 +28,16 @@ use scripts::judged::record::Size;
 use scripts::judged::refused::Where;
 use std::env::Args;
 
-/// What is said of sweeps.
+/// What is printed of sweeps.
 #[derive(Clone, Copy, Drop)]
 pub enum Telling {
-    /// Whether all runs are as they should be.
+    /// Whether all runs are right.
     Verdicts,
-    /// How many runs there are, too.
+    /// Also how many runs there are.
     Counts,
 }
 
-/// Says what came of a sweep.
+/// Prints the result of a sweep.
 fn say<R: Print>(rt: &R, telling: Telling, tally: Tally) -> Result<()> {
     let Tally {
         runs,
@@ -74,7 +74,7 @@ fn sweep_each_size<R: Runs + Print>(
 /// The sweeps that are made at each size.
 const AT_EACH_SIZE: &[Sweep] = &[Sweep::EachCall, Sweep::EachByte, Sweep::FromEachCall];
 
-/// The sweeps of a script: at each size, and those of two calls on the largest terminal alone.
+/// The sweeps of a script: at each size, and those with two failing calls only on the largest terminal.
 fn sweep_all<R: Runs + Print>(rt: &R, telling: Telling, kind: Kind) -> Result<()> {
     for sweep in AT_EACH_SIZE {
         sweep_each_size(rt, telling, kind, *sweep)?;
@@ -86,28 +86,28 @@ fn sweep_all<R: Runs + Print>(rt: &R, telling: Telling, kind: Kind) -> Result<()
     say(rt, telling, tally)
 }
 
-/// What is asked for.
+/// A request.
 #[derive(Drop)]
 pub enum Asked {
     /// All sweeps but the longest.
     Sweeps(Telling),
-    /// Those of two calls at each size.
+    /// Those with two failing calls, at each size.
     Pairs,
-    /// This, once.
+    /// One run with memory refused.
     Memory(Played, Playing, Telling),
-    /// Nothing that there is.
+    /// An unknown request.
     Nothing,
 }
 
-/// What no word asks for: all sweeps but the longest.
+/// The default: all sweeps but the longest.
 pub const USUAL: Asked = Asked::Sweeps(Telling::Verdicts);
 
-/// The number that a word spells.
+/// The number of a word.
 fn spelled(word: Option<&str>) -> Option<u16> {
     word?.parse().ok()
 }
 
-/// The text of a word, where there is one.
+/// The text of a word, if there is one.
 pub fn text_of(word: &Option<String>) -> Option<&str> {
     match word {
         Some(word) => Some(word.as_str()),
@@ -115,7 +115,7 @@ pub fn text_of(word: &Option<String>) -> Option<&str> {
     }
 }
 
-/// The script of this name.
+/// The script with this name.
 fn script_of(name: &str) -> Option<Played> {
     for (known, played) in PLAYED {
         if *known == name {
@@ -125,8 +125,8 @@ fn script_of(name: &str) -> Option<Played> {
     None
 }
 
-/// What the words behind `sweeps` ask for; the size is the largest where none is spelled. It takes no memory, so that
-/// `tools/refused.py` refuses it none.
+/// The request of the words after `sweeps`; the size is the largest if none is given. It takes no memory, so that `tools/refused.py`
+/// refuses it none.
 pub fn request(mut words: Args) -> Asked {
     let (first, script) = (words.next(), words.next());
     let (growing, judging) = (words.next(), words.next());
@@ -159,7 +159,7 @@ pub fn request(mut words: Args) -> Asked {
     }
 }
 
-/// Says whether a script in which memory may be refused is as it is defined.
+/// Prints whether a script in which memory may be refused is as defined.
 fn say_found<R: Print>(rt: &R, telling: Telling, found: Result<Where, Finding>) -> Result<()> {
     match (found, telling) {
         (Ok(_), Telling::Verdicts) => println!(rt; "as defined")?,
@@ -169,7 +169,7 @@ fn say_found<R: Print>(rt: &R, telling: Telling, found: Result<Where, Finding>) 
     Ok(())
 }
 
-/// Plays each script where memory is refused, once where nothing is.
+/// Plays each script for refused memory, once with nothing refused.
 fn play_unrefused<R: Runs + Print>(rt: &R) -> Result<()> {
     let playing = Playing {
         size: LARGEST,
@@ -183,7 +183,7 @@ fn play_unrefused<R: Runs + Print>(rt: &R) -> Result<()> {
     Ok(())
 }
 
-/// Says what the judge of refused memory finds of wrong bodies.
+/// Prints what the judge of refused memory finds for wrong bodies.
 fn play_wrong_bodies<R: Runs + Print>(rt: &R) -> Result<()> {
     for planted in PLANTED {
         print!(rt; "planted, {}: ", planted.name)?;
@@ -203,7 +203,7 @@ fn sweep_kinds<R: Runs + Print>(rt: &R, telling: Telling) -> Result<()> {
     play_wrong_bodies(rt)
 }
 
-/// Does what is asked for.
+/// Runs a request.
 pub fn run<R: Runs + Print>(rt: &R, asked: Asked) -> Result<()> {
     match asked {
         Asked::Sweeps(telling) => sweep_kinds(rt, telling),

@@ -10,7 +10,7 @@ use indicatif_text::template::{Part, Template, TemplateError};
 use std::alloc::Global;
 use std::convert::AsStr;
 
-/// What templates are of, and what breaks them.
+/// The pieces of templates, and what breaks them.
 const PIECES: &[&str] = &[
     "{",
     "}",
@@ -58,7 +58,7 @@ const PIECES: &[&str] = &[
     "{key}",
 ];
 
-/// What refuses a text.
+/// The refusal of a text, if it is refused.
 fn refusal_of(alloc: Global, text: &str) -> Result<Option<Refusal>, Law> {
     match Template::parse(alloc, text) {
         Ok(_) => Ok(None),
@@ -70,7 +70,7 @@ fn refusal_of(alloc: Global, text: &str) -> Result<Option<Refusal>, Law> {
     }
 }
 
-/// What is refused of a beginning is refused of the whole.
+/// Checks that a refusal of a prefix is that of the whole.
 fn has_a_fair_beginning(
     alloc: Global,
     numbers: &mut Numbers,
@@ -92,7 +92,7 @@ type Style = Box<ProgressStyle<NoTracker>>;
 
 type Bar = Box<BarState<NoTracker>>;
 
-/// A style of this template, or what refused it.
+/// A style with this template, or its refusal.
 fn style_of(alloc: Global, text: &str) -> Result<Result<Style, Refusal>, Law> {
     match ProgressStyle::with_template(alloc, text) {
         Ok(style) => Ok(Ok(Box::new(alloc, style)?)),
@@ -110,7 +110,7 @@ const CLUSTERS: &[(&str, usize)] = &[
     ("\u{2}", 0),
 ];
 
-/// What refuses these clusters.
+/// The refusal of these clusters, if they are refused.
 fn cluster_refusal(widths: &[usize]) -> Option<Refusal> {
     let [first, _, ..] = widths else {
         return Some(Refusal::FewProgressChars);
@@ -138,7 +138,7 @@ fn push_clusters(numbers: &mut Numbers, chars: &mut String, widths: &mut Vec<usi
     Ok(())
 }
 
-/// Gives a style other clusters, which has to be done or refused as their rule says.
+/// Gives a style other clusters, and checks that this is done or refused by the rule.
 fn recluster(alloc: Global, numbers: &mut Numbers, style: &mut Style) -> Held {
     let mut chars = String::new(alloc);
     let mut widths: Vec<usize> = Vec::new(alloc);
@@ -154,7 +154,7 @@ fn recluster(alloc: Global, numbers: &mut Numbers, style: &mut Style) -> Held {
     }
 }
 
-/// The same with the texts of a spinner.
+/// Gives a style other spinner texts, and checks that this is done or refused by the rule.
 fn respin(numbers: &mut Numbers, style: &mut Style) -> Held {
     let strings = ["-", "", "国", "ab"];
     let count = numbers.below(5);
@@ -168,7 +168,7 @@ fn respin(numbers: &mut Numbers, style: &mut Style) -> Held {
     }
 }
 
-/// A bar of this style somewhere on its way.
+/// A bar in this style, in some state.
 fn bar_of(alloc: Global, numbers: &mut Numbers, style: Style) -> Result<Bar, Law> {
     let len = match numbers.below(3) {
         0 => None,
@@ -181,7 +181,7 @@ fn bar_of(alloc: Global, numbers: &mut Numbers, style: Style) -> Result<Bar, Law
     Ok(bar)
 }
 
-/// Brings a bar on its way.
+/// Changes a bar's state.
 fn tell(alloc: Global, numbers: &mut Numbers, bar: &mut Bar) -> Held {
     bar.with_message(message(alloc, numbers)?.as_str(), 0)?;
     bar.with_prefix(message(alloc, numbers)?.as_str(), 0)?;
@@ -202,7 +202,7 @@ fn are_same(lines: &[LineType], others: &[LineType]) -> bool {
     lines.len() == others.len()
 }
 
-/// The lines without their colours, each with a newline behind it.
+/// The lines without their colours, each followed by a newline.
 fn visible(alloc: Global, lines: &[LineType]) -> Result<String, Law> {
     let mut text = String::new(alloc);
     for line in lines {
@@ -222,19 +222,18 @@ fn push_visible(line: &str, text: &mut String) -> Held {
 
 /// How much the visible lines with colours may differ from those without.
 ///
-/// A wide message gives up the white space at its end where nothing stands behind it in its line of the template. Colours behind it are
-/// something: those of its own placeholder, or of an empty one.
+/// A wide message drops the white space at its end if nothing follows it in its line of the template. Colours after it count: those of its
+/// own placeholder, or of an empty one.
 #[derive(Drop)]
 enum Leave {
-    /// In an empty line at the end. What stands behind the last newline is a line where it isn't empty, and colours alone are enough for that.
+    /// By an empty line at the end. What follows the last newline is a line if it isn't empty, and colours alone are enough for that.
     LastLine,
-    /// In more white space, too.
+    /// Also by more white space.
     WhiteSpace,
 }
 
 impl Leave {
-    /// What a template leaves open: it is the last line where no wide message is among them, or where each line ends in
-    /// a character of its own.
+    /// What a template may change: only the last line if it has no wide message, or if each line ends in its own character.
     fn of(template: &Template) -> Leave {
         let mut has_wide_message = false;
         let mut each_ends_in_text = true;
@@ -258,7 +257,7 @@ impl Leave {
         }
     }
 
-    /// Whether the visible lines are as they may be.
+    /// Whether the visible lines differ at most by this.
     fn holds(self, plain: &str, coloured: &str) -> bool {
         match self {
             Leave::LastLine => matches!(coloured.strip_prefix(plain), Some("" | "\n")),
@@ -281,7 +280,7 @@ fn is_but_for_white_space(plain: &str, coloured: &str) -> bool {
     next.is_none()
 }
 
-/// When a bar is drawn, and on how many columns.
+/// The moment of a draw, and its columns.
 type Place = (Moment, u16);
 
 /// The lines of the same bar in a copy of its style, with colours or without.
@@ -297,7 +296,8 @@ fn coloured_lines(
     Ok(copy.lines(now, width)?)
 }
 
-/// A bar's lines on any width: none has a newline or a tab in it, a copy of the style has the same, and colours change no visible character.
+/// Checks a bar's lines at any width: none has a newline or a tab, a copy of the style has the same, and colours change no visible
+/// character.
 fn is_laid_out(alloc: Global, numbers: &mut Numbers, bar: &Bar, leave: Leave) -> Held {
     let width = numbers.size(40);
     let now = numbers.next().into();
@@ -314,7 +314,7 @@ fn is_laid_out(alloc: Global, numbers: &mut Numbers, bar: &Bar, leave: Leave) ->
     Law::Colours.holds(leave.holds(plain.as_str(), coloured.as_str()))
 }
 
-/// A template with a character of no columns at the end of each line.
+/// A template with a zero-width character at the end of each line.
 fn ended(alloc: Global, text: &str) -> Result<String, Law> {
     let mut ended = String::new(alloc);
     for line in text.split('\n') {
@@ -327,7 +327,7 @@ fn ended(alloc: Global, text: &str) -> Result<String, Law> {
     Ok(ended)
 }
 
-/// The bar's lines by this template, if it is one.
+/// Checks the bar's lines with this template, if it is one.
 fn is_laid_out_by(alloc: Global, numbers: &mut Numbers, bar: &mut Bar, text: &str) -> Held {
     let leave = match Template::parse(alloc, text) {
         Ok(template) => Leave::of(&template),
@@ -338,7 +338,7 @@ fn is_laid_out_by(alloc: Global, numbers: &mut Numbers, bar: &mut Bar, text: &st
     is_laid_out(alloc, numbers, bar, leave)
 }
 
-/// The lines of a bar in this style are lines, and so are they where each line of the template ends in a character.
+/// Checks the lines of a bar in this style, and with a character at the end of each line of the template.
 fn is_styled_so(alloc: Global, numbers: &mut Numbers, mut style: Style, text: &str) -> Held {
     recluster(alloc, numbers, &mut style)?;
     respin(numbers, &mut style)?;
@@ -348,7 +348,7 @@ fn is_styled_so(alloc: Global, numbers: &mut Numbers, mut style: Style, text: &s
     is_laid_out_by(alloc, numbers, &mut bar, ended.as_str())
 }
 
-/// A random text is a template or is refused, and a style says the same of it, and lays lines out as it should.
+/// Checks that a random text is a template or is refused, that a style agrees, and the lines of the style.
 pub fn parsed(alloc: Global, numbers: &mut Numbers) -> Held {
     let text = joined(alloc, numbers, PIECES, 10)?;
     let refusal = refusal_of(alloc, text.as_str())?;

@@ -3,7 +3,7 @@ use crate::law::Law;
 use crate::numbers::Numbers;
 use std::alloc::Global;
 
-/// At most so many of these pieces, one behind another.
+/// At most `most` of these pieces, one after another.
 pub fn joined(
     alloc: Global,
     numbers: &mut Numbers,
@@ -17,7 +17,7 @@ pub fn joined(
     Ok(text)
 }
 
-/// What bars say: small letters, wide characters, zero-width characters behind a letter, colours, tabs and newlines.
+/// The pieces of messages: small letters, wide characters, zero-width characters after a letter, colours, tabs and newlines.
 const SAID: &[&str] = &[
     "a",
     "b",
@@ -33,15 +33,15 @@ const SAID: &[&str] = &[
     "z",
 ];
 
-/// What a bar says.
+/// A message of a bar.
 pub fn message(alloc: Global, numbers: &mut Numbers) -> Result<String, Law> {
     joined(alloc, numbers, SAID, 8)
 }
 
-/// What is logged: capital letters, which stand nowhere else.
+/// The pieces of logged texts: capital letters, which occur nowhere else.
 const LOGGED: &[&str] = &["A", "B", "CD", "EFGHIJKLMN", "O", "\n"];
 
-/// A text to be logged.
+/// A text to log.
 pub fn logged(alloc: Global, numbers: &mut Numbers) -> Result<String, Law> {
     joined(alloc, numbers, LOGGED, 5)
 }

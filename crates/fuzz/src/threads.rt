@@ -1,4 +1,4 @@
-//! Random calls on a shared board, and what has to hold of it at the end.
+//! Random calls of a shared board, and what must hold of it at the end.
 use crate::law::{Held, Law};
 use crate::player::{Bar, Multi, Player, Plays, Random};
 use indicatif::machine::MachineClock;
@@ -9,7 +9,7 @@ use indicatif::{
 use std::alloc::Global;
 use std::thread::map_indices;
 
-/// How many bars stand on a board all the time.
+/// How many bars are on a board all the time.
 const BARS: u32 = 4;
 
 /// Their length.
@@ -68,7 +68,7 @@ fn rows_of(term: Option<&InMemoryTerm>) -> Result<Vec<String>, Refusal> {
     }
 }
 
-/// Reads a history in which so many lines were logged.
+/// Reads a history in which this many lines were logged.
 #[derive(Drop)]
 struct RunsAgain {
     alloc: Global,
@@ -78,7 +78,7 @@ struct RunsAgain {
 impl RecordReader<InMemoryTerm, NoTracker> for RunsAgain {
     type Found = Held;
 
-    /// A fresh board that makes the calls of the history gives the same answers, shows the same, and has so many logged lines.
+    /// Checks that a new board that makes the calls of the history gives the same answers, shows the same, and has this many logged lines.
     fn read(self, record: Option<&Recording>) -> Held {
         let RunsAgain { alloc, logged } = self;
         let Some(recorded) = record else {
@@ -120,8 +120,8 @@ fn logged_by_all<R: Plays>(
     Ok(total)
 }
 
-/// Threads make random calls of a board and its bars: once each ticker is told off, what they logged stands there, and its history is one
-/// run.
+/// Threads make random calls of a board and its bars: once each ticker has stopped, all that they logged must stand there, and its history
+/// is one run.
 fn played_on<R: Plays>(rt: R, board: &Multi<R>, bars: &[Bar<R>], random: &Random) -> Held {
     let logged = logged_by_all(rt, board, bars, random)?;
     for bar in bars {
@@ -131,7 +131,7 @@ fn played_on<R: Plays>(rt: R, board: &Multi<R>, bars: &[Bar<R>], random: &Random
     board.with_record(RunsAgain { alloc, logged })
 }
 
-/// Threads make random calls of a new board that keeps its history, as they should.
+/// Threads make random calls of a new board that keeps its history, and it is checked.
 pub fn played<R: Plays>(rt: R, random: &Random) -> Held {
     let clock = MachineClock::new(rt);
     let board = MultiProgress::recorded(rt, rt.alloc(), target(rt.alloc())?, clock, MARK)?;

@@ -1,11 +1,11 @@
-//! Random lists of calls to an engine, and to one whose cursor only moves, beside one that writes whole frames: rows, the colours of each
-//! cell and the cursor have to be the same behind each call.
+//! Random lists of calls of an engine, and of one whose cursor only moves, beside one that writes whole frames: rows, the colours of each
+//! cell and the cursor must be the same after each call.
 //!
 //! - `whole`: the engine that writes whole frames. `calls`: random calls. `coloured`: a terminal that keeps colours.
 //!
-//! `fuzz whole_frames` plays a thousand lists; `fuzz whole_frames SEED COUNT` so many by that seed. `fuzz whole_frames SEED COUNT bytes`
-//! prints, of each list, the terminal's rows and columns, and then what each of the three engines writes, as a text between quotes, a line
-//! each.
+//! `fuzz whole_frames` plays a thousand lists; `fuzz whole_frames SEED COUNT` COUNT lists with that seed. `fuzz whole_frames SEED COUNT
+//! bytes` prints, for each list, the terminal's rows and columns, and then what each of the three engines writes, as a text between quotes,
+//! one a line.
 mod calls;
 mod coloured;
 mod whole;
@@ -31,7 +31,7 @@ const STREAM: u64 = 54;
 /// A terminal that keeps what is written.
 type Written = Term<Vec<u8>>;
 
-/// The engines, each on a terminal of its own.
+/// The engines, each on its own terminal.
 #[derive(Drop)]
 struct Three {
     engine: Engine<Written>,
@@ -50,7 +50,7 @@ impl Three {
         }
     }
 
-    /// Whether all answer the same to a call.
+    /// Whether all give the same answer to a call.
     fn agree(&mut self, call: &Call, frame: &Frame, alignment: MultiProgressAlignment) -> bool {
         let bars = frame.bars();
         let [engine, moving, whole] = match call {
@@ -91,7 +91,7 @@ impl Shown {
         })
     }
 
-    /// Reads on in what the engines wrote; whether all show the same then.
+    /// Reads what the engines wrote since; whether all show the same.
     fn agree(&mut self, three: &Three) -> Result<bool, Refusal> {
         let is_read = self.engine.read_on(three.engine.term().writer())?
             && self.moving.read_on(three.moving.term().writer())?
@@ -107,7 +107,7 @@ fn size_by(numbers: &mut Numbers) -> Size {
     Size { rows, cols }
 }
 
-/// Plays one call more; whether all answer the same.
+/// Plays one more call; whether all give the same answer.
 fn step(three: &mut Three, frame: &mut Frame, numbers: &mut Numbers) -> Result<bool, Refusal> {
     frame.change(numbers)?;
     let alignment = match numbers.below(4) {
@@ -120,7 +120,7 @@ fn step(three: &mut Three, frame: &mut Frame, numbers: &mut Numbers) -> Result<b
     Ok(agreed)
 }
 
-/// Plays one list of calls; the number of the first one behind which they differ, from 1.
+/// Plays one list of calls; the number of the first one after which they differ, from 1.
 fn played(alloc: Global, numbers: &mut Numbers) -> Result<Option<u32>, Refusal> {
     let size = size_by(numbers);
     let mut three = Three::new(alloc, size);
@@ -129,7 +129,7 @@ fn played(alloc: Global, numbers: &mut Numbers) -> Result<Option<u32>, Refusal> 
     first_difference(&mut three, &mut shown, (&mut frame, numbers))
 }
 
-/// The number of the first call behind which their answers, or what their terminals show, differ, from 1.
+/// The number of the first call after which their answers or their terminals differ, from 1.
 fn first_difference(
     three: &mut Three,
     shown: &mut Shown,
@@ -144,7 +144,7 @@ fn first_difference(
     Ok(None)
 }
 
-/// A terminal behind a list of bytes.
+/// A terminal that writes to a list of bytes.
 fn behind(alloc: Global, size: Size) -> Written {
     Term::new(Vec::new(alloc), size.rows, size.cols)
 }
@@ -174,13 +174,13 @@ fn print_calls<R: Print>(
     print_bytes(rt, three.whole.term())
 }
 
-/// Prints what a terminal's writer was given, as a text between quotes.
+/// Prints what a terminal's writer got, as a text between quotes.
 fn print_bytes<R: Print>(rt: &R, term: &Written) -> Result<()> {
     println!(rt; "{:?}", str::from_utf8(term.writer())?)?;
     Ok(())
 }
 
-/// A number that an argument says, or another one.
+/// The number of an argument, or a default.
 fn number_or(word: Option<&String>, other: u64) -> u64 {
     match word {
         Some(word) => word.parse().unwrap_or(other),
@@ -188,7 +188,7 @@ fn number_or(word: Option<&String>, other: u64) -> u64 {
     }
 }
 
-/// What is asked for: so many lists by a seed, which are compared, or whose bytes are printed.
+/// A request: a number of lists with a seed, which are compared, or whose bytes are printed.
 #[derive(Drop)]
 pub struct Asked {
     seed: u64,
@@ -196,14 +196,14 @@ pub struct Asked {
     prints: bool,
 }
 
-/// What no word asks for.
+/// The default request.
 pub const USUAL: Asked = Asked {
     seed: 1,
     count: 1000,
     prints: false,
 };
 
-/// What the words behind `whole_frames` ask for.
+/// The request of the words after `whole_frames`.
 pub fn request(mut words: Args) -> Asked {
     let seed = number_or(words.next().as_ref(), USUAL.seed);
     let count = number_or(words.next().as_ref(), USUAL.count);
@@ -218,7 +218,7 @@ pub fn request(mut words: Args) -> Asked {
     }
 }
 
-/// Does what is asked for; lists are compared up to the first one in which the engines differ.
+/// Runs a request; lists are compared up to the first one in which the engines differ.
 pub fn run<R: AllocGlobal + Print>(rt: &R, asked: Asked) -> Result<()> {
     let Asked {
         seed,

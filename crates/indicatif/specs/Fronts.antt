@@ -1,5 +1,5 @@
--- Bars and boards that are shared: which answers their calls can have. Nothing is known of what stands under a lock, since another owner may
--- have called meanwhile; so the call alone says which answers can come. At most these come, and not each of them does.
+-- Which answers the calls of shared bars and boards can give. Another owner may have called meanwhile, so nothing is known of the state under a lock: the answers depend on the call alone. No other
+-- answer comes; not each of these does.
 use Rattle.std.specs.Prelude.{◌≡◌, ◌⊎◌, Bool, true, false, IsTrue, ◌||◌, nat_lt, None, Result, Ok, Err}
 use Rattle.indicatif_text.specs.declared.refusal.Refusal.{Refusal}
 use Rattle.indicatif_text.specs.declared.refusal.Refusal.TheVariants.{NoColumns, TooWide, Memory, Terminal as Failure, ForeignBar, NotMember, ElapsedBeyondClock}
@@ -19,7 +19,7 @@ unchanged = record { pos = None; len = None }
 
 -- ---- draws
 
--- an answer where no draw was made: none was asked, or the limiter put it off; or there was no memory for a text, or for the history
+-- an answer without a draw: the call asks for none, or the limiter put it off; or there was no memory for a text or for the history
 abbrev pub of_no_draw : Result Drawn Refusal → Bool
 of_no_draw (Ok Limited) = true
 of_no_draw (Err Memory) = true
@@ -35,20 +35,20 @@ of_a_draw (Err (Failure kind)) = true
 of_a_draw (Err Memory) = true
 of_a_draw _ = false
 
--- the same of a clear, which lays out no line that could be too wide
+-- an answer of a clear, which lays out no line that could be too wide
 abbrev pub of_a_clear : Result Drawn Refusal → Bool
 of_a_clear (Err TooWide) = false
 of_a_clear answer = of_a_draw answer
 
--- a draw by force can answer so
+-- an answer that a forced draw can give
 abbrev pub CanDraw : Result Drawn Refusal → Type 0
 CanDraw answer = IsTrue (of_a_draw answer)
 
--- a clear can answer so
+-- an answer that a clear can give
 abbrev pub CanClear : Result Drawn Refusal → Type 0
 CanClear answer = IsTrue (of_a_clear answer)
 
--- an answer where such a draw is asked: none; one that the limiter may put off; or one by force, which it can't
+-- the answers of a call, by what it asks for: no draw; a draw that the limiter may put off; or a forced draw
 abbrev pub of_draw : Ask → Result Drawn Refusal → Bool
 of_draw No answer = of_no_draw answer
 of_draw Unforced answer = of_no_draw answer || of_a_draw answer
@@ -56,7 +56,7 @@ of_draw Forced answer = of_a_draw answer
 
 -- ---- bars
 
--- the draw that a command asks for: one that the limiter may put off, none, or one by force
+-- the draw that a command asks for: one that the limiter may put off, none, or a forced one
 abbrev pub asked_by : {K : Type 0} → Command K → Ask
 asked_by Tick = Unforced
 asked_by TickerTick = Unforced
@@ -91,7 +91,7 @@ abbrev pub is_late : {K : Type 0} → Command K → Result Drawn Refusal → Boo
 is_late (SetElapsed nanos) (Err ElapsedBeyondClock) = nat_lt 0 nanos
 is_late _ _ = false
 
--- the board that is asked hasn't the bar
+-- the board hasn't the bar
 abbrev pub has_no_bar : Result Drawn Refusal → Bool
 has_no_bar (Err ForeignBar) = true
 has_no_bar (Err NotMember) = true
@@ -103,24 +103,22 @@ bar_answers (Obey command) answer = of_draw (asked_by command) answer || (is_lat
 bar_answers (Log text) answer = of_a_draw answer || has_no_bar answer
 bar_answers Clear answer = of_a_clear answer
 
--- a bar, wherever it stands, can answer a call so
+-- an answer that a bar's call can give, wherever the bar stands
 unfoldable pub CanAnswer : (K : Type 0) → LoneCall (Command K) → Result Drawn Refusal → Type 0
 CanAnswer K call answer = IsTrue (bar_answers call answer)
 
--- a bar that is to have another target can answer so: it stood alone, and nothing was drawn; or the others of its board were drawn by
--- force; or it stays there
+-- an answer that a bar can give when it gets another target: it stood alone, and nothing was drawn; or a forced draw showed the others of its board; or it keeps its place
 unfoldable pub CanTurn : Result Drawn Refusal → Type 0
 CanTurn answer = IsTrue (of_no_draw answer || (of_a_draw answer || has_no_bar answer))
 
--- a bar that is to be taken from its target to another one can answer so: it was cleared, or the others of its board were drawn by force;
--- or it stays there
+-- an answer that a bar can give when it moves from its target to another one: it was cleared; or a forced draw showed the others of its board; or it keeps its place
 unfoldable pub CanMove : Result Drawn Refusal → Type 0
 CanMove answer = IsTrue (of_a_draw answer || has_no_bar answer)
 
--- why a bar's text isn't told, or a bar isn't taken in: there is no memory, or the board that is asked hasn't the bar
+-- why a bar's text can't be read, or a bar isn't inserted: there is no memory, or the board hasn't the bar
 abbrev pub IsMissing : Refusal → Type 0
 IsMissing e = (e ≡ Memory) ⊎ (e ≡ ForeignBar) ⊎ (e ≡ NotMember)
 
--- why a bar isn't taken in where no other is named, or isn't taken out: there is no memory, or it is another board's
+-- why a bar isn't inserted at a place that names no other bar, or isn't removed: there is no memory, or it is another board's bar
 abbrev pub MemoryOrForeign : Refusal → Type 0
 MemoryOrForeign e = (e ≡ Memory) ⊎ (e ≡ ForeignBar)

@@ -14,15 +14,15 @@ use Rattle.indicatif.specs.StderrTerm.{stderr_target}
 use Rattle.indicatif.specs.declared.machine.stderr_term.StderrTerm.{StderrTerm}
 use Rattle.indicatif.specs.declared.machine.until_gone.UntilGone.{UntilGone}
 
--- a target on the terminal behind some writer, which may be drawn 20 times a second; a hidden one where the facts say so
+-- a target on the terminal behind some writer, which draws at most 20 times a second; a hidden one where the facts say that it is no terminal
 abbrev pub IsBehind : {W : Type 0} → Option (WriterTerm W × Option Limiter) → Facts → Type 0
 IsBehind {W} target facts = (w : W) × (now : ℕ) × (target ≡ (if hides facts then None else Some (term_behind w facts, Some (draw_limiter default_rate now))))
 
--- a new terminal of the size that is told, behind some writer
+-- a new terminal of the given size, behind some writer
 abbrev pub IsTermBehind : {W : Type 0} → WriterTerm W → Facts → Type 0
 IsTermBehind {W} term facts = (w : W) × (term ≡ term_behind w facts)
 
--- the columns of rows that the program ends: one less than were told, and at least one
+-- the columns of rows that the program ends: one less than it was told, and at least one
 abbrev pub own_columns : ℕ → ℕ
 own_columns told = max (told - 1) 1
 
@@ -31,26 +31,26 @@ abbrev pub IsOwn : {W : Type 0} → Option (OwnRows (WriterTerm W) × Option Lim
 IsOwn {W} target row facts = (w : W) × (now : ℕ)
     × (target ≡ (if hides facts then None else Some (own_rows (term_behind w facts) row, Some (draw_limiter default_rate now))))
 
--- the same on all of a terminal of which so many columns were told: rows have one less
+-- a target on all of a terminal behind some writer, whose full rows are ended by the program: rows have one column less than the terminal was said to have
 abbrev pub IsOnStream : {W : Type 0} → Option (OwnRows (WriterTerm W) × Option Limiter) → ℕ → Facts → Type 0
 IsOnStream target told facts = (facts.cols ≡ own_columns told) × IsOwn target None facts
 
--- the same where the size is known: full rows are left to the terminal
+-- a target on a terminal of known size behind some writer: the terminal ends full rows
 abbrev pub IsSized : {W : Type 0} → Option (OwnRows (WriterTerm W) × Option Limiter) → Facts → Type 0
 IsSized {W} target facts = (w : W) × (now : ℕ)
     × (target ≡ (if hides facts then None else Some (left_rows (term_behind w facts), Some (draw_limiter default_rate now))))
 
--- rows on standard error that the program ends
+-- a target on standard error, whose full rows are ended by the program
 abbrev pub IsOwnStderr : Option (StderrTerm × Option Limiter) → Option OwnRow → Facts → Type 0
 IsOwnStderr target row facts = (on : Option (OwnRows (WriterTerm (BufWriter (UntilGone Stderr) Global)) × Option Limiter))
     × IsOwn on row facts × (target ≡ stderr_target on)
 
--- the same where so many columns were told
+-- a target on all of standard error: rows have one column less than it was said to have
 abbrev pub IsOnStderr : Option (StderrTerm × Option Limiter) → ℕ → Facts → Type 0
 IsOnStderr target told facts = (on : Option (OwnRows (WriterTerm (BufWriter (UntilGone Stderr) Global)) × Option Limiter))
     × IsOnStream on told facts × (target ≡ stderr_target on)
 
--- where the size is known
+-- a target on standard error of known size
 abbrev pub IsSizedStderr : Option (StderrTerm × Option Limiter) → Facts → Type 0
 IsSizedStderr target facts = (on : Option (OwnRows (WriterTerm (BufWriter (UntilGone Stderr) Global)) × Option Limiter))
     × IsSized on facts × (target ≡ stderr_target on)

@@ -1,4 +1,4 @@
--- What moves a bar, and what a bar that tells of itself says after a move.
+-- What moves a bar, and what a bar whose position can be read shows after a move.
 use Rattle.std.specs.Prelude.{◌≡◌, ℕ, ◌+◌, ◌%◌, ◌^◌, Bool, true, Option, Some, IfSome, unwrap_or, Result, Err, ◌⊎◌, List, [], ◌∷◌, ◌++◌, replicate}
 use Rattle.indicatif_text.specs.declared.refusal.Drawn.{Drawn}
 use Rattle.indicatif_text.specs.declared.refusal.Refusal.{Refusal}
@@ -7,9 +7,9 @@ use Rattle.indicatif.specs.Seek.{Seeks, after_move}
 
 -- a move of a bar
 pub data Move : Type 0 where
-  -- its position goes on by so much
+  -- its position goes up by n
   Advance : (n : ℕ) → Move
-  -- its position becomes this place
+  -- its position is set
   Place : (place : ℕ) → Move
   -- it is finished by its stored finish
   Finish : Move
@@ -18,7 +18,7 @@ pub data Move : Type 0 where
 pub record Standing : Type 0 where
   pub position : ℕ
   pub finished : Bool
-  -- where its stored finish puts the position, if it moves it
+  -- the position that its stored finish sets, if it sets one
   pub ends_at : Option ℕ
 
 -- where a bar stands after a move
@@ -27,15 +27,15 @@ after_bar_move bar (Advance n) = record bar { position = (bar.position + n) % 2 
 after_bar_move bar (Place place) = record bar { position = place }
 after_bar_move bar Finish = record bar { position = unwrap_or bar.ends_at bar.position; finished = true }
 
--- a bar that tells where it stands goes on by a move with this answer; one that is to be finished stays where it stands only if it was refused memory, as for the message of its finish
+-- a bar whose position can be read makes a move with this answer; one that is to be finished stays unfinished only if it was refused memory, as for the message of its finish
 abbrev pub Goes : Option Standing → Move → Result Drawn Refusal → Option Standing → Type 0
 Goes before (Advance n) answer now = IfSome before (λ bar. now ≡ Some (after_bar_move bar (Advance n)))
 Goes before (Place place) answer now = IfSome before (λ bar. now ≡ Some (after_bar_move bar (Place place)))
 Goes before Finish answer now = IfSome before (λ bar. (now ≡ Some (after_bar_move bar Finish)) ⊎ ((answer ≡ Err Memory) × (now ≡ Some bar)))
 
--- by what the bar tells, and where a move leads it with an answer
+-- over how a bar's position is read, and the states that a move with an answer leads to
 module _ {P : Type 0} (stands : P → Option Standing) (leads : P → Move → Result Drawn Refusal → P → Type 0) where
-  -- the bar was placed after n more from its position, as what is remembered of seeks says, which is then the second
+  -- the bar was placed n after its position, by its record of seeks, which is then the second
   pub record PlacedAfter (old : P) (seeks : Seeks) (n : ℕ) (answer : Result Drawn Refusal) (new : P) (kept : Seeks) : Type 0 where
     pub position : ℕ
     pub place : ℕ
@@ -49,6 +49,6 @@ abbrev pub MovedAlong : {P : Type 0} → (P → Move → Result Drawn Refusal �
 MovedAlong leads [] old new = new ≡ old
 MovedAlong {P} leads (made ∷ others) old new = (between : P) × leads old made.0 made.1 between × MovedAlong leads others between new
 
--- the moves of a loop over so many items: an advance by one for each, then a finish, or nothing of a bar that was finished already
+-- the moves of a loop over n items: an advance by one for each, then a finish, or none if the bar was finished already
 abbrev pub AreOfLoop : ℕ → List Move → Type 0
 AreOfLoop items moves = (moves ≡ replicate items (Advance 1) ++ Finish ∷ []) ⊎ (moves ≡ replicate items (Advance 1))

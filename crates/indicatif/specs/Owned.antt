@@ -1,4 +1,4 @@
--- A lone bar with a clock of its own: where it stands, and what a move makes of it.
+-- A lone bar with its own clock: where it stands, and what a move makes of it.
 use Rattle.std.specs.Prelude.{◌≡◌, ℕ, List, map, Option, None, Result, Ok, Err, codes, IsFalse}
 use Rattle.indicatif_text.specs.declared.refusal.Drawn.{Drawn}
 use Rattle.indicatif_text.specs.declared.refusal.Refusal.{Refusal}
@@ -20,7 +20,7 @@ use Rattle.indicatif.specs.Wrap.{inner_of, wrapped_seeks, last_draw_of}
 use Rattle.indicatif.specs.declared.wrappers.owned.OwnedBar.{OwnedBar}
 use Rattle.indicatif.specs.declared.wrappers.wrap.ProgressBarIter.{ProgressBarIter}
 
--- where a finish puts the position, if it moves it: at the length
+-- the position that a finish sets, if it sets one: the length
 abbrev pub end_place : BarFinish → Option ℕ → Option ℕ
 end_place AndLeave len = len
 end_place (WithMessage text) len = len
@@ -52,8 +52,7 @@ Commanded m view old (Advance n) answer new = (now : ℕ) × Obeys m view (lone_
 Commanded m view old (Place place) answer new = (now : ℕ) × Obeys m view (lone_of old) (lone_of new) (SetPosition place) now answer
 Commanded m view old Finish answer new = (now : ℕ) × ObeysOrNot m view (lone_of old) (lone_of new) FinishUsingStyle now answer
 
--- whatever state the bar may have been in, these moves with their answers are a run of its commands, each at some moment; so the
--- headline holds of them
+-- whatever state the bar was in, these moves with their answers are a run of its commands, each at some moment; so the headline holds of them
 abbrev pub IsRun : {K T C : Type 0} → Tracking K → (T → TermView) → List (Move × Result Drawn Refusal) → OwnedBar K T C → OwnedBar K T C → Type 0
 IsRun {K} m view made old new =
     (s : LoneState (BarRecord K)) → LoneIsIn (lone_of old) s →
@@ -67,7 +66,7 @@ abbrev pub Begins : {K T C : Type 0} → OwnedBar K T C → BarRecord K → Opti
 Begins owned bar target =
     (record_of (lone_of owned) ≡ bar) × (lone_terminal (lone_of owned) ≡ term_of target) × LoneIsIn (lone_of owned) (opening_state bar (limiter_of target))
 
--- the same in the style that a bar has where none is given, with these tick characters
+-- a bar as it begins, in the default style, with these tick characters
 abbrev pub BeginsPlain : {K T C : Type 0} → OwnedBar K T C → List ℕ → Option ℕ → Option (T × Option Limiter) → Type 0
 BeginsPlain owned ticks len target =
     (parts : List TemplatePart) × Parses (codes "{wide_bar} {pos}/{len}") parts
@@ -76,7 +75,7 @@ BeginsPlain owned ticks len target =
 -- ---- wrappers over such a bar
 
 module _ {I K T C : Type 0} (m : Tracking K) (view : T → TermView) where
-  -- its bar obeyed a command, at some moment and with some answer; all else is as it was
+  -- its bar obeyed a command, at some moment and with some answer; all else is unchanged
   pub record Built (old : ProgressBarIter I (OwnedBar K T C)) (command : Command K) (new : ProgressBarIter I (OwnedBar K T C)) : Type 0 where
     pub it : inner_of new ≡ inner_of old
     pub seeks : wrapped_seeks new ≡ wrapped_seeks old
@@ -85,8 +84,8 @@ module _ {I K T C : Type 0} (m : Tracking K) (view : T → TermView) where
     pub answer : Result Drawn Refusal
     pub obeys : Obeys m view (lone_of old.progress) (lone_of new.progress) command moment answer
 
-  -- its bar obeyed a command, at some moment and with some answer, no earlier than the command asks; or it refused the
-  -- command for want of memory, or since its elapsed time is beyond that moment, and the wrapper was given up with its bar
+  -- its bar obeyed a command, at some moment that is no earlier than the command needs; or it refused the command for want of memory, or because its elapsed time exceeds that moment, and the wrapper
+  -- was dropped with its bar
   abbrev pub MayBuild : ProgressBarIter I (OwnedBar K T C) → Command K → Result (ProgressBarIter I (OwnedBar K T C)) Refusal → Type 0
   MayBuild old command (Ok new) = (built : Built old command new) × IsFalse (is_beyond_clock command built.moment)
   MayBuild old command (Err e) = (now : ℕ) × RefusesCommand command (record_of (lone_of old.progress)) now e

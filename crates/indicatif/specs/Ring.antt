@@ -5,6 +5,6 @@ use Rattle.std.specs.Prelude.{ℕ, max, List, [], ◌∷◌, take, fold}
 abbrev pub greatest_of : List ℕ → ℕ
 greatest_of = fold max 0
 
--- what is kept of a list of updates that come one after the other, the latest first: each is put in front, and what is past n is dropped
+-- what is kept of a list of updates, the latest first: each is put in front, and all past n are dropped
 abbrev pub last_updates : ℕ → List ℕ → List ℕ
 last_updates n = fold (λ places place. take n (place ∷ places)) []

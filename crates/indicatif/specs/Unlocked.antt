@@ -13,7 +13,7 @@ use Rattle.indicatif.specs.declared.shared.unlocked.UnlockedBoard.{UnlockedBoard
 use Rattle.indicatif.specs.declared.shared.unlocked.UnlockedBoard.TheVariants.{Open, Recorded}
 
 module _ {K T : Type 0} where
-  -- a bar that stood alone is in some state, so that what is claimed of its calls holds
+  -- a bar that stood alone is in some state, so the clauses of its calls apply
   abbrev pub BarIsSomewhere : UnlockedBar K T → Type 0
   BarIsSomewhere (Alone bar) = (s : LoneState (BarRecord K)) × LoneIsIn bar s
   BarIsSomewhere (OnBoard id) = Unit {0}

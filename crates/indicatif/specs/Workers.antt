@@ -9,7 +9,7 @@ use Rattle.indicatif.specs.Moves.{Standing, Goes, Move, Advance}
 abbrev pub items_in : {T : Type 0} → List (Vec T Global) → ℕ
 items_in pieces = sum_by (λ piece. length piece.items) pieces
 
--- by what the bar tells, and where a move leads it with an answer: the bar was advanced once by so many items, as 64 bits hold their number
+-- over how a bar's position is read, and the states that a move with an answer leads to: the bar was advanced once by the number of items, modulo 2^64
 abbrev pub Absorbed : {P : Type 0} → (P → Option Standing) → (P → Move → Result Drawn Refusal → P → Type 0) → P → ℕ → P → Type 0
 Absorbed stands leads old items new =
     let move = Advance (items % 2 ^ 64) in

@@ -12,29 +12,29 @@ use Rattle.indicatif.specs.declared.wrappers.wrap.ProgressBarIter.{ProgressBarIt
 
 -- ---- what a wrapper is
 
--- what is wrapped
+-- the wrapped value
 abbrev pub inner_of : {T P : Type 0} → ProgressBarIter T P → T
 inner_of w = w.it
 
--- what is remembered of seeks
+-- the record of seeks
 abbrev pub wrapped_seeks : {T P : Type 0} → ProgressBarIter T P → Seeks
 wrapped_seeks w = w.seeks
 
--- what the last draw answered, if there was one
+-- the answer of the last draw, if there was one
 abbrev pub last_draw_of : {T P : Type 0} → ProgressBarIter T P → Option (Result Drawn Refusal)
 last_draw_of w = w.last
 
--- it wraps this, with nothing remembered yet
+-- it wraps this value, without a seek or a draw yet
 abbrev pub Wraps : {T P : Type 0} → ProgressBarIter T P → T → Type 0
 Wraps w it = (inner_of w ≡ it) × (wrapped_seeks w ≡ no_seeks) × (last_draw_of w ≡ None)
 
--- nothing of the bar has changed, nor what is remembered of seeks and of the last draw
+-- the bar, the record of seeks and the answer of the last draw are unchanged
 abbrev pub SameBar : {T P : Type 0} → ProgressBarIter T P → ProgressBarIter T P → Type 0
 SameBar s t = (t.progress ≡ s.progress) × (wrapped_seeks t ≡ wrapped_seeks s) × (last_draw_of t ≡ last_draw_of s)
 
 -- ---- what becomes of the bar
 
--- by what the bar tells, and where a move leads it with an answer
+-- over how a bar's position is read, and the states that a move with an answer leads to
 module _ {T P : Type 0} (stands : P → Option Standing) (leads : P → Move → Result Drawn Refusal → P → Type 0) where
   -- the bar made one move, and its answer is kept
   pub record Moved (s : ProgressBarIter T P) (move : Move) (t : ProgressBarIter T P) : Type 0 where
@@ -64,7 +64,7 @@ module _ {T P : Type 0} (stands : P → Option Standing) (leads : P → Move →
     pub by_seeks : (place, wrapped_seeks t) ≡ after_seek 10 (wrapped_seeks s) to
     pub moved : Moved s (Place place) t
 
-  -- a call of `next`: what the inner one gave, by what its calls may give, was handed on, and counted
+  -- a call of `next`: what the inner iterator gave, by what its calls may give, was handed on, and counted
   abbrev pub NextGives : {Item : Type 0} → (T → Option Item → T → Type 0) → ProgressBarIter T P → Option Item → ProgressBarIter T P → Type 0
   NextGives gives s r t = gives (inner_of s) r (inner_of t) × CountsItem (is_some r) s t
 
@@ -73,19 +73,19 @@ module _ {T P : Type 0} (stands : P → Option Standing) (leads : P → Move →
   Polled true s t = Moved s (Advance 1) t × (wrapped_seeks t ≡ wrapped_seeks s)
   Polled false s t = Moved s Finish t × (wrapped_seeks t ≡ wrapped_seeks s)
 
-  -- a polled read that is ready places the bar by the bytes that came; of one that failed none came
+  -- a polled read that is ready places the bar by the bytes it read; one that failed read none
   abbrev pub ReadPlaces : {E : Type 0} → ProgressBarIter T P → Poll (Result ℕ E) → ProgressBarIter T P → Type 0
   ReadPlaces s Pending t = SameBar s t
   ReadPlaces s (Ready (Ok n)) t = PlacesBar s n t
   ReadPlaces s (Ready (Err e)) t = PlacesBar s 0 t
 
-  -- a polled write that was taken places the bar by the bytes that went
+  -- a polled write that is ready places the bar by the bytes it wrote
   abbrev pub WritePlaces : {E : Type 0} → ProgressBarIter T P → Poll (Result ℕ E) → ProgressBarIter T P → Type 0
   WritePlaces s Pending t = SameBar s t
   WritePlaces s (Ready (Ok n)) t = PlacesBar s n t
   WritePlaces s (Ready (Err e)) t = SameBar s t
 
--- a seek by nothing from the current place keeps the bar; any other moves it
+-- a seek by 0 from the current place leaves the bar; any other moves it
 abbrev pub SeekMovesBar : SeekFrom → Type 0 → Type 0 → Type 0
 SeekMovesBar (Start k) same moved = moved
 SeekMovesBar (End k) same moved = moved
@@ -93,6 +93,6 @@ SeekMovesBar (Current k) same moved = (k ≡ pos 0 → same) × (k ≢ pos 0 →
 
 -- ---- the end
 
--- where it has come to its end, nothing comes behind it
+-- once it has come to its end, it stays at its end
 abbrev pub StaysAtItsEnd : {I A : Type 0} → (I → Option A → I → Type 0) → Type 0
 StaysAtItsEnd {I} {A} gives = (s m t : I) (item : Option A) → gives s None m → gives m item t → item ≡ None

@@ -16,8 +16,8 @@ use std::fmt::Display;
 use std::sync::Wait;
 use std::sync::atomic::{AtomicU64, Ordering};
 
-/// How a record becomes the lines that are written. Its text is its message, behind its spans and before its pairs:
-/// `request{id=7}: started rows=3`.
+/// How a record is laid out as lines. Its text is the message, with the spans before it and the key-value pairs after it: `request{id=7}:
+/// started rows=3`.
 ///
 /// ```
 /// struct TextAlone;
@@ -28,9 +28,9 @@ use std::sync::atomic::{AtomicU64, Ordering};
 /// }
 /// ```
 pub trait LineForm {
-    /// Appends what is written of a record of this level and text.
+    /// Appends the lines of a record with this level and text to `out`.
     ///
-    /// Refused: `Memory`; the record is counted as missed then.
+    /// Refused: `Memory`; the record then counts as missed.
     fn push_line(&self, level: Level, text: &str, out: &mut String) -> Result<(), Refusal>;
 }
 
@@ -76,10 +76,10 @@ impl LineForm for LevelOnEachLine {
 /// Where the board is hidden, as where standard error is no terminal, a record goes whole to another sink (`over`). Without one (`new`)
 /// it is dropped there.
 ///
-/// What is refused, as by a terminal that fails, can't be told to whoever logs: it is counted.
+/// A caller that logs gets no error. Records that the board refuses, for instance because the terminal fails, are counted (`missed`).
 ///
-/// A record that is logged while a closure of `suspend` runs, of the board or of any bar of that board, waits until it has run. One that is
-/// logged in the closure itself, or in that of an `update`, a `with_term` or a `with_record`, waits for ever.
+/// A record that is logged while the closure of a `suspend` runs, of the board or of any of its bars, waits until the closure returns. One
+/// that is logged inside the closure, or inside that of an `update`, a `with_term` or a `with_record`, deadlocks.
 ///
 /// ```
 /// let bridge = LogBridge::over(board.clone()?, Console(*host));
@@ -123,7 +123,7 @@ impl<
     K: Tracks,
     L: Log + Drop,
 > LogBridge<T, C, R, LevelOnce, K, L> {
-    /// The same, but where the board is hidden `inner` gets the records: no record is lost.
+    /// As `new`, but where the board is hidden `inner` gets the records: none is lost.
     ///
     /// ```
     /// let bridge = LogBridge::over(board.clone()?, Console(*host)); // where bars are hidden, `[WARN  app] low disk` on standard error
@@ -147,7 +147,7 @@ impl<
     K: Tracks,
     L: Log + Drop,
 > LogBridge<T, C, R, F, K, L> {
-    /// The same, with lines of this form above the bars.
+    /// The sink with lines of this form above the bars.
     ///
     /// ```
     /// let bridge = LogBridge::new(board.clone()?).with_form(LevelOnEachLine);
@@ -169,7 +169,7 @@ impl<
         }
     }
 
-    /// From now on for records that the filter lets through alone; others are dropped, and not counted.
+    /// The sink for the records that the filter lets through; others are dropped, and not counted.
     ///
     /// ```
     /// let bridge = LogBridge::new(board.clone()?).with_filter(LevelFilter::Warn); // warnings and errors
@@ -191,12 +191,12 @@ impl<
         }
     }
 
-    /// How many records were refused by the board, or found no memory for their lines, modulo 2^64.
+    /// The number of records that the board refused, or that got no memory for their lines, modulo 2^64.
     pub fn missed(&self) -> u64 {
         self.missed.load(Ordering::SeqCst)
     }
 
-    /// Writes what is written of a record above the bars.
+    /// Writes a record's lines above the bars.
     fn print<D: Display, V: Source, S: Spans>(
         &self,
         record: &Record<'_, D, V, S>,
@@ -210,7 +210,7 @@ impl<
     }
 }
 
-/// What a function that logs above the bars of standard error takes, as `logger_above` makes it.
+/// What a function that logs above the bars of standard error takes: what `logger_above` gives.
 ///
 /// ```
 /// fn copy<R: Shares>(log: &StderrLogger<R>) {
@@ -222,8 +222,8 @@ pub type StderrLogger<R, K = NoTracker> = Logged<
     LogBridge<StderrTerm, MachineClock<HostRuntime>, R, LevelOnce, K, Console<HostRuntime>>,
 >;
 
-/// A logger up to this level, whose lines stand above the bars of a board on standard error. Where they are hidden, the kit's console writes
-/// the lines there.
+/// A logger for records up to this level, which writes them above the bars of a board on standard error. Where the bars are hidden, it
+/// writes the lines to standard error as the kit's console does.
 ///
 /// ```
 /// let log = logger_above(rt, host, &board, Level::Info)?;
@@ -250,7 +250,7 @@ fn plain_line<D: Display, V: Source, S: Spans>(
     Ok(String::format(alloc, Line::new(&plain))?)
 }
 
-/// What stands in such a line behind its level.
+/// What follows the level in a line.
 fn behind_level(line: &str) -> &str {
     match line.split_once("] ") {
         Some((_, text)) => text,

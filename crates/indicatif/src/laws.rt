@@ -22,26 +22,26 @@ pub fn the_last_updates_stay()
     ensures { (n : ℕ) (updates : List ℕ) → last_updates n updates ≡ take n (reverse updates) }
 {}
 
-/// Without a seek a reader shows how far it came: moves add up, and the sum stays at 2^64 - 1.
+/// Without a seek a reader's bar shows the bytes read: moves add up, up to 2^64 - 1.
 pub fn moves_add_up()
     ensures { (reset size at : ℕ) (moves : List ℕ) → at < 2 ^ 64 →
         after_steps reset size (at, no_seeks) (map Forward moves) ≡ (saturated at (sum moves), no_seeks) }
 {}
 
-/// After so many moves in a row no seek is remembered, whatever was before.
+/// After `reset` moves in a row no seek is remembered, whatever came first.
 pub fn moves_forget_seeks()
     ensures { (reset size at : ℕ) (seeks : Seeks) (moves : List ℕ) → reset ≤ length moves → 0 < length moves →
         (after_steps reset size (at, seeks) (map Forward moves)).1 ≡ no_seeks }
 {}
 
-/// A seek shows no less than its place.
+/// After a seek the bar shows at least the seek's place.
 pub fn a_seek_shows_its_place_at_least()
     ensures { (size place : ℕ) (seeks : Seeks) → 0 < size → place ≤ (after_seek size seeks place).0 }
 {}
 
-/// A loop over all items: they are the inner iterator's, in its order, and the inner iterator came to its end. A bar that tells
-/// where it stands goes on by their number, and is finished by its stored finish, if it wasn't finished; it stays unfinished only
-/// where the finish was refused memory, as `last_draw` tells.
+/// A loop over all items: they are the inner iterator's, in its order, and the inner iterator came to its end. A bar whose position can be
+/// read advances by their number, and is finished by its stored finish, if it wasn't finished; it stays unfinished only if the finish was
+/// refused memory, as `last_draw` tells.
 ///
 /// The premise is what std says of a loop over a wrapper: `next` gave these items one after another, and then nothing.
 pub fn a_whole_loop<I: Iterator, P: Moves + Drop>()
@@ -52,32 +52,32 @@ pub fn a_whole_loop<I: Iterator, P: Moves + Drop>()
         ⊎ ((last_draw_of end ≡ Some (Err Memory)) × (P.stands end.progress ≡ Some (after_bar_move bar (Advance (length items)))))) }
 {}
 
-/// What a loop over all items asks of its bar: an advance by 1 for each item, one after another, then the finish, and nothing
-/// else; of a bar that was finished already no finish.
+/// The moves that a loop over all items makes of its bar: an advance by 1 for each item, one after another, then the finish, and nothing
+/// else; no finish if the bar was finished already.
 pub fn the_moves_of_a_loop<I: Iterator, P: Moves + Drop>()
     ensures { (items : List I.Item) (start end : ProgressBarIter I P) → YieldsThen ⟦<ProgressBarIter<I, P> as Iterator>⟧.next_gives start items None end →
         (made : List (Move × Result Drawn Refusal)) × MovedAlong P.leads made start.progress end.progress × AreOfLoop (length items) (map (λ x. x.0) made) }
 {}
 
-/// A wrapper stays at its end if the iterator inside does: so a wrapped `FusedIterator` is one.
+/// A wrapper stays at its end if the inner iterator does: so a wrapped `FusedIterator` is one.
 pub fn a_wrapped_end_stays<I: Iterator, P: Moves + Drop>()
     ensures { StaysAtItsEnd I.next_gives → StaysAtItsEnd ⟦<ProgressBarIter<I, P> as Iterator>⟧.next_gives }
 {}
 
-/// Any list of moves of a bar with its clock, as those of a loop, is a run of that bar, call by call with these answers; and the
-/// headline holds of it.
+/// Any list of moves of a bar with its clock, as those of a loop, is a run of that bar, call by call with these answers; so the headline
+/// holds of it.
 pub fn moves_are_a_run<K: Tracks, T: TermLike + Drop, C>()
     ensures { (made : List (Move × Result Drawn Refusal)) (old new : OwnedBar K T C) →
         MovedAlong (Commanded K.means T.view) made old new → IsRun K.means T.view made old new }
 {}
 
-/// A bar that tells where it stands goes on by as many items as a list had on which threads worked with it.
+/// A bar whose position can be read advances by the number of a list's items when threads work on the list with it.
 pub fn blocks_add_up<P: Moves>()
     ensures { (items : ℕ) (old new : P) → Blocks P.stands P.leads old items new →
         IfSome (P.stands old) (λ bar. bar.position < 2 ^ 64 → P.stands new ≡ Some (after_bar_move bar (Advance items))) }
 {}
 
-/// The advances of such a list are moves of its bar, each of a block; so of a bar with its clock they are a run.
+/// The advances for such a list are moves of its bar, one for each block; so for a bar with its clock they are a run.
 pub fn blocks_are_moves<P: Moves>()
     ensures { (items : ℕ) (old new : P) → (blocks : Blocks P.stands P.leads old items new) →
         MovedAlong P.leads (map (λ x. (Advance x.0, x.1)) blocks.made) old new }

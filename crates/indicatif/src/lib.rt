@@ -6,8 +6,8 @@
 //!
 //! - Bars that threads share: `ProgressBar` for bars and spinners, `MultiProgress` for several on one terminal. A `WeakProgressBar`
 //!   refers to a bar without owning it.
-//! - Bars without a lock, about which contracts say more: `LoneBar` and `Board`. Both use `BarState`, a bar's record. `BarCommand`,
-//!   `LoneCall` and `Call` are their calls as values. A `Recorded` board keeps its history.
+//! - Bars without a lock, whose contracts say more: `LoneBar` and `Board`. Both use `BarState`, a bar's record. `BarCommand`, `LoneCall`
+//!   and `Call` are their calls as values. A `Recorded` board keeps its history.
 //! - Looks: `ProgressStyle` from a template, `style::ProgressTracker` for keys of your own, `ProgressFinish` for a bar's end.
 //! - Wrappers: `ProgressBar::wrap_iter`, `wrap_read`, `wrap_write` and the polled ones move a bar. `ProgressIterator` also makes the bar.
 //!   `ParallelProgressIterator` is for slices, and `run_workers` for pieces in threads. Your own type of bar has to implement `Moves`.
@@ -114,7 +114,7 @@
 //! `ghost use`, where `◌` stands for an operand. Numbers are unbounded, and `-` stops at 0, as `saturating_sub` does. `decimal n` is a
 //! number's digits, `codes "left"` a text, and `++` joins two texts: `crates/examples/src/key.rt` writes `12 left` this way.
 //!
-//! The library has one tracker of its own, `Recent`: the rate of the last seconds, and the time left at that rate, for `with_key("per_sec", ..)`,
+//! The library has one tracker, `Recent`: the rate of the last seconds, and the time left at that rate, for `with_key("per_sec", ..)`,
 //! `with_key("eta", ..)` and the like.
 //!
 //! If your type changes when the bar ticks, implement `style::ProgressTracker`. All keys of a style have one type: for several, use an
@@ -196,7 +196,7 @@
 //! let spinner = ProgressBar::new_spinner(rt, rt.alloc(), setup)?.with_message("searching")?;
 //! ```
 //!
-//! **A bar dropped too early.** At the end of a block the last owner is dropped, and the stored finish clears the bar. Bad:
+//! **A bar dropped too early.** The last owner is dropped at the end of its block, and the stored finish clears the bar. Bad:
 //!
 //! ```
 //! for name in ["a.txt", "b.txt"] {
@@ -244,13 +244,12 @@
 //! ████████░░░░░░░░░░░░░░░░░░ 1/3
 //! ```
 //!
-//! On a hidden target `println` writes nothing. There `println_or` writes the line to a writer that you hand in. For other output there is
-//! `suspend`, which takes the rows back, calls a closure and draws again.
+//! On a hidden target `println` writes nothing. There `println_or` writes the line to a writer that you pass. For other output there is
+//! `suspend`, which clears the rows, calls a closure and draws again.
 //!
-//! **A call inside a closure.** While the closure of `suspend` runs, readings answer, such as `bar.position()`, also in the closure. A call
-//! that draws or changes a bar waits until it has run: in the closure itself, a call of any bar of that board waits for ever. The
-//! closures of `update`, `with_term` and `with_record` run under the lock: any call of the same bar, or of any bar of its board, waits for
-//! ever in them.
+//! **A call inside a closure.** While the closure of `suspend` runs, readings such as `bar.position()` answer, also inside it. A call that
+//! draws or changes a bar waits until the closure returns: a call of any bar of that board inside the closure deadlocks. The closures of
+//! `update`, `with_term` and `with_record` run under the lock: any call of the same bar, or of any bar of its board, deadlocks inside them.
 //!
 //! **A bar that was drawn before it joins a board.** Its old rows stay on its old target. Make it by `MultiProgress::new_bar`, or by
 //! `ProgressBar::hidden` and `MultiProgress::add`.

@@ -1,5 +1,5 @@
-//! What bars ask of the machine: the time, and whether and how wide a terminal stands behind a stream. Nothing else in this
-//! library asks it anything, so a program that finds these itself needs nothing of this module.
+//! What bars need from the machine: the time, and whether a stream is a terminal and how wide. Nothing else in this library uses the
+//! machine, so a program that finds these itself needs nothing from this module.
 ghost use Rattle.std.specs.Prelude.{◌≡◌, ◌⊎◌, ◌↔◌, ◌≤◌, ◌<◌, ℕ, Bool, chars, IfOk, IfErr, IfSome};
 ghost use Rattle.indicatif_text.specs.declared.template.TemplateError.{TemplateError};
 ghost use Rattle.indicatif_text.specs.Template.{Parses, IsRefused, refusal_of};
@@ -26,10 +26,9 @@ use std::sync::Wait;
 use std::thread::Threads;
 use std::time::{self, Duration};
 
-/// The machine's clock: the nanoseconds of its monotonic time, from a start that all clocks of the machine share, mostly when it was
-/// booted. So a bar that is made after its board counts from no later start, and may begin with as much elapsed time as the machine
-/// runs. Contracts see the moment that it told last, 0 before the first. Where the machine refuses to tell the time, the clock
-/// stands.
+/// The machine's clock: the nanoseconds of its monotonic time, counted from a start that all clocks of the machine share, usually when it
+/// was booted. So a bar that is made after its board has no later start. Contracts see the last moment that it gave, 0 before the first. If
+/// the machine refuses to give the time, the clock stands still.
 ///
 /// ```
 /// let mut clock = MachineClock::new(rt);
@@ -50,7 +49,7 @@ impl<R> Model for MachineClock<R> {
 }
 
 impl<R: time::Clock> MachineClock<R> {
-    /// The clock of this machine. It isn't asked yet.
+    /// The clock of this machine; it reads no time yet.
     pub fn new(machine: R) -> MachineClock<R>
         ensures { result ≡ 0 }
     {
@@ -85,15 +84,14 @@ impl<R: time::Clock> Clock for MachineClock<R> {
     }
 }
 
-/// The rows of a terminal whose rows nobody told.
+/// The rows of a terminal whose size is unknown.
 const ROWS: u16 = 24;
 
-/// The columns of a terminal whose columns nobody told.
+/// The columns of a terminal whose size is unknown.
 const COLUMNS: u16 = 80;
 
-/// What the machine tells of a stream: whether it is a terminal, its kind by the variable `TERM`, and its size by `LINES` and
-/// `COLUMNS`, where they say a number from 1 to 65,535; else 24 rows and 80 columns are taken. A program that knows better
-/// changes what it got.
+/// The facts about a stream: whether it is a terminal, its kind by the variable `TERM`, and its size by `LINES` and `COLUMNS`, if these are
+/// numbers from 1 to 65,535; otherwise 24 rows and 80 columns. A program that knows better changes the result.
 ///
 /// ```
 /// let mut facts = facts_of(&rt, &rt.stderr())?;
@@ -114,7 +112,7 @@ pub fn facts_of<R: Env + AllocGlobal>(rt: &R, stream: &impl IsTerminal) -> Resul
     })
 }
 
-/// The number above 0 that a variable says, if it says one.
+/// The value of a variable, if it is a number above 0.
 fn number_said<R: Env + AllocGlobal>(rt: &R, name: &str) -> Result<Option<u16>, Refusal>
     ensures some { IfOk result (λ said. IfSome said (λ n. 0 < n)) }
     ensures memory { IfErr result (λ e. e ≡ Refusal.Memory) }
@@ -128,7 +126,7 @@ fn number_said<R: Env + AllocGlobal>(rt: &R, name: &str) -> Result<Option<u16>, 
     }
 }
 
-/// What a variable says, if it is set and a text.
+/// The value of a variable, if it is set and is UTF-8.
 fn text_said<R: Env + AllocGlobal>(rt: &R, name: &str) -> Result<Option<String>, Refusal>
     ensures memory { IfErr result (λ e. e ≡ Refusal.Memory) }
 {
@@ -139,8 +137,8 @@ fn text_said<R: Env + AllocGlobal>(rt: &R, name: &str) -> Result<Option<String>,
     }
 }
 
-/// Whether colours are wanted on a stream, by the custom that the Rust crate's `console` follows: where `CLICOLOR_FORCE` is set and
-/// not `0`; else on a terminal with moves (`TERM` set and not `dumb`), where `NO_COLOR` isn't set and `CLICOLOR` isn't `0`.
+/// Whether colours are wanted on a stream, by the rule of the Rust crate `console`: yes if `CLICOLOR_FORCE` is set and not `0`; otherwise
+/// on a terminal with cursor moves (`TERM` set and not `dumb`), if `NO_COLOR` isn't set and `CLICOLOR` isn't `0`.
 ///
 /// ```
 /// let style = style.with_colors(wants_colors(&rt, &rt.stderr())?)?;
@@ -162,7 +160,7 @@ pub fn wants_colors<R: Env + AllocGlobal>(rt: &R, stream: &impl IsTerminal) -> R
     Ok(shows && forbidden.is_none() && !switched_off)
 }
 
-/// A style of this template for standard error, with colours where they are wanted there.
+/// A style with this template for standard error, with colours if they are wanted there (`wants_colors`).
 ///
 /// ```
 /// let style = style_on_stderr(&rt, "[{bar:40.cyan/blue}] {pos}/{len} {msg}")?;
@@ -182,7 +180,7 @@ pub fn style_on_stderr<K: Tracks>(
     style.with_colors(wants_colors(rt, &rt.stderr())?)
 }
 
-/// What a bar is made with on a terminal behind a writer, by the machine's clock.
+/// The setup of a bar on a terminal behind a writer, with the machine's clock.
 ///
 /// ```
 /// let setup: TerminalSetup<Stderr> = told_setup(&rt, rt.stderr(), facts)?;
@@ -199,14 +197,14 @@ pub type TerminalSetup<W> = Setup<Term<BufWriter<UntilGone<W>>>, MachineClock<Ho
 /// ```
 pub type StreamTerm<W> = OwnRows<Term<BufWriter<UntilGone<W>>>>;
 
-/// What a bar is made with there; `R` is the runtime that tells the time.
+/// The setup of a bar on that terminal; `R` is the runtime that gives the time.
 ///
 /// ```
 /// let setup: StreamSetup<Stdout> = on_stdout(&rt)?;
 /// ```
 pub type StreamSetup<W, R = HostRuntime> = Setup<StreamTerm<W>, MachineClock<R>>;
 
-/// What a bar is made with on standard error.
+/// The setup of a bar on standard error.
 ///
 /// ```
 /// let setup: StderrSetup = on_stderr(&rt)?;
@@ -223,7 +221,7 @@ pub type StderrSetup = Setup<StderrTerm, MachineClock<HostRuntime>>;
 /// ```
 pub type StderrBar<R, K = NoTracker> = ProgressBar<StderrTerm, MachineClock<HostRuntime>, R, K>;
 
-/// A shared board there.
+/// A shared board on standard error.
 ///
 /// ```
 /// fn board_on<R: Shares>(rt: R, setup: StderrSetup) -> Result<StderrBoard<R>, Refusal> {
@@ -232,8 +230,7 @@ pub type StderrBar<R, K = NoTracker> = ProgressBar<StderrTerm, MachineClock<Host
 /// ```
 pub type StderrBoard<R, K = NoTracker> = MultiProgress<StderrTerm, MachineClock<HostRuntime>, R, K>;
 
-/// What functions over shared bars ask of the runtime, in one word: memory, locks, threads and the time. The one that `main` is
-/// given has it.
+/// What functions over shared bars need from the runtime: memory, locks, threads and the time. The runtime that `main` gets has it.
 ///
 /// ```
 /// fn work<R: Shares>(rt: &R, bar: &StderrBar<R>, steps: u64) -> Result<(), Refusal> { .. } // may lock, sleep and start threads
@@ -251,11 +248,11 @@ pub trait Shares: AllocGlobal
 impl<R: AllocGlobal + Wait + Threads + time::Clock + Sync + Send + Copy + Drop + 'static> Shares
     for R {}
 
-/// A bar's setup on standard error, where bars stand by custom, so that standard output is the program's own: 20 draws a second
-/// by the machine's clock, hidden where standard error is no terminal or one without moves (`facts_of`).
+/// The setup of a bar on standard error, where bars usually stand, so that standard output is the program's own: 20 draws a second by the
+/// machine's clock. It is hidden if standard error is no terminal, or one without cursor moves (`facts_of`).
 ///
-/// No drawing erases a row that isn't the bars' own, however wide the terminal is (`OwnRows`): bars have one column less than `COLUMNS`
-/// says, 79 where it says none, and logged lines are cut there too. A program that knows its terminal's size takes `sized_stderr`.
+/// No draw erases a row that isn't the bars' own, however wide the terminal is (`OwnRows`): bars have one column less than `COLUMNS`, 79 if
+/// that isn't set, and logged lines are cut there too. A program that knows its terminal's size uses `sized_stderr`.
 ///
 /// ```
 /// let mut wrapped = list.into_iter().progress(rt.alloc(), on_stderr(&rt)?)?;
@@ -273,7 +270,7 @@ pub fn on_stderr(rt: &HostRuntime) -> Result<StderrSetup, Refusal>
     })
 }
 
-/// The same on standard output.
+/// The setup of a bar on standard output, otherwise as `on_stderr`.
 ///
 /// Refused: `Memory`.
 pub fn on_stdout(rt: &HostRuntime) -> Result<StreamSetup<Stdout>, Refusal>
@@ -283,15 +280,16 @@ pub fn on_stdout(rt: &HostRuntime) -> Result<StreamSetup<Stdout>, Refusal>
     on_stream(rt, rt.stdout())
 }
 
-/// The same on any stream that says whether it is a terminal, by the variables and the clock of any runtime.
+/// The setup of a bar on any stream that can tell whether it is a terminal, with the variables and the clock of any runtime; otherwise as
+/// `on_stderr`.
 ///
 /// ```
 /// let setup = on_stream(&rt, rt.stdout())?; // what `on_stdout(&rt)?` makes
 /// ```
 ///
-/// A `StderrBar` takes a setup of `on_stderr`: one that this call makes on standard error has another type.
+/// A `StderrBar` takes the setup of `on_stderr`: what this call makes on standard error has another type.
 ///
-/// Refused: `Memory`; the stream is given up.
+/// Refused: `Memory`; the stream is dropped.
 pub fn on_stream<R: Env + AllocGlobal + time::Clock + Copy, W: Write + IsTerminal + Drop>(
     rt: &R,
     stream: W,
@@ -309,8 +307,8 @@ pub fn on_stream<R: Env + AllocGlobal + time::Clock + Copy, W: Write + IsTermina
     Ok(Setup { target, clock })
 }
 
-/// A target on standard error, of which the program found this: bars have all its columns, and no drawing erases a row that isn't theirs,
-/// whatever the terminal's width is (`OwnRows`). So tell it one column less than the terminal has. With a row it is one row of several
+/// A target on standard error with the facts that the program found: bars have all its columns, and no draw erases a row that isn't theirs,
+/// whatever the terminal's width is (`OwnRows`). So give it one column less than the terminal has. With a row it is one row of several
 /// (`OwnRow`), where other programs draw on the others.
 ///
 /// ```
@@ -333,7 +331,7 @@ pub fn own_stderr<R: AllocGlobal + time::Clock + Copy>(
     Ok(StderrTerm::target(target))
 }
 
-/// The same of any stream.
+/// A target on any stream, as `own_stderr`.
 fn own_target<R: AllocGlobal + time::Clock + Copy, W: Write + Drop>(
     rt: &R,
     stream: W,
@@ -358,18 +356,18 @@ fn rows_on<T>(term: T, row: Option<OwnRow>) -> OwnRows<T>
     }
 }
 
-/// A target on standard error that is told now which size its terminal has. So a program that hears of another size passes it on to a
-/// shared bar or board: nothing here asks the terminal, and `LINES` and `COLUMNS` say what they said when the program began.
+/// A target on standard error, of a terminal with this size. So a program that learns of another size passes it on to a shared bar or
+/// board: nothing here asks the terminal, and `LINES` and `COLUMNS` keep the values they had when the program began.
 ///
-/// The size is believed: bars have all `cols` columns. The target is hidden where that of `on_stderr` is, and is drawn as often. Bars
-/// begin there with their next draw, and that has to be at the front of an empty row. If bars have rows, `move_to` takes them back and leaves
-/// the cursor there. If only logged lines stand, or nothing is to be taken back, end the line and call `set_draw_target`.
+/// The size isn't checked: bars have all `cols` columns. The target is hidden if that of `on_stderr` is, and has the same rate. Bars
+/// begin there with their next draw, and that has to be at the front of an empty row. If bars have rows, `move_to` clears them and leaves
+/// the cursor there. If only logged lines stand, or nothing is to be cleared, end the line and call `set_draw_target`.
 ///
 /// ```
 /// board.move_to(sized_stderr(&rt, 50, 132)?)?; // its rows are taken back, and stand on 132 columns from the next draw on
 /// ```
 ///
-/// Refused: `ZeroSize` where `rows` or `cols` is 0; `Memory`.
+/// Refused: `ZeroSize` if `rows` or `cols` is 0; `Memory`.
 pub fn sized_stderr(
     rt: &HostRuntime,
     rows: u16,
@@ -383,15 +381,16 @@ pub fn sized_stderr(
     Ok(StderrTerm::target(target))
 }
 
-/// The same of any stream.
+/// A target on any stream, as `own_stderr`.
 ///
 /// ```
 /// let target = sized_target(&rt, rt.stdout(), 50, 132)?;
 /// ```
 ///
-/// Bars that `on_stderr` made take a target of `sized_stderr`: one that this call makes on standard error has another type.
+/// A target as that of `sized_stderr`, on any stream. Bars that `on_stderr` made take a target of `sized_stderr`: what this call makes on
+/// standard error has another type.
 ///
-/// Refused: `ZeroSize` where `rows` or `cols` is 0; `Memory`. The stream is given up.
+/// Refused: `ZeroSize` if `rows` or `cols` is 0; `Memory`. The stream is dropped.
 pub fn sized_target<R: Env + AllocGlobal + time::Clock + Copy, W: Write + IsTerminal + Drop>(
     rt: &R,
     stream: W,
@@ -420,7 +419,7 @@ pub fn sized_target<R: Env + AllocGlobal + time::Clock + Copy, W: Write + IsTerm
     )
 }
 
-/// The terminal behind a stream of which this is told.
+/// The terminal behind a stream, with these facts.
 fn term_on<R: AllocGlobal, W: Write + Drop>(
     rt: &R,
     stream: W,
@@ -432,7 +431,7 @@ fn term_on<R: AllocGlobal, W: Write + Drop>(
     Ok(Term::new(buffered(rt, stream)?, facts.rows, facts.cols))
 }
 
-/// What a bar is made with behind any writer, on a terminal of which this is told.
+/// The setup of a bar behind any writer, on a terminal with these facts.
 ///
 /// ```
 /// let mut facts = facts_of(&rt, &rt.stderr())?;
@@ -461,7 +460,7 @@ fn own_columns(told: u16) -> u16
     told.saturating_sub(1).max(1)
 }
 
-/// A buffer before a writer that may go away.
+/// A buffered writer to a terminal that may go away.
 fn buffered<R: AllocGlobal, W: Write + Drop>(
     rt: &R,
     writer: W,

@@ -1,7 +1,8 @@
 //! Lists that threads work on, with a bar.
 //!
-//! - `claims`: what threads take of a list, and how far they are; `course`: how far the bar is.
-//! - `part_answers`: answers at a part of a list; `answers`: what threads answer at all its items; `visits`: the same without answers.
+//! - `claims`: the parts of a list that threads take, and their progress; `course`: how far the bar is.
+//! - `part_answers`: answers at a part of a list; `answers`: the answers of threads at all its items; `visits`: items visited without
+//!   answers.
 //! - `workers`: pieces of work that threads do.
 ghost use Rattle.std.specs.Prelude.{◌≡◌, ◌==◌, ◌<◌, ◌≤◌, ℕ, Some, Ok, Err, IfOk, IfErr, OnOk, IsFalse, length};
 ghost use Rattle.std.specs.List.{AllZip};
@@ -30,25 +31,25 @@ use indicatif_text::columns::{Clock, Refusal};
 use std::alloc::Global;
 use std::thread::Threads;
 
-/// A slice is wrapped into one on which threads work with a bar (`map_collect`, `for_each`): a bar that is handed in, or one
-/// that is made on a target with a clock (`Setup`), in the style `{wide_bar} {pos}/{len}` or another. Nothing is drawn by this.
+/// Wraps a slice, so that threads work on it with a bar (`map_collect`, `for_each`): a bar that you pass, or one that is made on a target
+/// with a clock (`Setup`), in the style `{wide_bar} {pos}/{len}` or another. It draws nothing.
 ///
 /// ```
 /// let list = numbers.as_slice().progress_with(bar);
 /// let (made, bar) = list.map_collect(&rt, alloc, |x: &u32| x.wrapping_mul(2));
 /// ```
 pub trait ParallelProgressIterator: Sized {
-    /// How many items there are.
+    /// The number of items.
     ghost count: { Self → ℕ };
 
-    /// Its progress is this bar's.
+    /// Wraps it with this bar.
     fn progress_with<P: Moves>(self, progress: P) -> ProgressBarIter<Self, P>
         ensures wraps { Wraps result self }
         ensures bar { result.progress ≡ progress };
 
-    /// A bar of this length.
+    /// Wraps it with a bar of this length.
     ///
-    /// Refused: `Memory`; nothing is made, and what was handed in is given up.
+    /// Refused: `Memory`; nothing is made, and the arguments are dropped.
     fn progress_count<W: TermLike + Drop, C: Clock + Drop>(
         self,
         alloc: Global,
@@ -59,9 +60,9 @@ pub trait ParallelProgressIterator: Sized {
         ensures bar { IfOk result (λ w. BeginsPlain w.progress TICKS.now (Some len) setup.target) }
         ensures memory { IfErr result (λ e. e ≡ Refusal.Memory) };
 
-    /// A bar of as many as there are items.
+    /// Wraps it with a bar whose length is the number of items.
     ///
-    /// Refused: `Memory`; nothing is made, and what was handed in is given up.
+    /// Refused: `Memory`; nothing is made, and the arguments are dropped.
     fn progress<W: TermLike + Drop, C: Clock + Drop>(
         self,
         alloc: Global,
@@ -71,9 +72,9 @@ pub trait ParallelProgressIterator: Sized {
         ensures bar { IfOk result (λ w. BeginsPlain w.progress TICKS.now (Some (count self)) setup.target) }
         ensures memory { IfErr result (λ e. e ≡ Refusal.Memory) };
 
-    /// A bar of as many as there are items, in this style.
+    /// Wraps it with a bar whose length is the number of items, in this style.
     ///
-    /// Refused: `Memory`, only where the style has another width of tabs than 8; nothing is made, and what was handed in is given up.
+    /// Refused: `Memory`, only if the style has a tab width other than 8; nothing is made, and the arguments are dropped.
     fn progress_with_style<K: Tracks, W: TermLike + Drop, C: Clock + Drop>(
         self,
         alloc: Global,
@@ -125,22 +126,21 @@ impl<'a, T> ParallelProgressIterator for &'a [T] {
     }
 }
 
-/// Each of these works on the list by a thread for each processor, the one that calls among them. The threads are started once; each
-/// takes the next part of the list that is left, some thousandth of it, until none is. The thread that calls has the bar. Behind each
-/// of its parts it advances it by the blocks that are full of items which were met, whichever they are; at the end by what is left. A
-/// block has 4,096 items; of a list that has no more, a tenth, and at least one for each processor. A bar that may stop within a block
-/// (`Moves::stops_within_blocks`), as one that is shared may, is advanced by what was met, so that it shows how far a block is.
+/// Each of these works on the list with one thread for each processor, the caller among them. The threads are started once; each takes the
+/// next part of the list, about a thousandth, until none is left. The caller's thread has the bar. After each of its parts it advances the
+/// bar by the blocks that the met items fill, whichever items these are, and at the end by the rest. A block has 4,096 items; in a list
+/// with no more, a tenth of them, and at least one for each processor. A bar that may stop within a block (`Moves::stops_within_blocks`),
+/// such as a shared one, is advanced by all items that were met.
 ///
-/// The bar comes back as it is then; it isn't finished. What a draw answered isn't told: an advance whose draw was refused is an
-/// advance all the same.
+/// The bar comes back as it is then; it isn't finished. The answers of draws are dropped: an advance whose draw was refused still counts.
 impl<'a, T: Sync, P: Moves + Drop> ProgressBarIter<&'a [T], P> {
-    /// What `f` answers at each item, in the list's order.
+    /// What `f` returns for each item, in the list's order.
     ///
     /// ```
     /// let (made, bar) = list.map_collect(&rt, alloc, |x: &u32| x.wrapping_mul(2)); // of 1, 2 and 3: 2, 4 and 6
     /// ```
     ///
-    /// Refused: `Memory`, never for an empty list; the bar was advanced by blocks of items that were met before.
+    /// Refused: `Memory`, never for an empty list; the bar was already advanced by blocks of items that were met.
     pub fn map_collect<R: Threads + Sync, A: Send + Drop, F: Fn(&T) -> A + Sync + Drop>(
         self,
         rt: &R,
@@ -157,7 +157,7 @@ impl<'a, T: Sync, P: Moves + Drop> ProgressBarIter<&'a [T], P> {
         map_in_threads(rt, alloc, items, bar, &f)
     }
 
-    /// Calls `f` with each item once. It takes no memory, and always answers `Ok`.
+    /// Calls `f` with each item once. It takes no memory, and always returns `Ok`.
     ///
     /// ```
     /// let (answer, bar) = list.for_each(&rt, |item: &AtomicU64| meet(item)); // `meet` may be called by several threads at once

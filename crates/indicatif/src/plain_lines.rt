@@ -1,4 +1,4 @@
-//! Bars as plain lines, where no terminal shows them.
+//! Bars as plain lines, if no terminal shows them.
 ghost use Rattle.std.specs.Prelude.{◌≡◌, None, false, IsTrue, is_some, IfOk, OnOk, OnErr, IfErr};
 ghost use Rattle.indicatif_bar.specs.Progress.{is_finished};
 ghost use Rattle.indicatif.specs.PlainLines.{due, due_meanwhile};
@@ -11,8 +11,8 @@ use std::convert::AsStr;
 /// The columns that plain lines are laid out for.
 const COLUMNS: u16 = 79;
 
-/// When a bar that no terminal shows was told as a plain line, and is told next: after each `every` nanoseconds from the first look on, and
-/// once when it is finished. It is for logs, as those of a build, which want a line now and then. Each bar needs one of its own.
+/// Decides when a bar that no terminal shows is written as a plain line: each `every` nanoseconds from the first look, and once when it is
+/// finished. It is for logs, as those of a build, which want a line now and then. Use one for each bar.
 ///
 /// ```
 /// let mut lines = PlainLines::every(5_000_000_000);
@@ -32,7 +32,7 @@ pub struct PlainLines {
 }
 
 impl PlainLines {
-    /// A line each so many nanoseconds.
+    /// One line each `nanos` nanoseconds.
     pub fn every(nanos: u64) -> PlainLines
         ensures { (result.every ≡ nanos) × (result.last ≡ None) × (result.is_over ≡ false) }
     {
@@ -43,7 +43,7 @@ impl PlainLines {
         }
     }
 
-    /// Whether a line of a bar is due at this moment, and what is remembered then.
+    /// Whether a line of a bar is due at this moment, and the state to keep.
     fn look(self, is_finished: bool, now: Moment) -> (bool, PlainLines)
         ensures { result ≡ due self is_finished now }
     {
@@ -54,7 +54,7 @@ impl PlainLines {
         self.look_meanwhile(now)
     }
 
-    /// The same of a bar that isn't finished.
+    /// Whether a line of an unfinished bar is due at this moment, and the state to keep.
     fn look_meanwhile(self, now: Moment) -> (bool, PlainLines)
         ensures { result ≡ due_meanwhile self now }
     {
@@ -85,7 +85,7 @@ impl PlainLines {
     /// }
     /// ```
     ///
-    /// Refused: `Memory`; the line is due at the next look then.
+    /// Refused: `Memory`; then the line is due at the next look.
     pub fn line_of<K: Tracks>(
         &mut self,
         bar: &BarState<K>,
@@ -103,7 +103,7 @@ impl PlainLines {
     }
 }
 
-/// A bar's lines as they are told; none where it shows nothing.
+/// A bar's plain lines; none if it shows nothing.
 fn plain_lines<K: Tracks>(bar: &BarState<K>, now: Moment) -> Result<Option<String>, Refusal>
     ensures { IfErr result (λ e. e ≡ Refusal.Memory) }
 {

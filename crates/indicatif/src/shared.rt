@@ -1,16 +1,16 @@
-//! A bar that its owners share.
+//! A bar with several owners.
 //!
-//! Its calls that change it stand here. Beside them, all private:
+//! Its calls that change the bar are here. The modules below are private:
 //!
-//! - `constructors`: how bars are made; `builders`: what is said of one before it moves; `readings`: what is read of it.
+//! - `constructors` make bars; `builders` set up a bar before it moves; `readings` read its state.
 //! - `beside`: lines above bars, and beside hidden ones. `told`: hidden bars as plain lines. `weak`: a bar without an owner; `wrapped`: wrappers that move it.
 //! - `unlocked`: bars and boards that leave their locks.
-//! - `shared_bar`: its lock, its pauses, and what waits for them; `request`: what became of a call, which is made or has to come again.
-//! - `locked_bar`: what its lock keeps; `any_bar`: the bar there, alone or on a board; `member_bar`: a bar on a board.
+//! - `shared_bar`: its lock, its pauses, and what waits for them; `request`: the result of a call, which is made or has to be tried again.
+//! - `locked_bar`: what its lock protects; `any_bar`: the bar there, alone or on a board; `member_bar`: a bar on a board.
 //! - `board_cell`: a board's lock, and its pauses (`pause`).
-//! - `locked_board`: what a board's lock keeps; `any_board`: the board there, with its history or without.
+//! - `locked_board`: what a board's lock protects; `any_board`: the board there, with its history or without.
 //! - `position_change`: what moves its position.
-//! - `ticker`: which steady ticker it has; `steady`: the thread that ticks. `counting`: threads that count for it, without its lock.
+//! - `ticker`: its steady ticker; `steady`: the thread that ticks. `counting`: threads that count for it without its lock.
 ghost use Rattle.std.specs.Prelude.{◌≡◌, ◌⊎◌, ℕ, IfErr};
 ghost use Rattle.std.specs.Fn.{FnOnceReturnsAt};
 ghost use Rattle.indicatif_bar.specs.Commands as Command;
@@ -69,20 +69,20 @@ use std::sync::{Arc, Wait};
 
 /// One owner of a bar that others may own too, in this thread or in others: a clone is another owner of the same bar.
 ///
-/// Each call takes the bar's lock, does what the `LoneBar` under it does, at the moment that the bar's clock tells, and answers
-/// what that answers; what a call does and refuses is said there. A call waits while another owner's is made. In the closure of an
-/// `update` or a `with_term` each call of the same bar, or of any bar of its board, waits for ever; in that of a `suspend` readings answer,
-/// and a call that draws or changes one of these bars waits for ever.
+/// Each call locks the bar, makes the same call of the `LoneBar` in it, at the moment of the bar's clock, and returns its answer; what a
+/// call does and refuses is described there. A call waits while another owner's call is made. Inside the closure of an `update` or a
+/// `with_term` each call of the same bar, or of any bar of its board, deadlocks; inside that of a `suspend` readings answer, and a call
+/// that draws or changes one of these bars deadlocks.
 ///
 /// Once the last owner is gone, by `release` or by being dropped, a bar that isn't finished is finished by its stored finish.
 ///
-/// A text is lent: the bar's record copies its message and its prefix, and nobody copies the lines above a bar. A bar that stands on a
-/// board answers as the board does when it is told that call of that bar; so each command may be refused `NotMember` there, where the
-/// board has lost the bar to one of the same mark. Where the board keeps its history, each may be refused `Memory` because that has no
-/// room, or no room for a copy of the text; nothing has changed then.
+/// Texts are borrowed: the bar's record copies its message and its prefix, and the lines above a bar aren't copied. A bar on a board
+/// answers as the board does when it makes that call of the bar; so each command may be refused `NotMember` there, if the board has lost
+/// the bar to another board with the same mark. If the board keeps its history, each may be refused `Memory` because the history has no
+/// room, or no room for a copy of the text; then nothing has changed.
 ///
-/// Its clauses say which answers a call can have, by the call alone. At most these come: they allow `ForeignBar` too, which a bar's own
-/// board never answers. That the bar under the lock was changed so is what tests show, since no clause can name what a lock keeps.
+/// The clauses say which answers a call can give, by the call alone. No other answer comes; they also allow `ForeignBar`, which a bar's own
+/// board never gives. That the bar under the lock changes accordingly is tested, not proved: no clause can name what a lock protects.
 ///
 /// ```
 /// let bar = ProgressBar::new(rt, rt.alloc(), 100, setup)?;
@@ -106,8 +106,8 @@ impl<T: TermLike + Drop, C: Clock + Drop, R: Wait + Clone + Drop, K: Tracks> Pro
     R,
     K,
 > {
-    /// A call of the bar, made once neither the bar nor its board is in a pause. Its text is lent: nobody copies it but the bar's record, and
-    /// the history of a board that keeps one.
+    /// Makes a call of the bar, once neither the bar nor its board is in a pause. Its text is borrowed: only the bar's record copies it,
+    /// and the history of a board that keeps one.
     #[tactic(auto, using(crate::proofs::FrontLemmas::place_answers))]
     fn tell(&self, call: LoneCall<K, &str>) -> Result<Drawn, Refusal>
         ensures { CanAnswer K (lone_call_as (λ text. text.now) call.entry) result }
@@ -124,7 +124,7 @@ impl<T: TermLike + Drop, C: Clock + Drop, R: Wait + Clone + Drop, K: Tracks> Pro
         unreachable!()
     }
 
-    /// A change of the bar's position. Mostly the lock is free, and no pause is on: two comparisons tell that.
+    /// Changes the bar's position. The lock is usually free, and there is usually no pause: two comparisons find that.
     #[inline(always)]
     #[tactic(auto, using(crate::proofs::FrontLemmas::place_answers))]
     fn move_by(&self, change: PositionChange) -> Result<Drawn, Refusal>
@@ -216,7 +216,7 @@ impl<T: TermLike + Drop, C: Clock + Drop, R: Wait + Clone + Drop, K: Tracks> Pro
         self.tell(LoneCall::Bar(BarCommand::SetPrefix(text)))
     }
 
-    /// Sets the style, and gives it the bar's width of tabs. Asks for no draw: the next one is in this style.
+    /// Sets the style, and gives it the bar's tab width. Asks for no draw: the next one is in this style.
     ///
     /// Refused: `Memory`; the style is given up.
     pub fn set_style(&self, style: ProgressStyle<K>) -> Result<Drawn, Refusal>
@@ -312,8 +312,8 @@ impl<T: TermLike + Drop, C: Clock + Drop, R: Wait + Clone + Drop, K: Tracks> Pro
         self.tell(LoneCall::Bar(BarCommand::ForceDraw))
     }
 
-    /// Sets what the closure answers of the bar's state; then as `tick`. The closure is called under the lock, and not at all if its board
-    /// hasn't the bar. A call of this bar in it, or of any bar of its board, waits for ever.
+    /// Makes the changes that the closure returns for the bar's state; then as `tick`. The closure is called under the lock, and not at all
+    /// if the board hasn't the bar. A call of this bar inside it, or of any bar of its board, deadlocks.
     pub fn update<F: FnOnce(&ProgressState) -> Change>(&self, f: F) -> Result<Drawn, Refusal>
         requires { F.IsAlwaysCallable f }
         ensures { (change : Changed) × CanAnswer K (Lone.Obey (Command.Update change.pos change.len)) result
@@ -330,13 +330,13 @@ impl<T: TermLike + Drop, C: Clock + Drop, R: Wait + Clone + Drop, K: Tracks> Pro
         self.tell(LoneCall::Log(text))
     }
 
-    /// Takes the bar's rows back (on a board the rows of all bars), calls `f` once, and forces a draw, at the moment of the clear. It returns
-    /// what `f` returned, and the answer of the draw. If the clear was refused, `f` is still called, no draw is made, and the answer is that
-    /// refusal.
+    /// Clears the bar's rows (on a board the rows of all bars), calls `f` once, and forces a draw, at the moment of the clear. It returns
+    /// what `f` returned, and the answer of the draw. If the clear was refused, `f` is still called, no draw is made, and the answer is
+    /// that refusal.
     ///
-    /// It is a pause of the bar, or of its board (`MultiProgress::suspend`). Meanwhile readings answer, also in `f` itself. A call that draws,
-    /// or changes a bar, waits for the end of the pause: from another thread it goes on then, and one that `f` itself makes, of this bar or
-    /// of any bar of its board, waits for ever.
+    /// It is a pause of the bar, or of its board (`MultiProgress::suspend`). Meanwhile readings answer, also inside `f`. A call that draws,
+    /// or changes a bar, waits for the end of the pause: a call from another thread goes on then; one inside `f`, of this bar or of any bar
+    /// of its board, deadlocks.
     ///
     /// ```
     /// let (position, drawn) = bar.suspend(move || other.position()); // another owner of the bar
@@ -349,26 +349,26 @@ impl<T: TermLike + Drop, C: Clock + Drop, R: Wait + Clone + Drop, K: Tracks> Pro
         self.state.suspend(&self.rt, f)
     }
 
-    /// Sets the target. The bar begins there with its next draw, and the old target is given up. If the bar stands alone, nothing is written
-    /// to either target, and the answer is `Limited`. A board's bar leaves its board and stands alone from now on. The board's other bars
-    /// are drawn, by force, and the answer is that of this draw.
+    /// Sets the target. The bar begins there with its next draw, and the old target is dropped. If the bar stands alone, nothing is
+    /// written to either target, and the answer is `Limited`. A board's bar leaves its board and stands alone afterwards. A forced draw
+    /// shows the board's other bars, and its answer is returned.
     ///
-    /// Refused: as a removal, and `NotMember` if the board hasn't the bar. Then the bar stays there, and the new target is given up.
+    /// Refused: as a removal, and `NotMember` if the board hasn't the bar. Then the bar keeps its place, and the new target is dropped.
     pub fn set_draw_target(&self, target: ProgressDrawTarget<T>) -> Result<Drawn, Refusal>
         ensures { CanTurn result }
     {
         self.state.set_draw_target(&self.rt, target)
     }
 
-    /// Takes the bar's rows back and sets the target, in one call: no other thread draws on the old target in between, and nothing of the bar
-    /// stays there. If the bar stands alone, the answer is that of the clear; whatever that is, the bar stands on the new target. A board's
+    /// Clears the bar's rows and sets the target, in one call: no other thread draws on the old target in between, and nothing of the bar
+    /// stays there. If the bar stands alone, the answer is that of the clear; whatever it is, the bar stands on the new target. A board's
     /// bar leaves its board, as by `set_draw_target`.
     ///
     /// ```
     /// bar.move_to(ProgressDrawTarget::hidden())?; // the bar is gone from the terminal
     /// ```
     ///
-    /// Refused: as a clear; on a board as `set_draw_target`, and the bar stays there then.
+    /// Refused: as a clear; on a board as `set_draw_target`, and then the bar keeps its place.
     pub fn move_to(&self, target: ProgressDrawTarget<T>) -> Result<Drawn, Refusal>
         ensures { CanMove result }
     {
@@ -380,12 +380,12 @@ impl<T: TermLike + Drop, C: Clock + Drop, R: Wait + Clone + Drop, K: Tracks> Pro
         drop(self);
     }
 
-    /// The bar's number on its board; `None` where it stands alone.
+    /// The bar's number on its board; `None` if it stands alone.
     pub(crate) fn id(&self) -> Option<BarId> {
         self.state.lock.lock(&self.rt).bar().id()
     }
 
-    /// Takes the bar in on a board.
+    /// Inserts the bar on a board.
     pub(crate) fn take_in(
         &self,
         board: SharedBoard<K, T, C>,
@@ -397,14 +397,14 @@ impl<T: TermLike + Drop, C: Clock + Drop, R: Wait + Clone + Drop, K: Tracks> Pro
         locked.take_in(&self.rt, board, at, self.alloc)
     }
 
-    /// Takes the bar out of the order of a board.
+    /// Removes the bar from a board.
     pub(crate) fn take_out(&self, board: &BoardCell<K, T, C>) -> Result<(), Refusal>
         ensures { IfErr result MemoryOrForeign }
     {
         self.state.turn(&self.rt).take_out(&self.rt, board)
     }
 
-    /// One owner more on the count.
+    /// Counts one more owner.
     fn counted(&self) -> bool
         ensures { (before : ℕ) × (now : ℕ) × OwnerJoins result before now }
     {
@@ -412,7 +412,7 @@ impl<T: TermLike + Drop, C: Clock + Drop, R: Wait + Clone + Drop, K: Tracks> Pro
     }
 }
 
-/// Another owner of the same bar. Refused: want of memory; or 2^64 - 1 own it already.
+/// Another owner of the same bar. Refused: want of memory, or 2^64 - 1 owners.
 impl<T: TermLike + Drop, C: Clock + Drop, R: Wait + Clone + Drop, K: Tracks> Clone
     for ProgressBar<T, C, R, K> {
     fn clone(&self) -> Result<ProgressBar<T, C, R, K>, AllocError> {
@@ -449,7 +449,7 @@ impl<T: TermLike + Drop, C: Clock + Drop, R: Wait + Clone + Drop, K: Tracks> Deb
     }
 }
 
-/// It tells nothing of where it stands, as others may move it meanwhile.
+/// Its position can't be read in contracts, as other owners may move it meanwhile.
 impl<T: TermLike + Drop, C: Clock + Drop, R: Wait + Clone + Drop, K: Tracks> Moves
     for ProgressBar<T, C, R, K> {
     #[inline(always)]
@@ -471,7 +471,7 @@ impl<T: TermLike + Drop, C: Clock + Drop, R: Wait + Clone + Drop, K: Tracks> Mov
         Some(self.state.place_after(&self.rt, seeks, n))
     }
 
-    /// Its position isn't one that a contract could tell.
+    /// Yes, since its position can't be read in contracts.
     fn stops_within_blocks(&self) -> bool {
         true
     }

@@ -1,10 +1,10 @@
 //! Iterators, readers, writers and streams that move a bar.
 //!
-//! - `moves`: what a wrapper tells a bar; `owned`: a bar with its clock, which needn't be shared.
-//! - `wrap`: the wrapper. What it is for: `items` from either end, `bytes` that are read and written, `seeking`; `polled` readers and writers,
+//! - `moves`: the trait of a wrapper's bar; `owned`: a bar with its clock, which needn't be shared.
+//! - `wrap`: the wrapper. It wraps `items` from either end, `bytes` that are read and written, `seeking`, `polled` readers and writers, and
 //!   `streams`.
-//! - `progress_iterator`: an iterator makes its bar itself; `builders`: what is said of that bar before it moves.
-//! - `seek`: the place that moves and seeks show, over `ring`, the greatest of the last places.
+//! - `progress_iterator`: an iterator makes its own bar; `builders`: sets up that bar before it moves.
+//! - `seek`: the position that is shown after moves and seeks, over `ring`, the greatest of the last places.
 
 mod builders;
 mod bytes;

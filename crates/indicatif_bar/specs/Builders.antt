@@ -1,4 +1,4 @@
--- Which characters and tick strings a style takes, and what a style is at first. Texts are lists of bytes in UTF-8.
+-- Which characters and tick strings a style takes, and what a new style has. Texts are lists of bytes in UTF-8.
 use Rattle.std.specs.Prelude.{ℕ, true, false, not, ◌==◌, nat_lt, List, [], ◌∷◌, map, length, Option, Some, None, if◌then◌else◌, encode_utf8}
 use Rattle.std.specs.Str.{chars}
 use Rattle.std.specs.List.{list_all}
@@ -30,16 +30,16 @@ progress_fault clusters =
     else if width == 0 then Some ZeroWidthChars
     else None
 
--- the trackers after one was added: it comes before an earlier one of its name
+-- the trackers after one was added: it comes before an earlier one with its name
 abbrev pub with_key : {K : Type 0} → List ℕ → K → List (List ℕ × K) → List (List ℕ × K)
 with_key name tracker keys = (name, tracker) ∷ keys
 
--- ---- at first
+-- ---- a new style
 
--- the characters of a bar: a full block, and a light shade
+-- the default characters of a bar: a full block, and a light shade
 abbrev pub first_clusters : List (List ℕ)
 first_clusters = encode_utf8 0x2588 ∷ encode_utf8 0x2591 ∷ []
 
--- a style as it is made with a template
+-- a new style with a template
 abbrev pub first_style : {K : Type 0} → List ℕ → List TemplatePart → BarStyle K
 first_style ticks parts = record { parts = parts; clusters = first_clusters; tick_strings = characters_of ticks; keys = []; colours = false; tab = 8 }

@@ -1,4 +1,4 @@
--- Worked cases of a lone bar: what calls at the moment 0 answer, and the rows that stand then. The terminal never fails but where a case says so.
+-- Worked cases of a lone bar: the answers of calls at the moment 0, and the rows that stand afterwards. The terminal never fails unless a case says so.
 use Rattle.indicatif_text.specs.Template.{KeyText, plain_layout}
 use Rattle.indicatif_bar.specs.Styles.{BarStyle}
 use Rattle.std.specs.Prelude.{◌≡◌, ℕ, true, false, List, [], ◌∷◌, ◌++◌, length, map, replicate, take, Option, Some, None, flat_map, codes, Result, Ok, Err}
@@ -25,7 +25,7 @@ use Rattle.indicatif_bar.specs.Lone.{LoneState, LoneCall, Obey, Log, Clear, open
 
 -- ---- calls
 
--- a terminal of so many rows and columns
+-- a terminal with this many rows and columns
 abbrev pub terminal_of_size : ℕ → ℕ → Target
 terminal_of_size rows columns = record { hidden = false; columns = columns; rows = rows }
 
@@ -33,7 +33,7 @@ terminal_of_size rows columns = record { hidden = false; columns = columns; rows
 abbrev pub nowhere : Target
 nowhere = record { hidden = true; columns = 0; rows = 0 }
 
--- its trackers mean nothing
+-- no trackers
 abbrev pub untracked : Tracking (Unit {0})
 untracked = writes_nothing
 
@@ -41,11 +41,11 @@ untracked = writes_nothing
 abbrev pub message_style : BarStyle (Unit {0})
 message_style = record { parts = KeyText (codes "msg") plain_layout ∷ []; clusters = []; tick_strings = []; keys = []; colours = false; tab = 8 }
 
--- a lone bar without trackers, with this message, as it was made at the moment 0
+-- a lone bar without trackers, with this message, made at the moment 0
 abbrev pub bar_saying : List ℕ → BarRecord (Unit {0})
 bar_saying message = (obeyed untracked (WithMessage message) (new_bar message_style None 0) 0).0
 
--- an empty message has no line; else its pieces between newlines are its lines
+-- an empty message has no line; otherwise each piece between newlines is a line
 abbrev pub Lines : Type 0
 Lines =
     let shown = λ (message : List ℕ). lines_of_bar untracked (bar_saying message) 0 80 in
@@ -55,7 +55,7 @@ Lines =
     × (shown (codes "a\n") ≡ codes "a" ∷ [] ∷ [])
     × (shown (codes "\n") ≡ [] ∷ [] ∷ [])
 
--- what calls of it answer, and its state then
+-- the answers of its calls, and its state after them
 abbrev pub ran : Target → List ℕ → List (LoneCall (Command (Unit {0}))) → List (Result Drawn Refusal) × LoneState (BarRecord (Unit {0}))
 ran target message calls = outcomes (lone_bar untracked) target (map (λ call. (call, 0)) calls) (opening_state (bar_saying message) None)
 
@@ -63,7 +63,7 @@ ran target message calls = outcomes (lone_bar untracked) target (map (λ call. (
 abbrev pub rows_of_lines : ℕ → List (List ℕ) → List (List Cell)
 rows_of_lines columns lines = flat_map (rows_of columns) lines
 
--- 4 rows, 10 columns: a message of 13 columns takes two rows; a shorter one takes their place
+-- 4 rows, 10 columns: a message of 13 columns takes two rows; a shorter one replaces them
 abbrev pub ShorterMessage : Type 0
 ShorterMessage =
     let first = ran (terminal_of_size 4 10) (codes "progress bars") (Obey Tick ∷ []) in
@@ -100,7 +100,7 @@ NoColumn =
     × (ticked.1.lists ≡ opening_lists)
     × (logged.0 ≡ Err NoColumns ∷ [])
 
--- a hidden target: the numbers change, and nothing else
+-- a hidden target: the record changes, and nothing else
 abbrev pub Nowhere : Type 0
 Nowhere =
     let both = ran nowhere (codes "a") (Obey ForceDraw ∷ Log (codes "l") ∷ Obey Tick ∷ []) in
@@ -114,13 +114,13 @@ LogsAbove =
     × (both.1.lists.above ≡ rows_of_lines 5 (codes "a" ∷ codes "b" ∷ []))
     × (all_rows 5 both.1.lists ≡ rows_of_lines 5 (codes "a" ∷ codes "b" ∷ codes "y" ∷ []))
 
--- a text that is too wide is refused whole: no row above
+-- a text that is too wide is refused as a whole: no row above
 abbrev pub WideLog : Type 0
 WideLog =
     let both = ran (terminal_of_size 3 1) (codes "a") (Log (0xE5 ∷ 0x9B ∷ 0xBD ∷ []) ∷ []) in
     (both.0 ≡ Err TooWide ∷ []) × (both.1.lists ≡ opening_lists)
 
--- 4 rows, 5 columns: a clear takes the bar's row back, and what was logged stays; the next draw shows the bar again
+-- 4 rows, 5 columns: a clear erases the bar's row, and logged text stays; the next draw shows the bar again
 abbrev pub Cleared : Type 0
 Cleared =
     let cleared = ran (terminal_of_size 4 5) (codes "x") (Log (codes "a") ∷ Clear ∷ []) in
@@ -155,7 +155,7 @@ BrokenOff =
     × (again.1.lists.above ≡ rows_of_lines 5 (codes "b" ∷ []))
     × (all_rows 5 again.1.lists ≡ rows_of_lines 5 (codes "b" ∷ codes "y" ∷ []))
 
--- the states of the same: `a` was logged above the bar `x`; and behind the failure `b` was above the bar `y`
+-- its states: `a` was logged above the bar `x`; after the failure `b` was logged above the bar `y`
 abbrev pub logged_before : LoneState (BarRecord (Unit {0}))
 logged_before = (ran (terminal_of_size 4 5) (codes "x") (Log (codes "a") ∷ [])).1
 
@@ -178,8 +178,7 @@ terminal_broken = after terminal_before (take 7 broken_bytes)
 abbrev pub terminal_behind : Terminal
 terminal_behind = after terminal_broken (anew_bytes ++ line_bytes (codes "b") ++ codes "y    ")
 
--- after each beginning of the bytes the first row is that of `a`. The row of `a` is safe; then also the one on which the terminal broke
--- off; and then that of `b`
+-- after each prefix of the bytes the first row is that of `a`. The row of `a` is safe; then also the one on which the terminal broke off; and then that of `b`
 abbrev pub BrokenBytes : Type 0
 BrokenBytes =
     (map (λ k. take 1 (after terminal_before (take k broken_bytes)).screen.rows) (0 ∷ 1 ∷ 2 ∷ 3 ∷ 4 ∷ 5 ∷ 6 ∷ 7 ∷ 8 ∷ 9 ∷ 10 ∷ []) ≡ replicate 11 (rows_of_lines 5 (codes "a" ∷ [])))
@@ -188,8 +187,7 @@ BrokenBytes =
     × (safe_rows forgotten_lists terminal_broken ≡ 2)
     × (safe_rows logged_behind.lists terminal_behind ≡ 3)
 
--- a call that then goes up to the row of `b` and empties it leaves the two rows above it alone, and is no call of any run: the third
--- row was safe
+-- a call that goes up to the row of `b` and empties it leaves the two rows above it unchanged, and is no call of any run: the third row was safe
 abbrev pub EmptiedRow : Type 0
 EmptiedRow =
     let bytes = move_bytes UP 1 ++ clear_bytes in

@@ -17,12 +17,12 @@ ms = 1000000
 abbrev pub one_second : ℕ
 one_second = 1000 * ms
 
--- the bar after commands, each at its moment
+-- the bar after commands at their moments
 abbrev pub after_all : BarRecord ℕ → List (Command ℕ × ℕ) → BarRecord ℕ
 after_all bar [] = bar
 after_all bar ((command, now) ∷ commands) = after_all (obeyed writes_nothing command bar now).0 commands
 
--- what the commands ask for
+-- the draws that the commands ask for
 abbrev pub asks_of : BarRecord ℕ → List (Command ℕ × ℕ) → List Ask
 asks_of bar [] = []
 asks_of bar ((command, now) ∷ commands) = (obeyed writes_nothing command bar now).1 ∷ asks_of (obeyed writes_nothing command bar now).0 commands
@@ -38,14 +38,14 @@ Fractions =
     (fraction_of greatest_u64 (Some greatest_u64) ≡ whole) × (fraction_of 1 (Some greatest_u64) ≡ least) × (fraction_of greatest_u64 None ≡ none)
     × (fraction_of 9 (Some 4) ≡ full) × (fraction_of 0 (Some 0) ≡ done)
 
--- the greatest numbers: no time is beyond the most, nor are the steps of a second
+-- the greatest numbers: times and steps a second stop at the maximum
 abbrev pub Greatest : Type 0
 Greatest =
     let slow : Rate = record { steps = 1; nanos = greatest_u64 } in
     let fast : Rate = record { steps = greatest_u64; nanos = 1 } in
     (time_for slow greatest_u64 ≡ greatest_u64) × (time_for slow 1 ≡ greatest_u64) × (time_for fast greatest_u64 ≡ 1) × (steps_a_second fast ≡ greatest_u64) × (steps_a_second slow ≡ 0)
 
--- a rate since a reset; steps that went back begin anew
+-- a rate since a reset; steps that went back restart it
 abbrev pub Rates : Type 0
 Rates =
     let one : Rate = record { steps = 1; nanos = 1000000000 } in
@@ -60,7 +60,7 @@ module _ (style : BarStyle ℕ) where
   abbrev pub plain_record : Option ℕ → BarRecord ℕ
   plain_record len = new_bar style len 0
 
-  -- twelve steps at the moment of making, and one a millisecond later: ten ask a draw, two don't, the last does
+  -- twelve steps at the moment of making, and one a millisecond later: ten ask for a draw, two don't, the last does
   abbrev pub TwelveSteps : Type 0
   TwelveSteps = (asks_of (plain_record None) (replicate 12 (Inc 1, 0) ++ (Inc 1, ms) ∷ []) ≡ replicate 10 Unforced ++ No ∷ No ∷ Unforced ∷ [])
       × ((after_all (plain_record None) (replicate 12 (Inc 1, 0))).progress.position ≡ 12)
@@ -74,7 +74,7 @@ module _ (style : BarStyle ℕ) where
       let rate : Rate = record { steps = 3; nanos = 2000000000 } in
       (per_sec bar.progress (2 * one_second) ≡ rate) × (eta bar.progress (2 * one_second) ≡ 4 * one_second) × (duration bar.progress (2 * one_second) ≡ 6 * one_second)
 
-  -- a finished bar's draws are forced, and an installed ticker keeps a bar from ticking
+  -- a finished bar's draws are forced, and with an installed ticker, a tick does nothing
   abbrev pub Asks : Type 0
   Asks = (asks_of (plain_record None) ((Tick, 0) ∷ (Finish AndLeave, 0) ∷ (Tick, 0) ∷ []) ≡ Unforced ∷ Forced ∷ Forced ∷ [])
       × (asks_of (plain_record None) ((SetTicker true, 0) ∷ (Inc 1, 0) ∷ (TickerTick, 0) ∷ []) ≡ No ∷ No ∷ Unforced ∷ [])
@@ -88,7 +88,7 @@ module _ (style : BarStyle ℕ) where
       let rate : Rate = record { steps = 1; nanos = 1000000000 } in
       (per_sec slow.progress (2 * one_second) ≡ rate) × ((per_sec back.progress (3 * one_second)).steps ≡ 0) × (eta back.progress (3 * one_second) ≡ 0)
 
-  -- positions go round; lengths stop at both ends, and none stays none
+  -- positions wrap; lengths stop at both ends, and no length stays none
   abbrev pub Ends : Type 0
   Ends = ((after_all (plain_record None) ((Dec 1, 0) ∷ [])).progress.position ≡ greatest_u64)
       × ((after_all (plain_record None) ((SetPosition greatest_u64, 0) ∷ (Inc 2, 0) ∷ [])).progress.position ≡ 1)
@@ -101,13 +101,13 @@ module _ (style : BarStyle ℕ) where
   ElapsedTimes = (is_beyond_clock {K = ℕ} (SetElapsed 5) 4 ≡ true) × (after_all (plain_record None) ((SetElapsed 5, 4) ∷ []) ≡ plain_record None)
       × (elapsed (after_all (plain_record None) ((SetElapsed 5, 5) ∷ [])).progress 7 ≡ 7)
 
-  -- a tab is eight spaces, and as many as are set after that
+  -- a tab is eight spaces, or the tab width that was set
   abbrev pub TabWidths : Type 0
   TabWidths =
       let tabbed = after_all (plain_record None) ((SetMessage (codes "a" ++ (9 ∷ []) ++ codes "b"), 0) ∷ []) in
       (shown_message tabbed.progress ≡ codes "a        b") × (shown_message (obeyed writes_nothing (SetTabWidth 2) tabbed 0).0.progress ≡ codes "a  b")
 
-  -- each finish: where the bar stands then, and what it took
+  -- each finish: where the bar stands afterwards, and the duration
   abbrev pub Finishes : Type 0
   Finishes =
       let half = after_all (plain_record (Some 10)) ((WithPosition 5, 0) ∷ []) in

@@ -1,4 +1,4 @@
--- A bar's record and what each command makes of it. Texts are lists of bytes in UTF-8, moments and times nanoseconds.
+-- A bar's record and how each command changes it. Texts are lists of bytes in UTF-8, moments and times nanoseconds.
 use Rattle.std.specs.declared.string.String.{String}
 use Rattle.std.specs.declared.alloc.Global.{Global}
 use Rattle.std.specs.Prelude.{not, ◌||◌, ◌==◌, ℕ, string_bytes, ◌+◌, ◌-◌, ◌%◌, ◌^◌, Bool, true, false, nat_lt, min, List, Option, Some, None, if◌then◌else◌, unwrap_or, option_map}
@@ -23,7 +23,7 @@ pub record BarRecord (K : Type 0) : Type 0 where
   pub ticker : Bool
   pub limiter : PositionLimiter
 
--- what a bar can be told
+-- a command of a bar
 pub data Command (K : Type 0) : Type 0 where
   Tick : Command K
   TickerTick : Command K
@@ -31,7 +31,7 @@ pub data Command (K : Type 0) : Type 0 where
   Inc : (n : ℕ) → Command K
   Dec : (n : ℕ) → Command K
   SetPosition : (position : ℕ) → Command K
-  -- what the caller's function answered, each if there is one
+  -- what the caller's closure returned: a position and a length, if any
   Update : (position : Option ℕ) → (len : Option ℕ) → Command K
   SetLength : (n : ℕ) → Command K
   UnsetLength : Command K
@@ -56,7 +56,7 @@ pub data Command (K : Type 0) : Type 0 where
 
 -- ---- parts of a record
 
--- the record as made, in a style
+-- a new record, in a style
 abbrev pub new_bar : {K : Type 0} → BarStyle K → Option ℕ → ℕ → BarRecord K
 new_bar style len now = record {
   progress = new_progress len now;
@@ -70,7 +70,7 @@ new_bar style len now = record {
 abbrev pub with_trackers : {K : Type 0} → (K → K) → BarRecord K → BarRecord K
 with_trackers change bar = record bar { style = record bar.style { keys = changed_trackers change bar.style.keys } }
 
--- the draw that is asked for: an unforced one, and a forced one of a finished bar
+-- the draw to ask for: an unforced one, or a forced one if the bar is finished
 abbrev pub redraw_ask : {K : Type 0} → BarRecord K → Ask
 redraw_ask bar = if is_finished bar.progress then Forced else Unforced
 
@@ -81,7 +81,7 @@ asks_draw bar = (bar, redraw_ask bar)
 abbrev pub with_progress : {K : Type 0} → BarRecord K → Progress → BarRecord K
 with_progress bar progress = record bar { progress = progress }
 
--- the record with as many spaces for a tab, in its texts and its style
+-- the record with another tab width, in its texts and its style
 abbrev pub with_tab : {K : Type 0} → BarRecord K → ℕ → BarRecord K
 with_tab bar tab = record bar { progress = record bar.progress { tab = tab }; style = record bar.style { tab = tab } }
 
@@ -104,7 +104,7 @@ module _ {K : Type 0} (m : Tracking K) where
   abbrev pub ticker_tick : BarRecord K → ℕ → BarRecord K × Ask
   ticker_tick bar now = update (with_progress bar (record bar.progress { ticks = min (bar.progress.ticks + 1) greatest_u64 })) now
 
-  -- a tick, which does nothing where a ticker is installed
+  -- a tick, which does nothing if a ticker is installed
   abbrev pub tick : BarRecord K → ℕ → BarRecord K × Ask
   tick bar now = if bar.ticker then (bar, No) else ticker_tick bar now
 
@@ -124,7 +124,7 @@ module _ {K : Type 0} (m : Tracking K) where
       let progress = progress_reset bar.progress now in
       with_trackers (λ k. m.was_reset k progress now) (record bar { progress = progress; limiter = position_reset bar.limiter now })
 
-  -- the record after a command at a moment, and what it asks for
+  -- the record after a command at a moment, and the draw that it asks for
   abbrev pub obeyed : Command K → BarRecord K → ℕ → BarRecord K × Ask
   obeyed Tick bar now = tick bar now
   obeyed TickerTick bar now = ticker_tick bar now
@@ -155,7 +155,7 @@ module _ {K : Type 0} (m : Tracking K) where
   obeyed FinishUsingStyle bar now = finish bar.on_finish bar now
   obeyed ForceDraw bar now = (bar, Forced)
 
--- the record after its owner is gone, and what that asks for
+-- the record after its owner is gone, and the draw that this asks for
 abbrev pub after_drop : {K : Type 0} → BarRecord K → ℕ → BarRecord K × Ask
 after_drop bar now = if is_finished bar.progress then (bar, No) else finish bar.on_finish bar now
 
@@ -166,11 +166,11 @@ is_beyond_clock _ now = false
 
 -- ---- memory
 
--- another width of tabs takes memory, unless the texts have none and the style has that width already
+-- another tab width takes memory, unless the texts have no tabs and the style already has that width
 abbrev pub width_takes_memory : {K : Type 0} → ℕ → BarRecord K → Bool
 width_takes_memory tab bar = has_tab bar.progress.message || (has_tab bar.progress.prefix || not (tab == bar.style.tab))
 
--- a command of a bar that takes memory: one that sets a text that isn't empty, a style of another width of tabs, or a width
+-- whether a command of a bar takes memory: one that sets a text that isn't empty, a style with another tab width, or a tab width
 abbrev pub takes_memory : {K : Type 0} → Command K → BarRecord K → Bool
 takes_memory (SetMessage text) bar = is_some_text text
 takes_memory (SetPrefix text) bar = is_some_text text
@@ -183,7 +183,7 @@ takes_memory (Finish by) bar = finish_takes_memory by
 takes_memory FinishUsingStyle bar = finish_takes_memory bar.on_finish
 takes_memory _ bar = false
 
--- a copy of a command takes memory: of one with a style, or with a text that isn't empty
+-- a copy of a command takes memory if it has a style, or a text that isn't empty
 abbrev pub copy_takes_memory : {K : Type 0} → Command K → Bool
 copy_takes_memory (SetMessage text) = is_some_text text
 copy_takes_memory (SetPrefix text) = is_some_text text
@@ -196,7 +196,7 @@ copy_takes_memory _ = false
 
 -- ---- commands as values
 
--- the command that a value stands for, whose text has these bytes
+-- the command that a value stands for, by the bytes of its text
 abbrev pub command_as : {K S : Type 0} → (S → List ℕ) → BarCommand K S → Command K
 command_as bytes told.Tick = Tick
 command_as bytes told.TickerTick = TickerTick
@@ -226,6 +226,6 @@ command_as bytes (told.Finish by) = Finish (finish_as bytes by)
 command_as bytes told.FinishUsingStyle = FinishUsingStyle
 command_as bytes told.ForceDraw = ForceDraw
 
--- the same of one with a text of its own
+-- the command that a value with its own text stands for
 abbrev pub command_of : {K : Type 0} → BarCommand K (String Global) → Command K
 command_of command = command_as string_bytes command

@@ -1,4 +1,4 @@
--- How a bar is finished. Texts are lists of bytes, in UTF-8.
+-- How a bar is finished. Texts are lists of bytes in UTF-8.
 use Rattle.std.specs.declared.string.String.{String}
 use Rattle.std.specs.declared.alloc.Global.{Global}
 use Rattle.std.specs.Prelude.{ℕ, Bool, false, List, string_bytes}
@@ -16,7 +16,7 @@ pub data BarFinish : Type 0 where
   Abandon : BarFinish
   AbandonWithMessage : (text : List ℕ) → BarFinish
 
--- the same of a finish as a value, whose message has these bytes
+-- the finish that a value stands for, by the bytes of its message
 abbrev pub finish_as : {S : Type 0} → (S → List ℕ) → ProgressFinish S → BarFinish
 finish_as bytes by.AndLeave = AndLeave
 finish_as bytes (by.WithMessage text) = WithMessage (bytes text)
@@ -24,7 +24,7 @@ finish_as bytes by.AndClear = AndClear
 finish_as bytes by.Abandon = Abandon
 finish_as bytes (by.AbandonWithMessage text) = AbandonWithMessage (bytes text)
 
--- the same of one with a message of its own
+-- the finish that a value with its own message stands for
 abbrev pub finish_of : ProgressFinish (String Global) → BarFinish
 finish_of finish = finish_as string_bytes finish
 

@@ -11,12 +11,12 @@ use Rattle.indicatif_bar.specs.declared.style.keys.Key.{Key}
 use Rattle.indicatif_bar.specs.declared.style.keys.Key.TheVariants as key
 use Rattle.indicatif_bar.specs.Measures.{steps_a_second}
 
--- what stands first under a name
+-- the first entry with a name
 abbrev pub named : {X : Type 0} → List ℕ → List (List ℕ × X) → Option X
 named name [] = None
 named name (entry ∷ entries) = if bytes_eq name entry.0 then Some entry.1 else named name entries
 
--- the names of the keys
+-- the keys and their names
 abbrev pub key_names : List (List ℕ × Key)
 key_names =
     (codes "bar", key.Bar) ∷ (codes "wide_bar", key.WideBar) ∷ (codes "wide_msg", key.WideMessage) ∷ (codes "spinner", key.Spinner)
@@ -32,7 +32,7 @@ key_names =
     ∷ (codes "per_sec", key.PerSecond) ∷ (codes "bytes_per_sec", key.BytesPerSecond Binary)
     ∷ (codes "binary_bytes_per_sec", key.BytesPerSecond Binary) ∷ (codes "decimal_bytes_per_sec", key.BytesPerSecond Decimal) ∷ []
 
--- the key of a name
+-- the key with a name
 abbrev pub key_named : List ℕ → Option Key
 key_named name = named name key_names
 
@@ -48,14 +48,14 @@ abbrev pub time_text : TimeForm → ℕ → List ℕ
 time_text Clock nanos = formatted_duration nanos
 time_text Short nanos = short_duration nanos
 
--- a fraction in hundredths, with so many decimals
+-- a fraction in hundredths, with the given number of decimals
 abbrev pub percent_text : Fraction → ℕ → List ℕ
 percent_text f places = fixed_point (100 * f.num) f.den places
 
--- the steps of a second, rounded at so many decimals
+-- the steps a second, rounded to the given number of decimals
 abbrev pub rate_text : Rate → ℕ → List ℕ
 rate_text rate places = human_float_count (1000000000 * rate.steps) rate.nanos places ++ codes "/s"
 
--- the whole steps of a second, in a form
+-- the whole steps a second, in a form
 abbrev pub whole_rate_text : CountForm → Rate → List ℕ
 whole_rate_text form rate = count_text form (steps_a_second rate) ++ codes "/s"

@@ -15,21 +15,21 @@ use Rattle.indicatif_bar.specs.declared.measures.Fraction.{Fraction}
 abbrev pub text_columns : List ℕ → ℕ
 text_columns text = columns_of (chars text)
 
--- so many spaces
+-- the given number of spaces
 abbrev pub spaces : ℕ → List ℕ
 spaces n = replicate n 0x20
 
--- what of a text stands in the columns from `start` up to `end`
+-- the part of a text in the columns from `start` up to `end`
 abbrev pub text_range : List ℕ → ℕ → ℕ → List ℕ
 text_range text start end = encode_utf8_all (ansi_range (chars text) start end)
 
--- the part of a text of `columns` columns that is left at a width below it
+-- the part of a text of `columns` columns that fits in a smaller width
 abbrev pub truncated : List ℕ → ℕ → Alignment → ℕ → List ℕ
 truncated text columns Left width = text_range text 0 width
 truncated text columns Right width = text_range text (columns - width) columns
 truncated text columns Center width = let excess = columns - width in text_range text (excess / 2) (columns - (excess - excess / 2))
 
--- a text with so many blanks round it
+-- a text with the given number of blanks around it
 abbrev pub surrounded : List ℕ → Alignment → ℕ → List ℕ
 surrounded text Left blanks = text ++ spaces blanks
 surrounded text Right blanks = spaces blanks ++ text

@@ -16,7 +16,7 @@ use Rattle.indicatif_bar.specs.StyleLaws.{IsPlainText, AreTaken}
 -- ---- a line with a wide bar
 
 module _ {K : Type 0} (m : Tracking K) (style : BarStyle K) (p : Progress) (now : ℕ) where
-  -- the text of parts of a template, with a filler for each wide key
+  -- the text of a template's parts, with a filler for each wide key
   abbrev pub parts_text : List TemplatePart → List ℕ
   parts_text parts = flat_map (part_text m style p now) parts
 
@@ -35,7 +35,7 @@ module _ {K : Type 0} (m : Tracking K) (style : BarStyle K) (p : Progress) (now 
     pub narrow : text_columns (cluster style.clusters 0) ≡ 1
     pub room : text_columns (parts_text style.parts) ≤ columns
 
--- a line of characters with a width that takes so many columns, and one row of them
+-- a line of characters with a width that takes exactly this many columns, and one row
 pub record FillsRow (columns : ℕ) (line : List ℕ) : Type 0 where
   pub plain : IsPlainText line
   pub columns_are : text_columns line ≡ columns
@@ -49,17 +49,17 @@ WideBarsFill K = (m : Tracking K) (style : BarStyle K) (p : Progress) (now colum
 -- ---- plain lines
 
 module _ {K : Type 0} (m : Tracking K) (style : BarStyle K) (p : Progress) (now : ℕ) where
-  -- what a part of a template writes consists of characters with a width and colour sequences, where it is no wide key
+  -- what a part of a template writes consists of characters with a width and colour sequences, if it is no wide key
   abbrev pub IsPlainPart : TemplatePart → Type 0
   IsPlainPart part = wide_part m style p now part ≡ None → IsPlainText (part_text m style p now part)
 
-  -- so do all parts and the message, and the clusters are such as a style takes
+  -- this holds of all parts and of the message, and a style takes the clusters
   pub record HasPlainParts : Type 0 where
     pub parts : All IsPlainPart style.parts
     pub clusters : AreTaken style.clusters
     pub message : IsPlainText (shown_message p)
 
--- then the lines do, whatever the wide keys are and however wide the terminal is
+-- then it holds of the lines, whatever the wide keys are and however wide the terminal is
 abbrev pub PlainPartsGivePlainLines : Type 0 → Type 0
 PlainPartsGivePlainLines K = (m : Tracking K) (style : BarStyle K) (p : Progress) (now columns : ℕ) → HasPlainParts m style p now
     → All IsPlainText (lines m style p now columns)
@@ -70,7 +70,7 @@ IsPlainLiteral style (LiteralText text) = IsPlainText (expanded style.tab (encod
 IsPlainLiteral style LineBreak = Unit {0}
 IsPlainLiteral style (KeyText key layout) = Unit {0}
 
--- all that a style and a bar have of texts does: literals, spinner, trackers, message and prefix; and the clusters are such as a style takes
+-- this holds of all texts of a style and a bar: literals, spinner, trackers, message and prefix; and a style takes the clusters
 pub record HasPlainTexts {K : Type 0} (m : Tracking K) (style : BarStyle K) (p : Progress) (now : ℕ) : Type 0 where
   pub literals : All (IsPlainLiteral style) style.parts
   pub ticks : All IsPlainText style.tick_strings
@@ -79,12 +79,12 @@ pub record HasPlainTexts {K : Type 0} (m : Tracking K) (style : BarStyle K) (p :
   pub message : IsPlainText (shown_message p)
   pub prefix : IsPlainText (shown_prefix p)
 
--- then the lines do, of whatever keys the template has
+-- then it holds of the lines, whatever keys the template has
 abbrev pub PlainTextsGivePlainLines : Type 0 → Type 0
 PlainTextsGivePlainLines K = (m : Tracking K) (style : BarStyle K) (p : Progress) (now columns : ℕ) → HasPlainTexts m style p now
     → All IsPlainText (lines m style p now columns)
 
--- and such lines are plain as the headline asks it, which has them in characters
+-- and such lines are plain in the sense of the headline, which has them as characters
 abbrev pub PlainLinesAreAsked : Type 0
 PlainLinesAreAsked = (ls : List (List ℕ)) → All IsPlainText ls → IsTrue (are_plain (map chars ls))
 
@@ -96,14 +96,14 @@ EmptyStylesHaveNoLines K = (m : Tracking K) (style : BarStyle K) (p : Progress) 
 
 -- ---- tabs
 
--- after another width of tabs, message, prefix and the template's literals are what they were set to with that width, whatever widths were set before
+-- after another tab width, message, prefix and the template's literals are as if they were set with that width, whatever widths were set before
 abbrev pub NewTabWidths : Type 0 → Type 0
 NewTabWidths K = (m : Tracking K) (bar : BarRecord K) (tab now : ℕ) →
     let next = (obeyed m (SetTabWidth tab) bar now).0 in
     (shown_message next.progress ≡ expanded tab bar.progress.message) × (shown_prefix next.progress ≡ expanded tab bar.progress.prefix)
     × (next.style.parts ≡ bar.style.parts) × ((text : List ℕ) → part_text m next.style next.progress now (LiteralText text) ≡ expanded tab (encode_utf8_all text))
 
--- the last width counts alone
+-- only the last tab width counts
 abbrev pub LastTabWidthCounts : Type 0 → Type 0
 LastTabWidthCounts K = (m : Tracking K) (bar : BarRecord K) (earlier tab now : ℕ) →
     obeyed m (SetTabWidth tab) (obeyed m (SetTabWidth earlier) bar now).0 now ≡ obeyed m (SetTabWidth tab) bar now

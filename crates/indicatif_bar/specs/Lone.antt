@@ -1,4 +1,4 @@
--- A lone bar: its states, its calls, and what each call is about to do.
+-- A lone bar: its states, its calls, and the effect of each call.
 use Rattle.std.specs.Prelude.{ℕ, Bool, false, ◌&&◌, List, [], ◌∷◌, map, chars, Option, Some, None, Result, Err, refl}
 use Rattle.indicatif_text.specs.declared.refusal.Refusal.{Refusal}
 use Rattle.indicatif_text.specs.declared.refusal.Drawn.{Drawn}
@@ -15,7 +15,7 @@ use Rattle.indicatif_bar.specs.declared.ask.Ask.TheVariants.{Forced}
 -- a lone bar between two calls
 pub record LoneState (B : Type 0) : Type 0 where
   pub bar : B
-  -- how often it may be drawn; none where that has no limit
+  -- its limiter; none if it is drawn without limit
   pub limiter : Option Limiter
   -- the rows that it drew
   pub lists : Lists
@@ -26,13 +26,13 @@ opening_state bar limiter = record { bar = bar; limiter = limiter; lists = openi
 
 -- ---- calls
 
--- what a lone bar can be asked
+-- a call of a lone bar
 pub data LoneCall (C : Type 0) : Type 0 where
   -- a command of the bar
   Obey : (command : C) → LoneCall C
   -- lines of text above the bar
   Log : (text : List ℕ) → LoneCall C
-  -- the bar's rows taken back
+  -- erases the bar's rows
   Clear : LoneCall C
 
 module _ {B C : Type 0} (kind : Kind B C) where
@@ -46,7 +46,7 @@ module _ {B C : Type 0} (kind : Kind B C) where
   bar_after_all [] bar = bar
   bar_after_all (call ∷ calls) bar = bar_after_all calls (bar_after call.0 call.1 bar)
 
-  -- the bar as the one member of a frame: it is laid out anew for each draw that writes its lines
+  -- the bar as the only member of a frame: it is laid out again for each draw that writes its lines
   abbrev pub lone_frame : Target → ℕ → B → List BarLines
   lone_frame target now bar = record { bar = 0; lines = map chars (kind.lines bar now target.columns) } ∷ []
 
@@ -55,7 +55,7 @@ module _ {B C : Type 0} (kind : Kind B C) where
   lines_take NoFrame bar = false
   lines_take _ bar = kind.lays bar
 
-  -- a draw, once the bar's numbers have changed: the limiter is asked first, and the bar laid out only where it allows the draw
+  -- a draw, once the bar's record has changed: the limiter is asked first, and the bar is laid out only if it allows the draw
   abbrev pub draw_asked : Target → Bool → Ask → ℕ → Writing → LoneState B → Draw (LoneState B)
   draw_asked target takes ask now writing s =
       let asked = asked_of ask now s.limiter in
@@ -87,7 +87,7 @@ module _ {B C : Type 0} (kind : Kind B C) where
   refused_at_once (Obey command) now bar = kind.refused command bar now
   refused_at_once _ now bar = None
 
-  -- refused, with nothing changed; or drawn
+  -- refused, and nothing changes; or drawn
   abbrev pub deed_unless : Option Refusal → Draw (LoneState B) → LoneState B → Deed (LoneState B) (Result Drawn Refusal)
   deed_unless (Some e) draw s = AtOnce false (Err e) s
   deed_unless None draw s = Draws draw (λ x. x) (λ x. x)

@@ -24,15 +24,15 @@ module _ {K T : Type 0} where
   abbrev pub record_of : LoneBar K T → BarRecord K
   record_of b = b.shown.bar
 
-  -- its terminal; none where the target is hidden
+  -- its terminal; none if the target is hidden
   abbrev pub lone_terminal : LoneBar K T → Option T
   lone_terminal b = option_map engine_term b.stage.engine
 
-  -- whether its draws go by moves of the cursor alone, where that shows the same; nothing where the target is hidden
+  -- whether its draws use cursor moves alone, if that shows the same; nothing if the target is hidden
   abbrev pub lone_moves : LoneBar K T → Option Bool
   lone_moves b = option_map engine_moves b.stage.engine
 
-  -- the bar may be in this state. Of the rows only the numbers are kept, so many states fit one bar; what is claimed holds of each
+  -- the bar may be in this state. Only the numbers of the rows are kept, so many states fit one bar; clauses hold of each
   unfoldable pub LoneIsIn : LoneBar K T → LoneState (BarRecord K) → Type 0
   LoneIsIn b s = (b.shown.bar ≡ s.bar) × IsStaged b.stage s.limiter s.lists
 
@@ -40,19 +40,19 @@ module _ {K T : Type 0} where
   abbrev pub lone_known : (T → TermView) → LoneBar K T → Option TermView
   lone_known view b = option_map view (lone_terminal b)
 
-  -- there is nothing to draw on: its target is hidden, or a terminal without columns
+  -- its draws write nothing: its target is hidden, or a terminal without columns
   abbrev pub LoneIsNowhere : (T → TermView) → LoneBar K T → Type 0
   LoneIsNowhere view b = (target_of (lone_known view b)).columns ≡ 0
 
--- a lone bar whose trackers mean this
+-- a lone bar with this meaning of its trackers
 abbrev pub lone_bar : {K : Type 0} → Tracking K → Machine (LoneState (BarRecord K)) (LoneCall (Command K)) (Result Drawn Refusal)
 lone_bar m = lone (bar_kind m)
 
--- a lone bar with other rows, as its terminal gets another size
+-- a lone bar whose terminal gets another size
 abbrev pub lone_sizing : {K : Type 0} → (m : Tracking K) → Sizing (lone_bar m)
 lone_sizing m = record { put = λ l s. record s { lists = l }; lists_are = λ l s. refl }
 
--- a command is refused: it finds no memory for a text, or its elapsed time is beyond the moment
+-- a command is refused: there is no memory for its text, or its elapsed time is beyond the moment
 abbrev pub RefusesCommand : {K : Type 0} → Command K → BarRecord K → ℕ → Refusal → Type 0
 RefusesCommand command bar now e = ((e ≡ Memory) × IsTrue (takes_memory command bar)) ⊎ ((e ≡ ElapsedBeyondClock) × IsTrue (is_beyond_clock command now))
 
@@ -61,14 +61,13 @@ abbrev pub Disobeys : {K T : Type 0} → LoneBar K T → LoneBar K T → Command
 Disobeys old new command now answer = (e : Refusal) × (answer ≡ Err e) × RefusesCommand command (record_of old) now e × (new ≡ old)
 
 module _ {K T : Type 0} (m : Tracking K) (view : T → TermView) (old new : LoneBar K T) where
-  -- whatever state the bar may have been in, there is one that it is in now, and the call led from the one to the other with
-  -- this answer
+  -- for each state that the bar may have been in, there is one that it is in now, and the call led from one to the other with this answer
   abbrev pub LoneLeadsBy : LoneCall (Command K) → ℕ → Result Drawn Refusal → Type 0
   LoneLeadsBy call now answer =
       (s : LoneState (BarRecord K)) → LoneIsIn old s →
       (next : LoneState (BarRecord K)) × LoneIsIn new next × CallMade (lone_bar m) (lone_known view old) (lone_known view new) (call, now) s answer next
 
-  -- the same of a bar that was suspended: it was cleared and drawn again by force; or the clear was refused, and nothing drawn
+  -- a bar was suspended: it was cleared and drawn again by a forced draw; or the clear was refused, and nothing drawn
   abbrev pub LoneSuspends : ℕ → Result Drawn Refusal → Type 0
   LoneSuspends now answer =
       (s : LoneState (BarRecord K)) → LoneIsIn old s → (next : LoneState (BarRecord K)) × LoneIsIn new next
@@ -77,12 +76,12 @@ module _ {K T : Type 0} (m : Tracking K) (view : T → TermView) (old new : Lone
 
   -- a bar that obeyed a command with this answer
   pub record Obeys (command : Command K) (now : ℕ) (answer : Result Drawn Refusal) : Type 0 where
-    -- its record is as the command says
+    -- its record changes as the command says
     pub bar : record_of new ≡ (obeyed m command (record_of old) now).0
-    -- where nothing was written, the terminal was not touched; and where there is nothing to draw on, nothing was written
+    -- if nothing was written, the terminal is unchanged; on a hidden target or without columns nothing was written
     pub silent : IsFalse (wrote answer) → lone_terminal new ≡ lone_terminal old
     pub nowhere : LoneIsNowhere view old → IsFalse (wrote answer)
-    -- whether its draws go by moves of the cursor alone stays
+    -- the setting of cursor moves is unchanged
     pub moves : lone_moves new ≡ lone_moves old
     -- its step
     pub leads : LoneLeadsBy (Obey command) now answer
@@ -95,33 +94,33 @@ module _ {K T : Type 0} (m : Tracking K) (view : T → TermView) (old new : Lone
     pub moves : lone_moves new ≡ lone_moves old
     pub leads : LoneLeadsBy (Obey command) now answer
 
--- what became of the bar in a call with this answer: a command made of it what it says, or was refused; else it stays
+-- how a call with this answer changes the bar: as its command says, if that wasn't refused; otherwise not
 abbrev pub CallDone : {K T : Type 0} → Tracking K → LoneBar K T → LoneBar K T → LoneCall (Command K) → ℕ → Result Drawn Refusal → Type 0
 CallDone m old new (Obey command) now answer = (record_of new ≡ (obeyed m command (record_of old) now).0) ⊎ Disobeys old new command now answer
 CallDone m old new _ now answer = record_of new ≡ record_of old
 
--- what became of a record in a call with this answer: a command made of it what it says, or was refused; else it stays
+-- how a call with this answer changes a record: as its command says, if that wasn't refused; otherwise not
 abbrev pub RecordGoes : {K : Type 0} → Tracking K → LoneCall (Command K) → ℕ → Result Drawn Refusal → BarRecord K → BarRecord K → Type 0
 RecordGoes m (Obey command) now answer bar bar' =
     (bar' ≡ (obeyed m command bar now).0) ⊎ ((e : Refusal) × (answer ≡ Err e) × RefusesCommand command bar now e × (bar' ≡ bar))
 RecordGoes m _ now answer bar bar' = bar' ≡ bar
 
--- the same of calls at their moments, one after another, with an answer each
+-- how calls at their moments, one after another, each with an answer, change a record
 abbrev pub RecordsGo : {K : Type 0} → Tracking K → List (LoneCall (Command K) × ℕ) → List (Result Drawn Refusal) → BarRecord K → BarRecord K → Type 0
 RecordsGo m [] [] bar bar' = bar' ≡ bar
 RecordsGo {K} m (call ∷ calls) (answer ∷ answers) bar bar' = (x : BarRecord K) × RecordGoes m call.0 call.1 answer bar x × RecordsGo m calls answers x bar'
 RecordsGo m _ _ bar bar' = ⊥
 
--- a call that is a value, as its definition; its text has these bytes
+-- the call that a value stands for, by the bytes of its text
 abbrev pub lone_call_as : {K S : Type 0} → (S → List ℕ) → LoneCallValue K S → LoneCall (Command K)
 lone_call_as bytes (BarCall command) = Obey (command_as bytes command)
 lone_call_as bytes (LogCall text) = Log (bytes text)
 lone_call_as bytes ClearCall = Clear
 
--- the same of one with a text of its own
+-- the command that a value with its own text stands for
 abbrev pub lone_call_of : {K : Type 0} → LoneCallValue K (String Global) → LoneCall (Command K)
 lone_call_of call = lone_call_as string_bytes call
 
--- the same of one with a text of its own, with its moment
+-- the call that a value with its own text and its moment stands for
 abbrev pub lone_timed : {K : Type 0} → LoneCallValue K (String Global) × ℕ → LoneCall (Command K) × ℕ
 lone_timed c = (lone_call_as string_bytes c.0, c.1)

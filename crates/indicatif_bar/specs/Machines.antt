@@ -1,7 +1,6 @@
--- Whatever draws by calls, as a lone bar or a board: what a call is about to do, and what it leads to. A draw goes in this
--- order: the numbers change; no draw is asked; the target is hidden; it has no columns; the lines are laid out and stored; the
--- limiter is asked, unless the draw is forced; a line is too wide; the terminal is written. A lone bar asks the limiter before its
--- lines are laid out.
+-- Anything that draws by calls, such as a lone bar or a board: the effect of a call, and its outcome. A draw goes in this order: the record changes; no draw is asked for; the target is hidden; it has
+-- no columns; the lines are laid out and stored; the limiter is asked, unless the draw is forced; a line is too wide; the terminal is written. A lone bar asks the limiter before its lines are laid
+-- out.
 use Rattle.std.specs.Prelude.{◌≡◌, ℕ, Bool, true, false, IsTrue, not, ◌&&◌, ◌==◌, List, [], ◌∷◌, Option, Some, None, MatchOption, Result, Ok, Err, if◌then◌else◌, ◌⊎◌}
 use Rattle.std.specs.declared.io.ErrorKind.{ErrorKind}
 use Rattle.indicatif_text.specs.declared.refusal.Refusal.{Refusal}
@@ -23,30 +22,30 @@ pub record Target : Type 0 where
   pub columns : ℕ
   pub rows : ℕ
 
--- the target of which this is known; none where it is hidden
+-- the target with this view; hidden if there is none
 abbrev pub target_of : Option TermView → Target
 target_of None = record { hidden = true; columns = 0; rows = 0 }
 target_of (Some view) = record { hidden = false; columns = view.columns; rows = view.rows }
 
--- what became of a target of which these were known before and after: a hidden one stays hidden, and of a terminal this holds
+-- how a target changes, by its views before and after: a hidden one stays hidden, and for a terminal this holds
 abbrev pub On : Option TermView → Option TermView → (TermView → TermView → Type 0) → Type 0
 On old new P = MatchOption old (new ≡ None) (λ v. (v' : TermView) × (new ≡ Some v') × P v v')
 
--- whether no draw is asked
+-- whether no draw is asked for
 abbrev pub is_no : Ask → Bool
 is_no No = true
 is_no _ = false
 
--- ---- what a call is about to do
+-- ---- the effect of a call
 
--- a draw: what decides how far it comes, and the states on its way
+-- a draw: what decides how far it gets, and its states
 pub record Draw (State : Type 0) : Type 0 where
-  -- what takes memory: a text, before the numbers change; lines, as they are laid out; and their rows, as they are planned
+  -- what takes memory: a text, before the record changes; lines, as they are laid out; and their rows, as they are planned
   pub text_takes : Bool
   pub lines_take : Bool
   pub rows_take : Bool
   pub ask : Ask
-  -- the numbers have changed
+  -- the record has changed
   pub after_command : State
   -- the lines are laid out and stored, and the limiter was asked; whether it allows the draw
   pub ready : State
@@ -57,25 +56,25 @@ pub record Draw (State : Type 0) : Type 0 where
   pub written : State
   pub broken : State
 
--- a call answers at once, and may take memory; or it draws: `ends` makes the last state after the draw's answer, `breaks` after want of memory or the terminal's failure
+-- a call answers at once, and may take memory; or it draws: `ends` gives the last state after the draw's answer, `breaks` after want of memory or the terminal's failure
 pub data Deed (State Answer : Type 0) : Type 0 where
   AtOnce : (takes : Bool) → (answer : Answer) → (next : State) → Deed State Answer
   Draws : (draw : Draw State) → (ends breaks : State → State) → Deed State Answer
 
--- what draws by calls
+-- anything that draws by calls
 pub record Machine (State Call Answer : Type 0) : Type 0 where
   -- the rows that it drew
   pub lists : State → Lists
-  -- what a call at a moment is about to do
+  -- the effect of a call at a moment
   pub deed : Target → Call → ℕ → State → Deed State Answer
-  -- what it answers where a draw answers so; and what an answer tells of a draw, `Limited` where it tells of none
+  -- the answer of a call, by that of its draw; and the draw of an answer, `Limited` if it says nothing of one
   pub says : Result Drawn Refusal → Answer
   pub tells : Answer → Result Drawn Refusal
   pub tells_said : (r : Result Drawn Refusal) → tells (says r) ≡ r
 
--- ---- where nothing fails
+-- ---- if nothing fails
 
--- the answer of a draw, and the state then, by the first of its steps that ends it
+-- the answer of a draw, and the state after it, by the first of its steps that ends it
 unfoldable pub drawn_by : {State : Type 0} → Target → Draw State → Result Drawn Refusal × State
 drawn_by target d =
     if is_no d.ask then (Ok Limited, d.after_command)
@@ -85,23 +84,23 @@ drawn_by target d =
     else if list_any (has_wide target.columns) d.lines then (Err TooWide, d.ready)
     else (Ok Yes, d.written)
 
--- ---- whatever the terminal and the memory do
+-- ---- whatever fails
 
--- whether a draw comes as far as its lines
+-- whether a draw gets as far as its lines
 abbrev pub comes_to_lines : {State : Type 0} → Target → Draw State → Bool
 comes_to_lines target d = not (is_no d.ask) && not target.hidden && not (target.columns == 0)
 
--- ---- what a call leads to
+-- ---- the outcome of a call
 
 module _ {State Call Answer : Type 0} (m : Machine State Call Answer) where
-  -- the answer of a call, and the state then, where nothing fails
+  -- the answer of a call, and the state after it, if nothing fails
   abbrev pub done_by : Target → Deed State Answer → Answer × State
   done_by target (AtOnce takes answer next) = (answer, next)
   done_by target (Draws d ends breaks) = let o = drawn_by target d in (m.says o.0, ends o.1)
 
-  -- a call answers so and leads to the next state. One that answers at once: it does so, or memory is refused to it. One that draws: it comes as
-  -- far as its steps let it; or memory is refused at a step that takes some, before the numbers change, as lines are laid out, or, once the
-  -- limiter allowed it, as rows are planned, and the next state is that before the step; or the terminal fails while it is written
+  -- a call has this answer and leads to the next state. A call that answers at once does so, or is refused memory. A call that draws gets as far as its steps let it; or memory is refused at a step
+  -- that takes some, before the record changes, as lines are laid out, or, once the limiter allowed it, as rows are planned, and the next state is that before the step; or the terminal fails while it
+  -- is written
   abbrev pub Leads : Target → State → Deed State Answer → Answer → State → Type 0
   Leads target s (AtOnce takes said after) answer next =
       let ended : Answer × State = (said, after) in
@@ -115,7 +114,7 @@ module _ {State Call Answer : Type 0} (m : Machine State Call Answer) where
       ⊎ (IsTrue (comes_to_lines target d) × ((IsTrue d.lines_take × (next ≡ breaks d.after_command)) ⊎ (IsTrue d.rows_take × IsTrue d.allowed × (next ≡ breaks d.ready))))))
       ⊎ ((kind : ErrorKind) × (answer ≡ m.says (Err (Failure kind))) × ((o.0 ≡ Ok Yes) × (next ≡ breaks d.broken))))
 
-  -- of calls with their moments, one after another: the answers and the last state
+  -- the answers of calls at their moments, one after another, and the last state
   abbrev pub outcomes : Target → List (Call × ℕ) → State → List Answer × State
   outcomes target [] s = ([], s)
   outcomes target (call ∷ calls) s =

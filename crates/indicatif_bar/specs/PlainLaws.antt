@@ -16,49 +16,49 @@ use Rattle.indicatif_bar.specs.Runs.{Runs, AllPlain}
 use Rattle.indicatif_bar.specs.Lone.{LoneState, LoneCall, Obey, Log, Clear}
 use Rattle.indicatif_bar.specs.LoneBars.{lone_bar}
 
--- a text is plain with its tabs as spaces, however many
+-- a text is plain with its tabs as spaces, whatever the tab width
 abbrev pub IsPlainWithTabs : List ℕ → Type 0
 IsPlainWithTabs text = (tab : ℕ) → IsPlainText (expanded tab text)
 
--- so is each text of a tracker, whatever ticks and resets come before
+-- each text of a tracker is plain, whatever ticks and resets come first
 abbrev pub IsPlainTracker : {K : Type 0} → Tracking K → K → Type 0
 IsPlainTracker m k = (steps : List TrackerStep) (p : Progress) (now : ℕ) → IsPlainWithTabs (m.text (tracker_after m k steps) p now)
 
--- those of the trackers of a style
+-- the texts of a style's trackers are plain
 abbrev pub ArePlainTrackers : {K : Type 0} → Tracking K → List (List ℕ × K) → Type 0
 ArePlainTrackers m keys = All (λ entry. IsPlainTracker m entry.1) keys
 
--- a tracker that stays as it is has plain texts if those that it tells are plain
+-- a tracker that never changes has plain texts if the texts that it returns are plain
 abbrev pub TellersArePlain : Type 0 → Type 0
 TellersArePlain K = (text : K → Progress → ℕ → List ℕ) (k : K) → ((p : Progress) (now : ℕ) → IsPlainWithTabs (text k p now)) → IsPlainTracker (telling text) k
 
--- a literal of a template
+-- a literal of a template is plain
 abbrev pub HasPlainLiteral : TemplatePart → Type 0
 HasPlainLiteral (LiteralText text) = IsPlainWithTabs (encode_utf8_all text)
 HasPlainLiteral _ = Unit {0}
 
--- the texts of a style: literals, spinner and trackers; and its clusters are such as a style takes
+-- the texts of a style are plain: literals, spinner and trackers; and a style takes its clusters
 pub record IsPlainStyle {K : Type 0} (m : Tracking K) (style : BarStyle K) : Type 0 where
   pub literals : All HasPlainLiteral style.parts
   pub ticks : All IsPlainText style.tick_strings
   pub trackers : ArePlainTrackers m style.keys
   pub clusters : AreTaken style.clusters
 
--- the message of a finish
+-- the message of a finish is plain
 abbrev pub IsPlainFinish : BarFinish → Type 0
 IsPlainFinish (LeaveWithMessage text) = IsPlainWithTabs text
 IsPlainFinish (AbandonWithMessage text) = IsPlainWithTabs text
 IsPlainFinish _ = Unit {0}
 
 module _ {K : Type 0} (m : Tracking K) where
-  -- the texts of a bar
+  -- the texts of a bar are plain
   pub record IsPlainBar (bar : BarRecord K) : Type 0 where
     pub style : IsPlainStyle m bar.style
     pub message : IsPlainWithTabs bar.progress.message
     pub prefix : IsPlainWithTabs bar.progress.prefix
     pub on_finish : IsPlainFinish bar.on_finish
 
-  -- those that a command gives a bar
+  -- the texts that a command gives a bar are plain
   abbrev pub IsPlainCommand : Command K → Type 0
   IsPlainCommand (SetMessage text) = IsPlainWithTabs text
   IsPlainCommand (SetPrefix text) = IsPlainWithTabs text
@@ -69,14 +69,13 @@ module _ {K : Type 0} (m : Tracking K) where
   IsPlainCommand (Finish by) = IsPlainFinish by
   IsPlainCommand _ = Unit {0}
 
-  -- those of a call of a lone bar
+  -- the texts of a lone bar's call are plain
   abbrev pub IsPlainLoneCall : LoneCall (Command K) → Type 0
   IsPlainLoneCall (Obey command) = IsPlainCommand command
   IsPlainLoneCall (Log text) = All IsPlainText (logged_lines text)
   IsPlainLoneCall Clear = Unit {0}
 
--- where all these texts are plain, so is every run, and the headline holds of it; and the bar's texts are plain at its end, so that what
--- comes after it is plain too
+-- if all these texts are plain, so is every run, and the headline holds of it; the bar's texts are plain at its end too, so the next run can be plain as well
 abbrev pub LoneRunsArePlain : {K : Type 0} → Tracking K → Type 0
 LoneRunsArePlain {K} m =
     (calls : List (LoneCall (Command K) × ℕ)) (answers : List (Result Drawn Refusal)) (old : Option TermView) (s : LoneState (BarRecord K)) (new : Option TermView) (next : LoneState (BarRecord K))

@@ -1,4 +1,4 @@
--- What a bar has reached, as its style and its trackers see it. Texts are lists of bytes in UTF-8, moments and times nanoseconds.
+-- A bar's progress, as its style and its trackers see it. Texts are lists of bytes in UTF-8, moments and times nanoseconds.
 use Rattle.std.specs.Prelude.{ℕ, ◌+◌, ◌-◌, Bool, true, false, min, List, [], Option, Some, None, if◌then◌else◌, unwrap_or}
 use Rattle.indicatif_bar.specs.declared.measures.Fraction.{Fraction}
 use Rattle.indicatif_bar.specs.declared.measures.Rate.{Rate}
@@ -22,7 +22,7 @@ pub record Progress : Type 0 where
   pub prefix : List ℕ
   pub tab : ℕ
 
--- nothing reached yet, of a length or of none, from a moment on
+-- no progress yet, with a length or none, from a moment on
 abbrev pub new_progress : Option ℕ → ℕ → Progress
 new_progress len now =
     record { position = 0; len = len; ticks = 0; start = now; status = InProgress; took = 0; samples = first_samples now; message = []; prefix = []; tab = 8 }
@@ -49,7 +49,7 @@ shown_message p = expanded p.tab p.message
 abbrev pub shown_prefix : Progress → List ℕ
 shown_prefix p = expanded p.tab p.prefix
 
--- the length, or the position where there is none
+-- the length, or the position if there is none
 abbrev pub length_shown : Progress → ℕ
 length_shown p = unwrap_or p.len p.position
 
@@ -74,14 +74,14 @@ duration p now = if is_finished p then p.took else elim p.len [ None ↦ 0 | Som
 
 -- ---- what commands change
 
--- the length as the position, where there is a length
+-- the position set to the length, if there is one
 abbrev pub at_end : Progress → Progress
 at_end p = record p { position = unwrap_or p.len p.position }
 
--- the rate is counted from now
+-- the rate counts from this moment
 abbrev pub rate_reset : Progress → ℕ → Progress
 rate_reset p now = record p { samples = restarted p.samples now }
 
--- all is counted from now, from position 0
+-- everything counts from this moment, and the position is 0
 abbrev pub progress_reset : Progress → ℕ → Progress
 progress_reset p now = record (rate_reset p now) { start = now; position = 0; status = InProgress }

@@ -1,4 +1,4 @@
--- Worked cases of scripts: a lone bar whose terminal gets other sizes, and rows that last as one does. All happens at the moment 0.
+-- Worked cases of scripts: a lone bar whose terminal changes its size, and rows that last. All happens at the moment 0.
 use Rattle.std.specs.Prelude.{◌≡◌, ℕ, List, [], ◌∷◌, ◌++◌, None, codes, Result, Ok}
 use Rattle.indicatif_text.specs.declared.refusal.Refusal.{Refusal}
 use Rattle.indicatif_text.specs.declared.refusal.Drawn.{Drawn}
@@ -18,17 +18,16 @@ use Rattle.indicatif_bar.specs.Cases.{terminal_of_size, nowhere, untracked, bar_
 abbrev pub answered : LoneCall (Command (Unit {0})) → Result Drawn Refusal → Part (LoneCall (Command (Unit {0}))) (Result Drawn Refusal)
 answered call answer = Called ((call, 0) ∷ []) (answer ∷ [])
 
--- a call that isn't answered yet
+-- a call without an answer yet
 abbrev pub asked : LoneCall (Command (Unit {0})) → Part (LoneCall (Command (Unit {0}))) (Result Drawn Refusal)
 asked call = Called ((call, 0) ∷ []) []
 
--- what a script of a bar with this message is answered, and its state then
+-- the answers of a script of a bar with this message, and its state after it
 abbrev pub scripted : Target → List ℕ → List (Part (LoneCall (Command (Unit {0}))) (Result Drawn Refusal)) →
     List (Part (LoneCall (Command (Unit {0}))) (Result Drawn Refusal)) × LoneState (BarRecord (Unit {0}))
 scripted target message parts = played (lone_bar untracked) (lone_sizing untracked) target parts (opening_state (bar_saying message) None)
 
--- 4 rows, 10 columns: 13 columns on two rows become three rows on 5 columns, and the next draw has as many; on 20 columns they stay
--- three, and the next draw takes them all back
+-- 4 rows, 10 columns: 13 columns on two rows become three rows on 5 columns, and the next draw has three too; on 20 columns they stay three, and the next draw erases them all
 abbrev pub Dragged : Type 0
 Dragged =
     let on = scripted (terminal_of_size 4 10) (codes "progress bars") in
@@ -55,7 +54,7 @@ ScrolledAway =
     × (all_rows 5 drawn.1.lists ≡ rows_of_lines 5 (codes "progr" ∷ []))
     × (all_rows 5 short.1.lists ≡ rows_of_lines 5 (codes "progr" ∷ codes "ok" ∷ []))
 
--- rows above are cut, and stay so on more columns; sizes alone cut a row so
+-- rows above are wrapped, and stay so on more columns; only sizes wrap a row so
 abbrev pub LogsCut : Type 0
 LogsCut =
     let on = scripted (terminal_of_size 4 10) (codes "x") in
@@ -63,7 +62,7 @@ LogsCut =
     (wide.1.lists.above ≡ rows_of_lines 9 (codes "abcd" ∷ codes "ef" ∷ [])) × (all_rows 9 wide.1.lists ≡ rows_of_lines 9 (codes "abcd" ∷ codes "ef" ∷ codes "x" ∷ []))
     × (rows_cut (Size 4 4 ∷ answered (Obey Tick) (Ok Yes) ∷ Size 4 4 ∷ Size 9 4 ∷ []) 10 4 (rows_of_lines 10 (codes "abcdef" ∷ [])) ≡ rows_of_lines 9 (codes "abcd" ∷ codes "ef" ∷ []))
 
--- a hidden target gets no size
+-- a hidden target has no size
 abbrev pub HiddenSize : Type 0
 HiddenSize =
     let both = scripted nowhere (codes "x") (asked (Obey Tick) ∷ Size 4 4 ∷ asked (Obey Tick) ∷ []) in
@@ -75,8 +74,8 @@ HiddenSize =
 abbrev pub two_rows : ℕ → ℕ → Screen
 two_rows row column = record { columns = 4; height = 3; rows = rows_of_lines 4 (codes "abcd" ∷ codes "ef" ∷ []) ++ blank_row 4 ∷ []; row = row; column = column }
 
--- of the first two rows both stand above the front of the third row, and above a cursor that waits behind the second; within the second row
--- that one does not. What stands is cut; the same size leaves all
+-- of the first two rows both stand above the front of the third row, and above a cursor that waits at the end of the second; above a cursor within the second row that row does not. What stands is
+-- wrapped; the same size changes nothing
 abbrev pub Standing : Type 0
 Standing =
     (rows_that_stand 2 (two_rows 2 0) ≡ 2)

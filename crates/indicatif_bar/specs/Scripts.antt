@@ -1,4 +1,4 @@
--- Scripts, of whatever draws: runs of calls, with sizes that the terminal gets between them; what they leave on the terminal.
+-- Scripts, of anything that draws: runs of calls, with changes of the terminal's size between them; what they leave on the terminal.
 use Rattle.std.specs.Prelude.{◌≡◌, ℕ, ◌+◌, ◌-◌, ◌*◌, ◌/◌, ◌<◌, ◌≤◌, Bool, true, false, ◌||◌, ◌&&◌, ◌==◌, IsTrue, IsFalse, List, [], ◌∷◌, ◌++◌, length, take, Option, Some, None, MatchOption, if◌then◌else◌}
 use Rattle.std.specs.List.{All, list_any, last_or}
 use Rattle.indicatif_text.specs.Columns.{Cell}
@@ -25,15 +25,15 @@ sized_target w h target = if target.hidden then target else record { hidden = fa
 abbrev pub sized_lists : ℕ → ℕ → Target → Lists → Lists
 sized_lists w h target l = if target.hidden then l else resized_lists target.columns target.rows w h l
 
--- what became of a target of which this is known
+-- how a target changes with a size, by its views
 abbrev pub SizedOn : ℕ → ℕ → Option TermView → Option TermView → Type 0
 SizedOn w h old new = On old new (λ v v'. Resized w h v v')
 
--- this is another size than that of a target of which this is known; a hidden one has none that could change
+-- this is another size than that of a target with this view; a hidden one has none
 abbrev pub IsAnotherSize : ℕ → ℕ → Option TermView → Type 0
 IsAnotherSize w h old = MatchOption old ⊥ (λ v. IsFalse (has_size w h v))
 
--- a state of a machine with other lists in the place of its own
+-- a machine's state with other lists in place of its own
 pub record Sizing {State Call Answer : Type 0} (m : Machine State Call Answer) : Type 0 where
   pub put : Lists → State → State
   pub lists_are : (l : Lists) (s : State) → m.lists (put l s) ≡ l
@@ -45,28 +45,28 @@ pub data Part (Call Answer : Type 0) : Type 0 where
   Called : (calls : List (Call × ℕ)) → (answers : List Answer) → Part Call Answer
   Size : (columns rows : ℕ) → Part Call Answer
 
--- an opening after a script: sizes alone change it
+-- an opening after a script: only sizes change it
 abbrev pub opening_then : {Call Answer : Type 0} → List (Part Call Answer) → Screen → Screen
 opening_then [] s = s
 opening_then (Called calls answers ∷ parts) s = opening_then parts s
 opening_then (Size w h ∷ parts) s = opening_then parts (resized w h s)
 
--- rows on a terminal of w columns and h rows that gets another size: each is cut; a size that it has leaves them
+-- rows on a terminal of w columns and h rows that gets another size: each is wrapped; its own size changes nothing
 abbrev pub rows_sized : ℕ → ℕ → ℕ → ℕ → List (List Cell) → List (List Cell)
 rows_sized w h w' h' rows = if (w == w') && (h == h') then rows else recut_all w' rows
 
--- rows after a script on a terminal of w columns and h rows: sizes alone change them
+-- rows after a script on a terminal of w columns and h rows: only sizes change them
 abbrev pub rows_cut : {Call Answer : Type 0} → List (Part Call Answer) → ℕ → ℕ → List (List Cell) → List (List Cell)
 rows_cut [] w h rows = rows
 rows_cut (Called calls answers ∷ parts) w h rows = rows_cut parts w h rows
 rows_cut (Size w' h' ∷ parts) w h rows = rows_cut parts w' h' (rows_sized w h w' h' rows)
 
--- as a size comes, the rows are known; or, where a call was broken off before, they are forgotten: nothing was drawn since
+-- as a size comes, the rows are known; or a call was broken off before, they are forgotten, and nothing was drawn since
 abbrev pub MaySize : Bool → Lists → Type 0
 MaySize false l = IsFalse l.failed
 MaySize true l = l ≡ forgotten_lists
 
--- the bytes of events, one behind another
+-- the bytes of events, one after another
 abbrev pub bytes_given : List Event → List ℕ
 bytes_given [] = []
 bytes_given (Given bytes ∷ events) = bytes ++ bytes_given events
@@ -85,7 +85,7 @@ module _ {State Call Answer : Type 0} (m : Machine State Call Answer) (z : Sizin
   Plays (Size w h ∷ parts) old s new next =
       (v : Option TermView) × SizedOn w h old v × (0 < w) × (0 < h) × Plays parts v (sized w h (target_of old) s) new next
 
-  -- whether the terminal broke a call off
+  -- whether the terminal broke off a call
   abbrev pub script_broke : List (Part Call Answer) → Bool
   script_broke [] = false
   script_broke (Called calls answers ∷ parts) = list_any (broke m) answers || script_broke parts
@@ -108,7 +108,7 @@ module _ {State Call Answer : Type 0} (m : Machine State Call Answer) (z : Sizin
 
   -- ---- what it leaves
 
-  -- one event for each part, in their order: the bytes by which its calls led the terminal on, or its size
+  -- one event for each part, in order: the bytes by which its calls led the terminal on, or its size
   abbrev pub GoesBy : (parts : List (Part Call Answer)) (old : Option TermView) (s : State) (new : Option TermView) (next : State) → Plays parts old s new next → List Event → Type 0
   GoesBy [] old s new next plays events = events ≡ []
   GoesBy (Called calls answers ∷ parts) old s new next plays events =
@@ -116,8 +116,8 @@ module _ {State Call Answer : Type 0} (m : Machine State Call Answer) (z : Sizin
   GoesBy (Size w h ∷ parts) old s new next plays events =
       (others : List Event) × (events ≡ Sized w h ∷ others) × GoesBy parts plays.0 (sized w h (target_of old) s) new next plays.4 others
 
-  -- the rows of a terminal that are safe at the script's start last to its end. What is said of runs holds of each of its runs; no
-  -- size cuts more rows than are safe then; and the rows that are safe behind a run or a size last from there on
+  -- the rows of a terminal that are safe at the script's start last to its end. The law on runs holds of each of its runs; no size leaves fewer rows safe; and the rows that are safe after a run or a
+  -- size last from there on
   abbrev pub RowsLastIn : (parts : List (Part Call Answer)) (old : Option TermView) (s : State) (new : Option TermView) (next : State) → Plays parts old s new next →
       Terminal → List Event → Type 0
   RowsLastIn [] old s new next plays t events = events ≡ []
@@ -130,10 +130,9 @@ module _ {State Call Answer : Type 0} (m : Machine State Call Answer) (z : Sizin
       RowsLastThrough n t events × (others : List Event) × (events ≡ Sized w h ∷ others)
       × (length (rows_then w h n t.screen) ≤ safe_rows (m.lists x) (resized_terminal w h t)) × RowsLastIn parts plays.0 x new next plays.4 (resized_terminal w h t) others
 
-  -- these events, one for each part, led from the one to the other. Of a terminal that rests with the lists of the start after an
-  -- opening: the rows that are safe last (the untouched ones and those above), and those that are safe later. And unless a call was
-  -- broken off it rests then with the lists of the end, after the opening that got the sizes too, and rows above were cut by the
-  -- sizes, and only added. In any case the bytes are those of drawings
+  -- these events, one for each part, led from the first view to the second. On a terminal that rests with the lists of the start after an opening, the rows that are safe last (the untouched ones and
+  -- those above), and so do those that are safe later. Unless a call was broken off, it rests at the end with the lists of the end, after the opening with the sizes, and rows above were wrapped by
+  -- the sizes, and only added. In any case the bytes are those of draws
   pub record Carries (parts : List (Part Call Answer)) (v v' : TermView) (s : State) (new : Option TermView) (next : State) (plays : Plays parts (Some v) s new next) : Type 0 where
     pub events : List Event
     pub told_is : IsTrue (is_told v.told) → v'.told ≡ told_after v.told events
@@ -151,8 +150,8 @@ module _ {State Call Answer : Type 0} (m : Machine State Call Answer) (z : Sizin
       0 < v.columns → IsFalse (m.lists s).failed → AllRunsPlain parts (Some v) s new next plays → AllSizesKnown false parts (Some v) s new next plays →
       (v' : TermView) × (new ≡ Some v') × Carries parts v v' s new next plays
 
-  -- a script that begins after a failure, wherever the terminal broke off: the bytes are those of drawings, the rows of any terminal
-  -- with a place that are safe last, and those that are safe later. Each size comes where nothing was drawn since the last failure
+  -- a script that begins after a failure, wherever the terminal broke off: the bytes are those of draws, the rows of any terminal with a place that are safe last, and so do those that are safe later.
+  -- Each size comes while nothing was drawn since the last failure
   abbrev pub SafeRowsLast : Type 0
   SafeRowsLast =
       (parts : List (Part Call Answer)) (v : TermView) (s : State) (new : Option TermView) (next : State) (plays : Plays parts (Some v) s new next) →
@@ -161,7 +160,7 @@ module _ {State Call Answer : Type 0} (m : Machine State Call Answer) (z : Sizin
       × Calmly (m.lists s).failed (bytes_given events) (m.lists next).failed
       × ((t : Terminal) → Placed v.columns v.rows (m.lists s) t → RowsLastIn parts (Some v) s new next plays t events)
 
-  -- after a script that the terminal didn't break off, on one that tells its state, the untouched rows and those of the lists are read
+  -- after a script that the terminal didn't break off, on one whose state can be read, the picture is the untouched rows and those of the lists
   abbrev pub ScriptsAreRead : Type 0
   ScriptsAreRead =
       (parts : List (Part Call Answer)) (v : TermView) (s : State) (new : Option TermView) (next : State) (plays : Plays parts (Some v) s new next) →
@@ -169,8 +168,7 @@ module _ {State Call Answer : Type 0} (m : Machine State Call Answer) (z : Sizin
       AllRunsPlain parts (Some v) s new next plays → AllSizesKnown false parts (Some v) s new next plays → (opening : Screen) → Starts v opening (m.lists s) →
       (v' : TermView) × (new ≡ Some v') × (let opening' = opening_then parts opening in ReadsAs v' (take opening'.row opening'.rows ++ all_rows v'.columns (m.lists next)))
 
-  -- the same where rows are forgotten only as a call is broken off, as those of a lone bar and of a board are: then each size comes
-  -- where they are known
+  -- the same for machines that forget rows only as a call is broken off, such as a lone bar and a board: then the rows are known whenever a size comes
   abbrev pub UnbrokenScriptsAreRead : Type 0
   UnbrokenScriptsAreRead =
       (parts : List (Part Call Answer)) (v : TermView) (s : State) (new : Option TermView) (next : State) (plays : Plays parts (Some v) s new next) →
@@ -185,7 +183,7 @@ module _ {State Call Answer : Type 0} (m : Machine State Call Answer) (z : Sizin
   AllUndisturbed (Called calls answers ∷ parts) = All (λ answer. is_undisturbed (m.tells answer) ≡ true) answers × AllUndisturbed parts
   AllUndisturbed (Size w h ∷ parts) = AllUndisturbed parts
 
-  -- the script with the answers that its calls give where nothing fails, whatever answers it has, and the last state
+  -- the script with the answers that its calls give if nothing fails, whatever answers it has, and the last state
   abbrev pub played : Target → List (Part Call Answer) → State → List (Part Call Answer) × State
   played target [] s = ([], s)
   played target (Called calls answers ∷ parts) s =
@@ -194,7 +192,7 @@ module _ {State Call Answer : Type 0} (m : Machine State Call Answer) (z : Sizin
       (Called calls run.0 ∷ others.0, others.1)
   played target (Size w h ∷ parts) s = let others = played (sized_target w h target) parts (sized w h target s) in (Size w h ∷ others.0, others.1)
 
-  -- where nothing failed and no memory was refused, the answers and the last state follow from the calls and the sizes alone
+  -- if nothing failed and no memory was refused, the answers and the last state follow from the calls and the sizes alone
   abbrev pub OneScriptOutcome : Type 0
   OneScriptOutcome =
       (parts : List (Part Call Answer)) (old : Option TermView) (s : State) (new : Option TermView) (next : State) →
@@ -209,8 +207,7 @@ module _ {State Call Answer : Type 0} (m : Machine State Call Answer) (z : Sizin
       unforced_draws m calls answers old s plays.0 plays.1 plays.2 ++ unforced_in parts plays.0 plays.1 new next plays.3
   unforced_in (Size w h ∷ parts) old s new next plays = unforced_in parts plays.0 (sized w h (target_of old) s) new next plays.4
 
-  -- sizes count for nothing: from a rate's limiter as it is made on, a script makes at most 20 unforced draws, and one more for each
-  -- interval from the making to the last of them
+  -- sizes don't count: from a new rate limiter, a script makes at most 20 unforced draws, and one more for each interval from its start to the last of them
   abbrev pub ScriptsAreBounded : (State → Option Limiter) → Type 0
   ScriptsAreBounded limiter =
       (rate making : ℕ) → 0 < rate → rate < 256 → (parts : List (Part Call Answer)) (old : Option TermView) (s : State) (new : Option TermView) (next : State)
@@ -218,7 +215,7 @@ module _ {State Call Answer : Type 0} (m : Machine State Call Answer) (z : Sizin
       let moments = unforced_in parts old s new next plays in
       (last : ℕ) → last_or None moments ≡ Some last → length moments ≤ burst + (last - making) / (draw_limiter rate making).interval
 
-  -- the same from any state of a limiter
+  -- from any state of a limiter, each unforced draw of a script takes one in hand, or one of the intervals from its moment to the last draw
   abbrev pub ScriptsAreBoundedFrom : (State → Option Limiter) → Type 0
   ScriptsAreBoundedFrom limiter =
       (l : Limiter) → 0 < l.interval → (parts : List (Part Call Answer)) (old : Option TermView) (s : State) (new : Option TermView) (next : State)
@@ -226,13 +223,13 @@ module _ {State Call Answer : Type 0} (m : Machine State Call Answer) (z : Sizin
       let moments = unforced_in parts old s new next plays in
       (last : ℕ) → last_or None moments ≡ Some last → (l.prev ≤ last) × (length moments * l.interval ≤ l.capacity * l.interval + (last - l.prev))
 
-  -- a script's unforced draws are spent by the limiter that it ends with, as a run's
+  -- the limiter at a script's end has spent the script's unforced draws, as a run's
   abbrev pub ScriptsSpend : (State → Option Limiter) → Type 0
   ScriptsSpend limiter =
       (l : Limiter) → 0 < l.interval → (parts : List (Part Call Answer)) (old : Option TermView) (s : State) (new : Option TermView) (next : State)
       (plays : Plays parts old s new next) → limiter s ≡ Some l →
       (l' : Limiter) × (limiter next ≡ Some l') × Spent l l' (length (unforced_in parts old s new next plays))
 
--- a machine's limiter stays as its rows get another size
+-- a machine's limiter is unchanged by another size
 abbrev pub LeavesLimiter : {State Call Answer : Type 0} {m : Machine State Call Answer} → Sizing m → (State → Option Limiter) → Type 0
 LeavesLimiter {State} z limiter = (l : Lists) (s : State) → limiter (z.put l s) ≡ limiter s

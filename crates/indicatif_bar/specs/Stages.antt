@@ -11,19 +11,19 @@ use Rattle.indicatif_bar.specs.declared.stage.Writing.{Writing as WritingValue}
 use Rattle.indicatif_bar.specs.declared.stage.Writing.TheVariants.{Frame as FrameValue, TextAndFrame as TextValue, NoFrame as NoValue}
 
 module _ {T : Type 0} where
-  -- its terminal; none where the target is hidden
+  -- its terminal; none if the target is hidden
   abbrev pub stage_terminal : Stage T → Option T
   stage_terminal stage = option_map engine_term stage.engine
 
-  -- what is known of that
+  -- the view of its terminal
   abbrev pub stage_known : (T → TermView) → Stage T → Option TermView
   stage_known view stage = option_map view (stage_terminal stage)
 
-  -- whether its draws go by moves of the cursor alone, where that shows the same; nothing where the target is hidden
+  -- whether its draws use cursor moves alone, if that shows the same; nothing if the target is hidden
   abbrev pub stage_moves : Stage T → Option Bool
   stage_moves stage = option_map engine_moves stage.engine
 
-  -- it has this limiter, and may have the rows of these lists; on a hidden target it has none
+  -- it has this limiter, and may have the rows of these lists; on a hidden target it has no rows
   abbrev pub IsStaged : Stage T → Option Limiter → Lists → Type 0
   IsStaged stage limiter l = (stage.limiter ≡ limiter) × MatchOption stage.engine (l ≡ opening_lists) (λ e. Fits e l)
 

@@ -1,4 +1,4 @@
--- The worked cases of a bar's lines. Texts are lists of bytes in UTF-8; all of ASCII are written as they stand.
+-- The worked cases of a bar's lines. Texts are lists of bytes in UTF-8; those in ASCII are written as strings.
 use Rattle.std.specs.Prelude.{◌≡◌, ℕ, Bool, true, false, [], ◌∷◌, ◌++◌, List, Option, Some, None, codes, encode_utf8, encode_utf8_all}
 use Rattle.indicatif_text.specs.declared.template.Alignment.TheVariants.{Center}
 use Rattle.indicatif_text.specs.declared.refusal.Refusal.TheVariants.{FewTicks, FewProgressChars, UnequalWidths, ZeroWidthChars}
@@ -12,7 +12,7 @@ use Rattle.indicatif_bar.specs.Trackers.{Tracking, telling}
 use Rattle.indicatif_bar.specs.Styles.{BarStyle, lines, tick_string, final_tick_string, is_empty_style}
 use Rattle.indicatif_bar.specs.Builders.{tick_fault, progress_fault, clusters_of, characters_of}
 
--- a tracker that writes the text that it is
+-- a tracker whose text is itself
 abbrev pub texts : Tracking (List ℕ)
 texts = telling (λ k p now. k)
 
@@ -99,14 +99,14 @@ LineCases = (shows (style_with (LiteralText (codes "a") ∷ LineBreak ∷ Litera
     × (shows (one (key (codes "no_such_key"))) (reached 0 None) 80 ≡ [])
     × (shows (one (key (codes "msg"))) (saying (codes "a" ++ (10 ∷ []) ++ codes "b")) 80 ≡ codes "a" ∷ codes "b" ∷ [])
 
--- nothing is shown of it where neither the prefix nor the message has been set
+-- whether it shows nothing with an empty prefix and message
 abbrev pub is_empty : BarStyle (List ℕ) → Bool
 is_empty style = is_empty_style style (reached 1 (Some 8))
 
 abbrev pub red : BarStyle (List ℕ)
 red = one (KeyText (codes "msg") (record plain_layout { style = Some (style_of (codes "red")) }))
 
--- a message that is empty, an unknown key, a bar of no columns; and what shows all the same: colours, blanks, a line break, a tracker
+-- a message that is empty, an unknown key, a bar of no columns; and what still shows: colours, blanks, a line break, a tracker
 abbrev pub EmptyCases : Type 0
 EmptyCases = (is_empty (style_with (key (codes "msg") ∷ key (codes "prefix") ∷ key (codes "no_such_key") ∷ [])) ≡ true) × (is_empty (one (key_wide (codes "bar") 0)) ≡ true)
     × (is_empty (one (key (codes "bar"))) ≡ false) × (is_empty red ≡ true) × (is_empty (record red { colours = true }) ≡ false)
@@ -114,7 +114,7 @@ EmptyCases = (is_empty (style_with (key (codes "msg") ∷ key (codes "prefix") �
     × (is_empty (one (key_wide (codes "msg") 1)) ≡ false) × (is_empty (one LineBreak) ≡ false)
     × (is_empty (record (one (key (codes "msg"))) { keys = (codes "msg", []) ∷ [] }) ≡ false)
 
--- what builders refuse
+-- the refusals of builders
 abbrev pub FaultCases : Type 0
 FaultCases = (tick_fault (characters_of (codes "a")) ≡ Some FewTicks) × (tick_fault (characters_of (codes "12F")) ≡ None)
     × (progress_fault (clusters_of (codes "=")) ≡ Some FewProgressChars) × (progress_fault (clusters_of (encode_utf8_all (97 ∷ 0x56FD ∷ []))) ≡ Some UnequalWidths)

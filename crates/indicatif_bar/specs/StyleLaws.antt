@@ -12,7 +12,7 @@ use Rattle.indicatif_bar.specs.Builders.{clusters_of, progress_fault, first_clus
 
 -- ---- texts at a width
 
--- a text of no more columns than the width takes exactly the width
+-- a text no wider than the width takes exactly the width
 abbrev pub PaddedFills : Type 0
 PaddedFills = (text : List ℕ) (width : ℕ) (align : Alignment) (truncate : Bool) → IsUtf8 text → text_columns text ≤ width → text_columns (padded text width align truncate) ≡ width
 
@@ -30,18 +30,18 @@ NeverWider = (text : List ℕ) (width : ℕ) (align : Alignment) → IsUtf8 text
 abbrev pub IsPlainText : List ℕ → Type 0
 IsPlainText text = IsUtf8 text × IsTrue (is_plain (chars text))
 
--- the clusters of a text that a style takes
+-- the clusters of a text, which a style takes
 pub record AreTaken (clusters : List (List ℕ)) : Type 0 where
   pub text : List ℕ
   pub utf8 : IsUtf8 text
   pub same : clusters ≡ clusters_of text
   pub taken : progress_fault clusters ≡ None
 
--- they consist of characters with a width: a control character is a cluster of no columns
+-- clusters that a style takes consist of characters with a width: a control character is a cluster of no columns
 abbrev pub TakenArePlain : Type 0
 TakenArePlain = (clusters : List (List ℕ)) → AreTaken clusters → All IsPlainText clusters
 
--- those that a style has at first are such clusters
+-- a style takes the default clusters
 abbrev pub FirstAreTaken : Type 0
 FirstAreTaken = AreTaken first_clusters
 
@@ -80,7 +80,7 @@ abbrev pub BarsTakeTheirCells : Type 0
 BarsTakeTheirCells = (clusters : List (List ℕ)) (colours : Bool) (alternative : List ℕ) (position : ℕ) (len : Option ℕ) (width : ℕ) → AreTaken clusters
     → text_columns (bar_text clusters colours alternative (fraction_of position len) width) ≡ cells_in clusters width * text_columns (cluster clusters 0)
 
--- a bar takes exactly its width where its clusters' columns divide it
+-- a bar takes exactly its width if its clusters' columns divide it
 abbrev pub BarsFill : Type 0
 BarsFill = (clusters : List (List ℕ)) (colours : Bool) (alternative : List ℕ) (position : ℕ) (len : Option ℕ) (width : ℕ) → AreTaken clusters
     → width % text_columns (cluster clusters 0) ≡ 0 → text_columns (bar_text clusters colours alternative (fraction_of position len) width) ≡ width
@@ -90,7 +90,7 @@ abbrev pub BarsFit : Type 0
 BarsFit = (clusters : List (List ℕ)) (colours : Bool) (alternative : List ℕ) (position : ℕ) (len : Option ℕ) (width : ℕ) → AreTaken clusters
     → text_columns (bar_text clusters colours alternative (fraction_of position len) width) ≤ width
 
--- a bar's text with `filled` filled clusters: these, at most one of the clusters between the first and the last, and unfilled ones, as many as cells in all
+-- a bar's text with `filled` filled clusters: these, at most one of the clusters between the first and the last, and unfilled ones, together as many as there are cells
 pub record ShowsFilled (clusters : List (List ℕ)) (colours : Bool) (alternative : List ℕ) (width filled : ℕ) (text : List ℕ) : Type 0 where
   pub shade : Option ℕ
   pub unfilled : ℕ
@@ -104,7 +104,7 @@ FilledAreShown = (clusters : List (List ℕ)) (colours : Bool) (alternative : Li
     → let f = fraction_of position (Some len) in
     ShowsFilled clusters colours alternative width (filled_cells f (cells_in clusters width)) (bar_text clusters colours alternative f width)
 
--- the bar of a later position never shows fewer
+-- the bar of a later position never shows fewer filled clusters
 abbrev pub NeverShowsFewer : Type 0
 NeverShowsFewer = (clusters : List (List ℕ)) (colours : Bool) (alternative : List ℕ) (position later len width : ℕ) → position ≤ later
     → (n : ℕ) × (m : ℕ) × ShowsFilled clusters colours alternative width n (bar_text clusters colours alternative (fraction_of position (Some len)) width)

@@ -13,9 +13,9 @@ use Rattle.indicatif_bar.specs.Keys.{named, key_named, count_text, time_text, pe
 use Rattle.indicatif_bar.specs.declared.style.keys.Key.{Key}
 use Rattle.indicatif_bar.specs.declared.style.keys.Key.TheVariants.{Bar, WideBar, WideMessage, Spinner, Prefix, Message, Position, Length, Percent, PercentPrecise, Elapsed, Eta, Duration, PerSecond, BytesPerSecond}
 
--- how a bar looks, with trackers under keys of their own
+-- how a bar looks, with trackers under your own keys
 pub record BarStyle (K : Type 0) : Type 0 where
-  -- what its template is made of
+  -- the parts of its template
   pub parts : List TemplatePart
   -- the characters of a bar: done, the shades between, not done
   pub clusters : List (List ℕ)
@@ -23,7 +23,7 @@ pub record BarStyle (K : Type 0) : Type 0 where
   pub tick_strings : List (List ℕ)
   pub keys : List (List ℕ × K)
   pub colours : Bool
-  -- how many spaces stand for a tab
+  -- its tab width
   pub tab : ℕ
 
 -- ---- keys
@@ -45,7 +45,7 @@ wide_of layout WideBar = Some (WideBarOf layout)
 wide_of layout WideMessage = Some (WideMessageOf layout)
 wide_of layout _ = None
 
--- the filler that a wide key leaves in its place
+-- the filler that marks the place of a wide key
 abbrev pub filler : List ℕ
 filler = 0 ∷ []
 
@@ -67,29 +67,29 @@ is_line_break _ = false
 abbrev pub columns_left : ℕ → List ℕ → ℕ
 columns_left columns text = columns - option_map_or text_columns (find (list_any is_filler) (slice_split is_newline text)) 0
 
--- a text with something in the place of each filler
+-- a text with each filler replaced
 abbrev pub with_fillers_as : List ℕ → List ℕ → List ℕ
 with_fillers_as shown text = flat_map (λ b. if is_filler b then shown else b ∷ []) text
 
 module _ {K : Type 0} (style : BarStyle K) (p : Progress) where
-  -- what stands in the place of each filler of a text
+  -- the text that replaces each filler
   abbrev pub wide_text : ℕ → List ℕ → Wide → List ℕ
   wide_text columns text (WideBarOf layout) = bar_text style.clusters style.colours (unwrap_or layout.alternative []) (fraction p) (columns_left columns text)
   wide_text columns text (WideMessageOf layout) =
       let message = padded (shown_message p) (columns_left columns text) layout.align true in
       if ends_in_filler text then encode_utf8_all (drop_trailing_whitespace (chars message)) else message
 
-  -- a text with its fillers replaced, where a wide key has stood so far
+  -- a text with its fillers replaced, by the latest wide key
   abbrev pub filled : ℕ → Option Wide → List ℕ → List ℕ
   filled columns None text = text
   filled columns (Some wide) text = with_fillers_as (wide_text columns text wide) text
 
-  -- the lines of a text, where a wide key has stood so far
+  -- the lines of a text, by the latest wide key
   abbrev pub lines_with : ℕ → Option Wide → List ℕ → List (List ℕ)
   lines_with columns wide text = slice_split is_newline (filled columns wide text)
 
 module _ {K : Type 0} (m : Tracking K) (style : BarStyle K) (p : Progress) (now : ℕ) where
-  -- the text of a key, as a placeholder asks for it
+  -- the text of a key, for a placeholder's layout
   abbrev pub key_text : Layout → Key → List ℕ
   key_text layout Bar = bar_text style.clusters style.colours (unwrap_or layout.alternative []) (fraction p) (unwrap_or layout.width 20)
   key_text layout WideBar = filler
@@ -107,14 +107,14 @@ module _ {K : Type 0} (m : Tracking K) (style : BarStyle K) (p : Progress) (now 
   key_text layout PerSecond = rate_text (per_sec p now) (unwrap_or layout.width 4)
   key_text layout (BytesPerSecond form) = whole_rate_text form (per_sec p now)
 
-  -- the text of a name: its tracker's, its key's, or none for an unknown one
+  -- the text of a name: its tracker's, its key's, or none if it is unknown
   abbrev pub named_text : List ℕ → Layout → List ℕ
   named_text name layout = elim (named name style.keys) [
     | Some k ↦ expanded style.tab (m.text k p now)
     | None ↦ option_map_or (key_text layout) (key_named name) []
   ]
 
-  -- a text at the placeholder's width, where it has one, and in its style
+  -- a text at the placeholder's width, if it has one, and in its style
   abbrev pub in_layout : Layout → List ℕ → List ℕ
   in_layout layout text =
       styled style.colours (unwrap_or layout.style []) (option_map_or (λ width. padded text width layout.align layout.truncate) layout.width text)
@@ -127,7 +127,7 @@ module _ {K : Type 0} (m : Tracking K) (style : BarStyle K) (p : Progress) (now 
 
   -- ---- wide keys
 
-  -- the wide placeholder that a part is, where no tracker has its name
+  -- the wide placeholder of a part, if no tracker has its name
   abbrev pub wide_part : TemplatePart → Option Wide
   wide_part (LiteralText text) = None
   wide_part LineBreak = None
@@ -136,7 +136,7 @@ module _ {K : Type 0} (m : Tracking K) (style : BarStyle K) (p : Progress) (now 
     | None ↦ option_and_then (wide_of layout) (key_named (encode_utf8_all key))
   ]
 
-  -- the latest wide placeholder of the parts, or else the one before
+  -- the latest wide placeholder of the parts, or otherwise the one before
   abbrev pub latest_wide : Option Wide → List TemplatePart → Option Wide
   latest_wide before parts = last_or before (filter_map wide_part parts)
 
@@ -150,7 +150,7 @@ module _ {K : Type 0} (m : Tracking K) (style : BarStyle K) (p : Progress) (now 
   lines_of_groups columns wide (parts ∷ next ∷ groups) =
       lines_with style p columns (latest_wide wide parts) (flat_map part_text parts) ++ lines_of_groups columns (latest_wide wide parts) (next ∷ groups)
 
-  -- the lines of a bar on a terminal of so many columns
+  -- the lines of a bar on a terminal of the given width
   unfoldable pub lines : ℕ → List (List ℕ)
   lines columns = lines_of_groups columns None (slice_split is_line_break style.parts)
 

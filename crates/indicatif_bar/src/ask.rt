@@ -16,14 +16,14 @@ use indicatif_text::columns::Moment;
 pub enum Ask {
     /// No draw.
     No,
-    /// A draw, where the limiter allows it.
+    /// A draw, if the limiter allows it.
     Unforced,
     /// A draw, whatever the limiter says.
     Forced,
 }
 
 impl Ask {
-    /// Whether no draw is asked.
+    /// Whether no draw is asked for.
     ///
     /// ```
     /// assert!(Ask::No.is_no() && !Ask::Forced.is_no());
@@ -37,8 +37,8 @@ impl Ask {
         }
     }
 
-    /// Whether a draw that is asked so may be made at this moment: always, but for an unforced one, which is asked of the limiter, if
-    /// there is one, which counts it.
+    /// Whether this draw may be made at this moment. A forced draw always may; an unforced one if the limiter allows it, which counts it,
+    /// or if there is no limiter.
     ///
     /// ```
     /// let mut limiter = None;

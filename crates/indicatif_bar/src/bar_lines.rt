@@ -15,7 +15,7 @@ impl<K: Tracks> BarState<K> {
     /// The lines that the bar shows on a terminal of `width` columns at this moment: those of its style, and none once it
     /// finished hidden.
     ///
-    /// Refused: `Memory`, never once it finished hidden, and never where no part of its template shows anything.
+    /// Refused: `Memory`; never after it finished hidden, and never if no part of its template shows anything.
     pub fn lines(&self, now: Moment, width: u16) -> Result<Vec<LineType>, Refusal>
         ensures lines { IfOk result (λ v. map line_text v.items ≡ lines_of_bar K.means self.now now width) }
         ensures kind { IfOk result (λ v. IsTrue (list_all is_bar_line v.items)) }
@@ -25,8 +25,8 @@ impl<K: Tracks> BarState<K> {
         self.lines_in(&mut spare, now, width)
     }
 
-    /// The same, in room of `spare`, whatever that holds: the lines are those of `lines`. A bar that is laid out again and again,
-    /// each time with the lines of before kept there, takes no memory once all have room.
+    /// As `lines`, in the memory of `spare`, whatever that holds. A bar that is laid out repeatedly, each time with the old lines stored
+    /// there, takes no memory once `spare` has enough.
     ///
     /// Refused: as `lines`.
     ///
@@ -49,7 +49,7 @@ impl<K: Tracks> BarState<K> {
         self.style().lines_in(spare, self.state(), now, width)
     }
 
-    /// Where the bar's texts are kept.
+    /// The allocator of the bar's texts.
     pub(crate) fn alloc(&self) -> Global {
         self.state().alloc()
     }

@@ -11,7 +11,7 @@ pub fn messages()
     ensures lines { Lines }
 {}
 
-/// What lists of calls answer, and the rows that stand then.
+/// The answers of lists of calls, and the rows that stand afterwards.
 pub fn runs()
     ensures shorter_message { ShorterMessage }
     ensures empty_message { EmptyMessage }
@@ -24,7 +24,7 @@ pub fn runs()
     ensures late_elapsed { LateElapsed }
 {}
 
-/// What scripts are answered, that is calls with sizes of the terminal between them, and the rows that stand then.
+/// The answers of scripts, that is, calls with changes of the terminal's size between them, and the rows that stand afterwards.
 pub fn scripts()
     ensures dragged { Dragged }
     ensures scrolled_away { ScrolledAway }
@@ -45,14 +45,14 @@ pub fn limits()
     ensures limited_draws { LimitedDraws }
 {}
 
-/// How far and how fast.
+/// Fractions, rates and times.
 pub fn measures()
     ensures fractions { Fractions }
     ensures greatest { Greatest }
     ensures rates { Rates }
 {}
 
-/// What lists of commands leave, and what they ask.
+/// The records after lists of commands, and the draws that they ask for.
 pub fn commands()
     ensures twelve_steps { (style : BarStyle ℕ) → TwelveSteps style }
     ensures rate_and_eta { (style : BarStyle ℕ) → RateAndEta style }
@@ -65,7 +65,7 @@ pub fn commands()
     ensures resets { (style : BarStyle ℕ) → Resets style }
 {}
 
-/// The lines of styles, worked out.
+/// The lines of styles.
 pub fn lines()
     ensures trackers { TrackersCases }
     ensures wide_bars { WideBarCases }

@@ -6,8 +6,8 @@ use crate::text::{Text, own_text};
 use indicatif_text::columns::Refusal;
 use std::alloc::Global;
 
-/// How a bar is finished. By the documentation of the Rust crate `indicatif` 0.18.6. Its message is its own, unless a lent one is named,
-/// as in a command that is told with a lent text (`Text`).
+/// How a bar is finished. The rule is that of the documentation of the Rust crate `indicatif` 0.18.6. It owns its message, unless the type
+/// says that it borrows it (`S` is `&str`, see `Text`).
 ///
 /// ```
 /// bar.with_finish(ProgressFinish::AndLeave, now);
@@ -15,23 +15,23 @@ use std::alloc::Global;
 /// ```
 #[derive(Debug, Default, Drop)]
 pub enum ProgressFinish<S = String> {
-    /// At its length, where it has one; it stays on the screen.
+    /// At its length, if it has one; it stays on the screen.
     AndLeave,
-    /// The same, with this message.
+    /// At its length, if it has one, and with this message; it stays on the screen.
     WithMessage(S),
-    /// At its length, where it has one; it leaves the screen.
+    /// At its length, if it has one; it leaves the screen.
     #[default]
     AndClear,
     /// Where it stands; it stays on the screen.
     Abandon,
-    /// The same, with this message.
+    /// At its length, if it has one, and with this message; it stays on the screen.
     AbandonWithMessage(S),
 }
 
 impl<S: Text> ProgressFinish<S> {
-    /// Another one, equal to this one, with a message of its own.
+    /// A copy, with its own message.
     ///
-    /// Refused: `Memory`, only where it has a message that isn't empty.
+    /// Refused: `Memory`, only if it has a message that isn't empty.
     pub fn try_clone(&self, alloc: Global) -> Result<ProgressFinish, Refusal>
         ensures same { IfOk result (λ other. finish_of other ≡ finish_as S.bytes self.now) }
         ensures memory { IfErr result (λ e. (e ≡ Refusal.Memory) × IsTrue (finish_takes_memory (finish_as S.bytes self.now))) }

@@ -1,24 +1,24 @@
-//! How far a bar is and how fast, as quotients of whole numbers.
+//! Progress and speed, as quotients of whole numbers.
 ghost use Rattle.std.specs.Prelude.{◌≡◌, ◌<◌};
 ghost use Rattle.indicatif_bar.specs.Measures.{fraction_of, first_samples, recorded, restarted, rate_over, rate_since, steps_a_second, time_for};
 
 use indicatif_text::columns::Moment;
 
-/// A part of a whole, as a quotient: `num` of `den`, where `den` is above 0 and `num` at most `den`.
+/// A fraction: `num` of `den`, where `den` is above 0 and `num` at most `den`.
 ///
 /// ```
 /// state.fraction(); // 3 of 4: Fraction { num: 3, den: 4 }
 /// ```
 #[derive(Clone, Copy, Debug, Drop, PartialEq, Eq)]
 pub struct Fraction {
-    /// What is done.
+    /// The numerator: what is done.
     pub num: u64,
-    /// Of how much.
+    /// The denominator: the whole.
     pub den: u64,
 }
 
 impl Fraction {
-    /// The part of a length that a position is: 0 without a length, 1 at length 0.
+    /// The fraction of a length that is done: 0 without a length, 1 at length 0.
     pub(crate) fn of(position: u64, len: Option<u64>) -> Fraction
         ensures { result ≡ fraction_of position len }
     {
@@ -40,14 +40,14 @@ impl Fraction {
 /// ```
 #[derive(Clone, Copy, Debug, Drop, PartialEq, Eq)]
 pub struct Rate {
-    /// How many steps.
+    /// The number of steps.
     pub steps: u64,
-    /// In how many nanoseconds.
+    /// The time that they took, in nanoseconds.
     pub nanos: u64,
 }
 
 impl Rate {
-    /// So many steps in so many nanoseconds; no steps where there is no time.
+    /// `steps` in `nanos` nanoseconds; no steps if `nanos` is 0.
     pub(crate) fn over(steps: u64, nanos: u64) -> Rate
         ensures { result ≡ rate_over steps nanos }
     {
@@ -57,7 +57,7 @@ impl Rate {
         Rate { steps, nanos }
     }
 
-    /// The whole steps of a second, rounded down, at most 2^64 - 1; 0 where `nanos` is 0.
+    /// The whole steps a second, rounded down, at most 2^64 - 1; 0 if `nanos` is 0.
     ///
     /// ```
     /// let rate = Rate {
@@ -76,7 +76,7 @@ impl Rate {
         steps.min(u128::from(u64::MAX)) as u64
     }
 
-    /// The nanoseconds that so many steps take, rounded down, at most 2^64 - 1; 0 where the rate is none.
+    /// The nanoseconds that `left` steps take, rounded down, at most 2^64 - 1; 0 if the rate is 0.
     ///
     /// ```
     /// rate.time_for(6) // of three steps in two seconds: 4_000_000_000
@@ -92,20 +92,20 @@ impl Rate {
     }
 }
 
-/// So many steps were made by a moment.
+/// A number of steps by a moment.
 ///
 /// ```
 /// let sample = Sample { steps: 3, moment: 2_000_000_000 }; // three in two seconds
 /// ```
 #[derive(Clone, Copy, Drop)]
 pub struct Sample {
-    /// How many steps.
+    /// The number of steps.
     pub steps: u64,
     /// The moment, in nanoseconds.
     pub moment: Moment,
 }
 
-/// The two samples that a rate is read from: where its count began, and where it stands.
+/// The two samples that a rate is computed from: where its count began, and where it stands.
 #[derive(Clone, Copy, Drop)]
 pub struct Samples {
     base: Sample,
@@ -133,7 +133,7 @@ impl Samples {
         }
     }
 
-    /// So many steps are made by this moment. Steps that went back begin the count anew; else only more steps at a later
+    /// Records that `steps` steps are made by this moment. Steps that went back restart the count; otherwise only more steps at a later
     /// moment count.
     pub(crate) fn record(self, steps: u64, now: Moment) -> Samples
         ensures { result ≡ recorded self steps now }
@@ -151,7 +151,7 @@ impl Samples {
         self
     }
 
-    /// The count begins anew at this moment.
+    /// Restarts the count at this moment.
     pub(crate) fn restart(self, now: Moment) -> Samples
         ensures { result ≡ restarted self now }
     {

@@ -1,23 +1,23 @@
-//! How often a bar's position is looked at.
+//! How often a new position counts as a tick.
 ghost use Rattle.std.specs.Prelude.{◌≡◌, ◌≤◌, IsTrue, false};
 ghost use Rattle.indicatif_bar.specs.PositionLimiters.{PositionLimiter, position_limiter, allow_position, position_reset};
 
 use indicatif_text::columns::Moment;
 use std::marker::Model;
 
-/// How often a new position is looked at: 10 looks may come at once, and one more with each millisecond after that, of which
-/// no more than 10 are ever in hand. Moments are counted from its making.
+/// How often a new position counts as a tick: 10 may come at once, and one more for each millisecond after that, never with more than 10 in
+/// hand. Moments are counted from its making.
 #[derive(Drop)]
 pub(crate) struct PositionLimiter {
     making: Moment,
     capacity: u64,
-    /// Nanoseconds from the making on.
+    /// Nanoseconds since the making.
     prev: u64,
-    /// A moment before which none is allowed, so that a look at it alone is enough for most moments.
+    /// A moment before which none is allowed, so that for most moments one comparison is enough.
     next: Moment,
 }
 
-/// How many looks are in hand, and the time from the making on from which they count.
+/// How many looks are in hand, and the time since the making from which they count.
 #[derive(Clone, Copy, Drop)]
 struct InHand {
     capacity: u64,
@@ -46,7 +46,7 @@ impl PositionLimiter {
     /// How many looks may be in hand.
     const MOST: u64 = 10;
 
-    /// A limiter that is made at this moment.
+    /// A limiter made at this moment.
     pub(crate) fn new(now: Moment) -> PositionLimiter
         ensures { result ≡ position_limiter now }
     {
@@ -57,7 +57,7 @@ impl PositionLimiter {
         PositionLimiter::counting(now, all)
     }
 
-    /// A limiter made at `making`, with so many looks in hand.
+    /// A limiter made at `making`, with these looks in hand.
     fn counting(making: Moment, looks: InHand) -> PositionLimiter
         requires { looks.capacity ≤ 10 }
         ensures { result ≡ record {
@@ -81,7 +81,7 @@ impl PositionLimiter {
         }
     }
 
-    /// Whether a look at this moment comes too early, as far as one comparison tells.
+    /// Whether a look at this moment comes too early, by one comparison.
     #[inline(always)]
     pub(crate) fn is_early(&self, now: Moment) -> bool
         ensures { IsTrue result → allow_position self.now now ≡ (false, self.now) }
@@ -89,7 +89,7 @@ impl PositionLimiter {
         now < self.next
     }
 
-    /// Whether the position is looked at, at this moment; if so, it is counted.
+    /// Whether a new position counts as a tick at this moment; if so, it is counted.
     pub(crate) fn allow(&mut self, now: Moment) -> bool
         ensures answer { result ≡ (allow_position self.old now).0 }
         ensures next { self.new ≡ (allow_position self.old now).1 }
@@ -109,7 +109,7 @@ impl PositionLimiter {
         true
     }
 
-    /// No time has passed since then.
+    /// Restarts the time at this moment.
     pub(crate) fn reset(&mut self, now: Moment)
         ensures { self.new ≡ position_reset self.old now }
     {
@@ -120,7 +120,7 @@ impl PositionLimiter {
         *self = PositionLimiter::counting(self.making, looks);
     }
 
-    /// Another one, equal to this one.
+    /// A copy of the limiter.
     pub(crate) fn same(&self) -> PositionLimiter
         ensures { result ≡ self.now }
     {

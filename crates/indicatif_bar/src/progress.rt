@@ -1,4 +1,4 @@
-//! What a bar has reached, as its style and its trackers see it.
+//! A bar's progress, as its style and its trackers see it.
 ghost use Rattle.std.specs.Prelude.{◌≡◌, ◌+◌, ◌||◌, min, OnOk, OnErr, IfOk, IfErr, IsTrue};
 ghost use Rattle.indicatif_bar.specs.Measures.{greatest_u64, recorded};
 ghost use Rattle.indicatif_bar.specs.Tabs.{has_tab, is_some_text};
@@ -18,18 +18,18 @@ use std::fmt::{self, Debug, Formatter};
 use std::marker::Model;
 use std::mem::replace;
 
-/// Whether a bar goes on, or how it was finished.
+/// Whether a bar is in progress, or how it was finished.
 #[derive(Clone, Copy, Drop)]
 pub(crate) enum Status {
-    /// It goes on.
+    /// In progress.
     InProgress,
-    /// It was finished and stays on the screen.
+    /// Finished, and still on the screen.
     DoneVisible,
-    /// It was finished and left the screen.
+    /// Finished, and gone from the screen.
     DoneHidden,
 }
 
-/// What a bar has reached: its position, its length, its speed and its texts.
+/// A bar's progress: its position, its length, its speed and its texts.
 ///
 /// Moments and times are nanoseconds; a time from a start to an earlier moment is 0. No reading overflows: products are
 /// made in 128 bits, and times stop at 2^64 - 1.
@@ -50,7 +50,7 @@ pub struct ProgressState {
     samples: Samples,
     message: TabbedText,
     prefix: TabbedText,
-    /// Room for the next text.
+    /// Memory for the next text.
     spare: TabbedText,
     tab: usize,
 }
@@ -74,7 +74,7 @@ impl Drop for ProgressState {
     }
 }
 
-/// Programmers are shown the position and the length.
+/// Shows the position and the length.
 impl Debug for ProgressState {
     fn fmt<W: fmt::Write>(&self, f: &mut Formatter<W>) -> fmt::Result {
         f.debug_struct("ProgressState")
@@ -84,7 +84,7 @@ impl Debug for ProgressState {
     }
 }
 
-/// Contracts see what was reached, and the texts as they were set.
+/// Contracts see the progress, and the texts as they were set.
 impl Model for ProgressState {
     ghost use Rattle.std.specs.Prelude.{◌≡◌};
     ghost use Rattle.indicatif_bar.specs.Progress.{Progress};
@@ -108,7 +108,7 @@ impl Model for ProgressState {
 }
 
 impl ProgressState {
-    /// Nothing reached yet, of this length or of none, from this moment on. Takes no memory.
+    /// No progress yet, with this length or none, from this moment on. Takes no memory.
     pub(crate) fn new(alloc: Global, len: Option<u64>, now: Moment) -> Self
         ensures { result ≡ new_progress len now }
     {
@@ -128,7 +128,7 @@ impl ProgressState {
         }
     }
 
-    /// Where the texts are kept.
+    /// The allocator of the texts.
     pub(crate) fn alloc(&self) -> Global {
         self.alloc
     }
@@ -157,8 +157,8 @@ impl ProgressState {
         now.saturating_sub(self.start)
     }
 
-    /// The steps since the last reset of the rate over the time since then, as it stands at this moment. Of a finished bar,
-    /// its position over the time since its start. No steps where there is no time.
+    /// The steps since the last reset of the rate over the time since then, at this moment. For a finished bar, its position over the time
+    /// since its start. No steps if there is no time.
     pub fn per_sec(&self, now: Moment) -> Rate
         ensures { result ≡ per_sec self.now now }
     {
@@ -168,8 +168,8 @@ impl ProgressState {
         self.samples.rate(now)
     }
 
-    /// The nanoseconds to the end at the rate of this moment, rounded down, at most 2^64 - 1. 0 where the bar is finished,
-    /// has no length, or makes no steps.
+    /// The nanoseconds to the end at the rate of this moment, rounded down, at most 2^64 - 1. 0 if the bar is finished, has no length, or
+    /// makes no steps.
     pub fn eta(&self, now: Moment) -> u64
         ensures { result ≡ eta self.now now }
     {
@@ -183,8 +183,8 @@ impl ProgressState {
         self.per_sec(now).time_for(left)
     }
 
-    /// The nanoseconds from the start to the end: those that the bar took where it is finished; else those so far and those
-    /// to come, at most 2^64 - 1, and 0 without a length.
+    /// The nanoseconds from the start to the end. For a finished bar, those that it took; otherwise those so far and those to come, at most
+    /// 2^64 - 1, and 0 without a length.
     pub fn duration(&self, now: Moment) -> u64
         ensures { result ≡ duration self.now now }
     {
@@ -225,7 +225,7 @@ impl ProgressState {
         self.len = Some(len);
     }
 
-    /// How often the bar has ticked; it stays at 2^64 - 1.
+    /// How often the bar has ticked, at most 2^64 - 1.
     pub fn ticks(&self) -> u64
         ensures { result ≡ self.now.ticks }
     {
@@ -242,7 +242,7 @@ impl ProgressState {
         }
     }
 
-    /// Another one, equal to this one.
+    /// A copy of the limiter.
     ///
     /// Refused: `Memory`.
     pub(crate) fn try_clone(&self) -> Result<ProgressState, Refusal>
@@ -279,49 +279,49 @@ impl ProgressState {
         self.prefix.shown()
     }
 
-    /// How many spaces stand for a tab.
+    /// The tab width.
     pub(crate) fn tab_width(&self) -> usize
         ensures { result ≡ self.now.tab }
     {
         self.tab
     }
 
-    /// Sets the length, or takes it away.
+    /// Sets or removes the length.
     pub(crate) fn put_len(&mut self, len: Option<u64>)
         ensures { self.new ≡ record self.old { len = len } }
     {
         self.len = len;
     }
 
-    /// One more tick, up to 2^64 - 1.
+    /// Counts one more tick, up to 2^64 - 1.
     pub(crate) fn count_tick(&mut self)
         ensures { self.new ≡ record self.old { ticks = min (self.old.ticks + 1) greatest_u64 } }
     {
         self.ticks = self.ticks.saturating_add(1);
     }
 
-    /// The position is recorded with the rate.
+    /// Records the position with the rate.
     pub(crate) fn record_position(&mut self, now: Moment)
         ensures { self.new ≡ record self.old { samples = recorded self.old.samples self.old.position now } }
     {
         self.samples = self.samples.record(self.position, now);
     }
 
-    /// The rate is counted from this moment on.
+    /// Counts the rate from this moment on.
     pub(crate) fn reset_rate(&mut self, now: Moment)
         ensures { self.new ≡ rate_reset self.old now }
     {
         self.samples = self.samples.restart(now);
     }
 
-    /// The time is counted from this moment on.
+    /// Counts the time from this moment on.
     pub(crate) fn put_start(&mut self, start: Moment)
         ensures { self.new ≡ record self.old { start = start } }
     {
         self.start = start;
     }
 
-    /// All is counted from this moment on, from position 0.
+    /// Counts everything from this moment on, and sets the position to 0.
     pub(crate) fn reset(&mut self, now: Moment)
         ensures { self.new ≡ progress_reset self.old now }
     {
@@ -331,7 +331,7 @@ impl ProgressState {
         self.status = Status::InProgress;
     }
 
-    /// It is finished at this moment, at the end where there is a length.
+    /// Finishes it at this moment, at the length if there is one.
     pub(crate) fn finish(&mut self, status: Status, now: Moment)
         ensures { self.new ≡ record (at_end self.old) { took = elapsed self.old now; status = status } }
     {
@@ -342,7 +342,7 @@ impl ProgressState {
         self.status = status;
     }
 
-    /// It is finished at this moment, where it stands.
+    /// Finishes it at this moment, where it stands.
     pub(crate) fn abandon(&mut self, now: Moment)
         ensures { self.new ≡ record self.old { took = elapsed self.old now; status = DoneVisible } }
     {
@@ -350,9 +350,9 @@ impl ProgressState {
         self.status = Status::DoneVisible;
     }
 
-    /// It is finished so at this moment.
+    /// Finishes it by this finish at this moment.
     ///
-    /// Refused: `Memory`, where the finish has a message; nothing has changed then.
+    /// Refused: `Memory`, if the finish has a message; then nothing has changed.
     pub(crate) fn finish_by<S: Text>(
         &mut self,
         finish: &ProgressFinish<S>,
@@ -380,7 +380,7 @@ impl ProgressState {
 
     /// Sets the message.
     ///
-    /// Refused: `Memory`, where the text isn't empty; nothing has changed then.
+    /// Refused: `Memory`, if the text isn't empty; then nothing has changed.
     pub(crate) fn set_message(&mut self, text: &str) -> Result<(), Refusal>
         ensures done { OnOk result (self.new ≡ record self.old { message = text.now }) }
         ensures unchanged { OnErr result (self.new ≡ self.old) }
@@ -393,7 +393,7 @@ impl ProgressState {
 
     /// Sets the prefix.
     ///
-    /// Refused: `Memory`, where the text isn't empty; nothing has changed then.
+    /// Refused: `Memory`, if the text isn't empty; then nothing has changed.
     pub(crate) fn set_prefix(&mut self, text: &str) -> Result<(), Refusal>
         ensures done { OnOk result (self.new ≡ record self.old { prefix = text.now }) }
         ensures unchanged { OnErr result (self.new ≡ self.old) }
@@ -404,14 +404,14 @@ impl ProgressState {
         Ok(())
     }
 
-    /// The room for the next text.
+    /// The memory for the next text.
     fn room(&mut self) -> TabbedText
         ensures { self.new ≡ self.old }
     {
         replace(&mut self.spare, TabbedText::new(self.alloc, self.tab))
     }
 
-    /// The texts at another width, made beside them.
+    /// The texts with another tab width, in memory of their own.
     ///
     /// Refused: `Memory`.
     pub(crate) fn widened(&self, tab: usize) -> Result<Widened, Refusal>
@@ -427,7 +427,7 @@ impl ProgressState {
         })
     }
 
-    /// Takes the texts at another width.
+    /// Takes the texts with another tab width.
     pub(crate) fn put_tab_width(&mut self, widened: Widened)
         requires { IsWidened widened self.old }
         ensures { self.new ≡ record self.old { tab = widened.tab } }
@@ -438,7 +438,7 @@ impl ProgressState {
     }
 }
 
-/// The texts of a bar with so many spaces for a tab, where they have tabs.
+/// The texts of a bar with another tab width, if they have tabs.
 #[derive(Drop)]
 pub(crate) struct Widened {
     tab: usize,

@@ -1,4 +1,4 @@
-//! How fast a bar went lately.
+//! The recent speed of a bar.
 ghost use Rattle.std.specs.Prelude.{◌≡◌, ◌<◌, ◌++◌, None, OnOk, IfErr, string_bytes};
 ghost use Rattle.indicatif_bar.specs.Recent.{from_sample, after_sample, seen_after, recent_rate, stands, rate_lately, eta_lately, text_lately, tells_lately};
 
@@ -9,8 +9,8 @@ use crate::style::keys::{CountForm, TimeForm};
 use crate::tracker::ProgressTracker;
 use indicatif_text::columns::{Moment, Refusal};
 
-/// Two samples, from which a rate of the last seconds is read: of at least one and a half, once there are as many, and of twice as many at
-/// most while samples come at least that often. So a stall shows as a rate that falls to 0.
+/// Two samples, from which the rate of the last seconds is computed: of at least one and a half seconds, once there are as many, and of at
+/// most three while samples come at least that often. So a stall shows as a rate that falls to 0.
 ///
 /// ```
 /// let seconds = LastSeconds::starting(Sample { steps: 0, moment: 0 });
@@ -20,9 +20,9 @@ use indicatif_text::columns::{Moment, Refusal};
 /// ```
 #[derive(Clone, Copy, Drop)]
 pub struct LastSeconds {
-    /// From where the rate is counted.
+    /// The sample that the rate is counted from.
     pub older: Sample,
-    /// From where it will be.
+    /// The sample that it will be counted from next.
     pub newer: Sample,
 }
 
@@ -30,7 +30,7 @@ pub struct LastSeconds {
 const SPAN: u64 = 1_500_000_000;
 
 impl LastSeconds {
-    /// From this sample on.
+    /// A count that begins at this sample.
     pub fn starting(now: Sample) -> LastSeconds
         ensures { result ≡ from_sample now }
     {
@@ -40,7 +40,7 @@ impl LastSeconds {
         }
     }
 
-    /// One more sample. Steps that went back begin the count anew.
+    /// Adds a sample. Steps that went back restart the count.
     pub fn go_on(self, now: Sample) -> LastSeconds
         ensures { result ≡ after_sample self now }
     {
@@ -56,7 +56,7 @@ impl LastSeconds {
         self
     }
 
-    /// The rate up to this sample; no steps where no time has passed.
+    /// The rate up to this sample; no steps if no time has passed.
     pub fn rate(&self, now: Sample) -> Rate
         ensures { result ≡ recent_rate self.now now }
     {
@@ -65,7 +65,7 @@ impl LastSeconds {
     }
 }
 
-/// Which key of the library a `Recent` stands for.
+/// The key that a `Recent` shows.
 #[derive(Clone, Copy, Drop)]
 pub enum RecentKey {
     /// `{per_sec}`: `12.5/s`.
@@ -80,11 +80,11 @@ pub enum RecentKey {
     EtaPrecise,
 }
 
-/// A tracker that shows the rate of the last seconds, or the time that is left at that rate. `{per_sec}` and `{eta}` themselves show the mean
-/// since the bar was made: where the speed changes, they follow slowly.
+/// A tracker that shows the rate of the last seconds, or the time that is left at that rate. `{per_sec}` and `{eta}` themselves show the
+/// mean since the bar was made: if the speed changes, they follow slowly.
 ///
-/// The rate is that of the last one and a half to three seconds (`LastSeconds`). It is 0 before the first tick. Of a finished bar it is the mean
-/// since its start, as that of `{per_sec}`; no time is left then.
+/// The rate is that of the last one and a half to three seconds (`LastSeconds`). It is 0 before the first tick. For a finished bar it is
+/// the mean since its start, as that of `{per_sec}`; then no time is left.
 ///
 /// ```
 /// let style = ProgressStyle::with_template(alloc, "{per_sec} {eta}")?;
@@ -96,12 +96,12 @@ pub enum RecentKey {
 pub struct Recent {
     /// What it shows.
     pub key: RecentKey,
-    /// What it has seen; nothing before the first tick.
+    /// Its samples; none before the first tick.
     pub seen: Option<LastSeconds>,
 }
 
 impl Recent {
-    /// One that shows this, and has seen nothing yet.
+    /// A tracker for this key, without samples.
     pub fn new(key: RecentKey) -> Recent
         ensures { (result.key ≡ key) × (result.seen ≡ None) }
     {
@@ -136,7 +136,7 @@ impl Recent {
         self.rate(state, now).time_for(left)
     }
 
-    /// Appends what it shows.
+    /// Appends its text.
     fn push(&self, state: &ProgressState, now: Moment, out: &mut String) -> Result<(), Refusal>
         ensures text { OnOk result (string_bytes out.new ≡ string_bytes out.old ++ text_lately self.now.key self.now state.now now) }
         ensures memory { IfErr result (λ e. e ≡ Refusal.Memory) }
@@ -157,7 +157,7 @@ impl Recent {
     }
 }
 
-/// Where a bar stands.
+/// The sample of a bar's state.
 fn sample_of(state: &ProgressState, now: Moment) -> Sample
     ensures { result ≡ stands state.now now }
 {

@@ -12,7 +12,7 @@ pub(crate) fn has_byte(byte: u8, text: &str) -> bool
     memchr(byte, text.as_bytes()).is_some()
 }
 
-/// What stands before the first such byte of a text, and what behind it; `None` where there is none.
+/// The text before the first such byte, and the text after it; `None` if there is none.
 pub(crate) fn cut_at(byte: u8, text: &str) -> Option<(&str, &str)>
     requires ascii { byte < 128 }
     ensures parts { MatchOption result (slice_split (λ b. b == byte) text.now ≡ text.now ∷ [])

@@ -1,4 +1,4 @@
-//! Room for lines that was taken before.
+//! Memory for lines that was taken before.
 ghost use Rattle.std.specs.Prelude.{◌≡◌, [], string_bytes};
 
 use indicatif_term::draw_target::LineType;
@@ -6,8 +6,8 @@ use std::alloc::Global;
 use std::marker::Model;
 use std::mem::replace;
 
-/// Room for the next lines, so that laying them out takes none anew. It has no meaning: with any of it `BarState::lines_in` gives
-/// the same lines, and contracts see nothing of it. One may serve many bars, one after another.
+/// Memory for the next lines, so that laying them out takes none. Its content doesn't matter: `BarState::lines_in` gives the same lines
+/// with any of it, and contracts don't see it. One may serve many bars, one after another.
 ///
 /// ```
 /// let mut spare = SpareLines::new(alloc);
@@ -38,7 +38,7 @@ impl Model for SpareLines {
 }
 
 impl SpareLines {
-    /// No room yet. It takes no memory.
+    /// No memory yet. It takes none.
     pub fn new(alloc: Global) -> SpareLines {
         SpareLines {
             alloc,
@@ -47,7 +47,7 @@ impl SpareLines {
         }
     }
 
-    /// Room for lines.
+    /// An empty list of lines.
     pub(crate) fn lines(&mut self) -> Vec<LineType>
         ensures { result.items ≡ [] }
     {
@@ -56,7 +56,7 @@ impl SpareLines {
         lines
     }
 
-    /// Room for the text of one line.
+    /// An empty text for one line.
     pub(crate) fn text(&mut self) -> String
         ensures { string_bytes result ≡ [] }
     {
@@ -69,12 +69,12 @@ impl SpareLines {
         }
     }
 
-    /// Keeps the room of a text that is no more, where there is room for that.
+    /// Keeps the memory of an unused text, if there is room for it.
     pub(crate) fn store_text(&mut self, text: String) {
         let _ = self.texts.push(text);
     }
 
-    /// Keeps the room of lines that are no more, for the next ones. Where that itself finds no room, the rest is given back.
+    /// Keeps the memory of unused lines, for the next ones. If there is none to store it in, it is freed.
     pub fn store(&mut self, lines: Vec<LineType>) {
         let mut lines = lines;
         while let Some(line) = lines.pop() {

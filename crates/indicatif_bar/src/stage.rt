@@ -1,5 +1,5 @@
-//! What bars are drawn on, a lone one and those of a board. It is public for boards, whose crate is another: callers have `LoneBar` and
-//! `Board`, which hold a stage each and hand it to nobody.
+//! What bars draw on, a lone one and those of a board. It is public for boards, whose crate is another: programs use `LoneBar` and `Board`,
+//! which each have a private stage.
 ghost use Rattle.std.specs.Prelude.{◌≡◌, ◌⊎◌, ◌≤◌, None, Err, Option, option_map, IsTrue, ◌↔◌, IfOk, IfErr, IfSome, OnErr, false, map, length};
 ghost use Rattle.indicatif_term.specs.Frames.{bar_lines};
 ghost use Rattle.indicatif_term.specs.Limiters.{Limiter};
@@ -23,15 +23,15 @@ pub enum Writing<'a> {
     Frame,
     /// A text, which stays, and the bars' lines below it.
     TextAndFrame(&'a str),
-    /// Nothing, in the place of what stood.
+    /// Nothing, in place of the old rows.
     NoFrame,
 }
 
-/// A target as it is drawn on: its terminal, with what stands there, and how often draws are made that aren't forced.
+/// A target to draw on: its terminal, with what stands there, and the limiter of unforced draws.
 pub struct Stage<T: Drop> {
-    /// The engine on the terminal; none where the target is hidden.
+    /// The engine on the terminal; none if the target is hidden.
     pub engine: Option<Engine<T>>,
-    /// The limiter; none where each draw is made.
+    /// The limiter; none if each draw is made.
     pub limiter: Option<RateLimiter>,
 }
 
@@ -47,7 +47,7 @@ impl<T: Drop> Drop for Stage<T> {
 impl<T: TermLike + Drop> Stage<T> {
     ghost use Rattle.indicatif_bar.specs.Stages.{stage_terminal, stage_moves, IsStaged};
 
-    /// This target, on which nothing was drawn. It takes no memory and writes nothing.
+    /// A stage on this target, on which nothing is drawn. It takes no memory and writes nothing.
     pub fn new(alloc: Global, target: ProgressDrawTarget<T>) -> Self
         ensures terminal { stage_terminal result ≡ term_of target }
         ensures moves { IfSome (stage_moves result) (λ moves. moves ≡ false) }
@@ -57,7 +57,7 @@ impl<T: TermLike + Drop> Stage<T> {
         Stage { engine, limiter }
     }
 
-    /// The terminal; `None` where the target is hidden.
+    /// The terminal; `None` if the target is hidden.
     pub fn term(&self) -> Option<&T>
         ensures { option_map (λ t. t.now) result ≡ stage_terminal self.now }
     {
@@ -67,7 +67,7 @@ impl<T: TermLike + Drop> Stage<T> {
         }
     }
 
-    /// The terminal, with what stands on it; `None` where the target is hidden. Nothing is written.
+    /// The terminal, with what stands on it; `None` if the target is hidden. Nothing is written.
     pub fn into_term(mut self) -> Option<T>
         ensures { result ≡ stage_terminal self }
     {
@@ -84,7 +84,8 @@ impl<T: TermLike + Drop> Stage<T> {
         self.engine.is_none()
     }
 
-    /// Another target, on which nothing was drawn, and the old one, with its limiter as the draws left it. Nothing is written to either.
+    /// Sets the target, on which nothing is drawn, and returns the old one, with its limiter as the draws left it. Nothing is written to
+    /// either.
     pub fn set_draw_target(
         &mut self,
         alloc: Global,
@@ -104,7 +105,7 @@ impl<T: TermLike + Drop> Stage<T> {
         }
     }
 
-    /// Whether draws write their lines over those that stand there: `Engine::set_move_cursor`. On a hidden target this does nothing.
+    /// Sets whether draws write their lines over the old ones: `Engine::set_move_cursor`. On a hidden target this does nothing.
     pub fn set_move_cursor(&mut self, on: bool)
         ensures terminal { stage_terminal self.new ≡ stage_terminal self.old }
         ensures moves { IfSome (stage_moves self.new) (λ moves. moves ≡ on) }
@@ -122,11 +123,11 @@ impl<T: Resize + Drop> Stage<T> {
     ghost use Rattle.indicatif_bar.specs.Stages.{stage_terminal, stage_known, stage_moves, IsStaged};
     ghost use Rattle.indicatif_term.specs.Resizes.{SizeTakes};
 
-    /// The terminal gets `rows` rows and `cols` columns, and the rows that stand there are cut: `Engine::resize`. On a hidden target this
-    /// does nothing.
+    /// Tells the stage that the terminal has `rows` rows and `cols` columns now, and how its rows are wrapped then: `Engine::resize`. On a
+    /// hidden target this does nothing.
     ///
-    /// Refused: `ZeroSize` where `rows` or `cols` is 0, also on a hidden target; `Memory`, never there, nor at the size that the terminal
-    /// has, and only where a kept or a live row stands, or the terminal takes some for a size. All is unchanged then.
+    /// Refused: `ZeroSize` if `rows` or `cols` is 0, also on a hidden target; `Memory`, never there, nor at the size that the terminal has,
+    /// and only if a kept or a live row stands, or the terminal takes some for a size. Then nothing has changed.
     pub fn resize(&mut self, rows: u16, cols: u16) -> Result<(), Refusal>
         ensures sized { IfOk result (λ _. SizedOn cols rows (stage_known T.view self.old) (stage_known T.view self.new)) }
         ensures staged { IfOk result (λ _. (limiter : Option Limiter) (l : Lists) → IsStaged self.old limiter l →

@@ -1,4 +1,4 @@
-//! A text that is kept beside what it is with its tabs expanded.
+//! A text with its tabs expanded beside it.
 ghost use Rattle.std.specs.Prelude.{◌≡◌, [], string_bytes, IfOk, OnErr, IsTrue};
 ghost use Rattle.indicatif_bar.specs.Tabs.{TabbedText, expanded, has_tab, is_some_text};
 ghost use Rattle.indicatif_bar.specs.Inside.TabbedTexts.{expanded_text};
@@ -7,18 +7,17 @@ use crate::tabs;
 use std::alloc::{AllocError, Global};
 use std::marker::Model;
 
-/// A text and the width of its tabs. What it is with so many spaces for each tab is at hand; a text without tabs is kept
-/// once.
+/// A text and its tab width. The text with its tabs expanded is kept; a text without tabs is kept once.
 #[derive(Drop)]
 pub(crate) struct TabbedText {
     text: String,
     has_tabs: bool,
-    /// The text with its tabs expanded, where it has any; else room for another one.
+    /// The text with its tabs expanded, if it has any; otherwise memory for another one.
     with_spaces: String,
     tab: usize,
 }
 
-/// Contracts see the text as it was set, and the width.
+/// Contracts see the text as it was set, and the tab width.
 impl Model for TabbedText {
     ghost use Rattle.std.specs.Prelude.{◌≡◌, if◌then◌else◌, string_bytes};
     ghost use Rattle.indicatif_bar.specs.Tabs.{TabbedText, expanded, has_tab};
@@ -44,7 +43,7 @@ impl TabbedText {
         }
     }
 
-    /// Another text, in the room of this one. An empty one is never refused.
+    /// Another text, in the memory of this one. An empty one is never refused.
     pub(crate) fn refilled(self, text: &str, tab: usize) -> Result<TabbedText, AllocError>
         ensures text { IfOk result (λ t. t ≡ record { text = text.now; tab = tab }) }
         ensures needed { OnErr result (IsTrue (is_some_text text.now)) }
@@ -76,7 +75,7 @@ impl TabbedText {
         self.text.as_str()
     }
 
-    /// What the text is with another width; it may be anything where the text has no tab, and is never refused then.
+    /// The text with another tab width; it may be anything if the text has no tab, and is never refused then.
     pub(crate) fn at_width(&self, alloc: Global, tab: usize) -> Result<String, AllocError>
         ensures needed { OnErr result (IsTrue (has_tab self.now.text)) }
         ensures text { IfOk result (λ s. IsTrue (has_tab self.now.text) → string_bytes s ≡ expanded tab self.now.text) }
@@ -88,7 +87,7 @@ impl TabbedText {
         Ok(with_spaces)
     }
 
-    /// Takes what the text is with another width.
+    /// Takes the text with another tab width.
     pub(crate) fn put_width(&mut self, with_spaces: String, tab: usize)
         requires { IsTrue (has_tab self.old.text) → string_bytes with_spaces ≡ expanded tab self.old.text }
         ensures { self.new ≡ record self.old { tab = tab } }
@@ -99,7 +98,7 @@ impl TabbedText {
         self.tab = tab;
     }
 
-    /// Another one, equal to this one.
+    /// A copy of the limiter.
     pub(crate) fn try_clone(&self, alloc: Global) -> Result<TabbedText, AllocError>
         ensures { IfOk result (λ other. other ≡ self.now) }
     {

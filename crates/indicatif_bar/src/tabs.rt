@@ -1,4 +1,4 @@
-//! Texts with spaces in the place of tabs.
+//! Texts with spaces in place of tabs.
 ghost use Rattle.std.specs.Prelude.{◌≡◌, ◌++◌, replicate, string_bytes, OnOk, IfOk, IfErr};
 ghost use Rattle.indicatif_bar.specs.Tabs.{expanded, has_tab};
 
@@ -6,7 +6,7 @@ use crate::scan::has_byte;
 use indicatif_text::columns::Refusal;
 use std::alloc::AllocError;
 
-/// Appends so many spaces. A count for which there is no memory is refused at once.
+/// Appends `count` spaces. A count for which there is no memory is refused at once.
 pub(crate) fn push_spaces(count: usize, out: &mut String) -> Result<(), AllocError>
     ensures { OnOk result (string_bytes out.new ≡ string_bytes out.old ++ replicate count 0x20) }
 {
@@ -17,7 +17,7 @@ pub(crate) fn push_spaces(count: usize, out: &mut String) -> Result<(), AllocErr
     Ok(())
 }
 
-/// Appends the text with so many spaces in the place of each tab.
+/// Appends the text with `tab` spaces in place of each tab.
 pub(crate) fn push_expanded(text: &str, tab: usize, out: &mut String) -> Result<(), AllocError>
     ensures { OnOk result (string_bytes out.new ≡ string_bytes out.old ++ expanded tab text.now) }
 {

@@ -1,11 +1,11 @@
-//! Texts of commands: own ones, or lent ones.
+//! Texts of commands: owned or borrowed ones.
 ghost use Rattle.std.specs.Prelude.{◌≡◌, ℕ, List, string_bytes, IfOk, IfErr, IsTrue};
 ghost use Rattle.indicatif_bar.specs.Tabs.{is_some_text};
 
 use indicatif_text::columns::Refusal;
 use std::alloc::Global;
 
-/// The text of a command: an own one, a `String`, or a lent one, a `&str`. A command with a lent text is told without a copy.
+/// The text of a command: an owned one, a `String`, or a borrowed one, a `&str`. A command with a borrowed text is made without a copy.
 ///
 /// ```
 /// let ask = bar.tell(BarCommand::SetMessage("copying"), now)?; // as `bar.set_message("copying", now)`
@@ -35,9 +35,9 @@ impl<'a> Text for &'a str {
     }
 }
 
-/// The same text, as an own one. An empty one takes no memory.
+/// The text as an owned one. An empty one takes no memory.
 ///
-/// Refused: `Memory`, only where the text isn't empty.
+/// Refused: `Memory`, only if the text isn't empty.
 pub fn own_text<S: Text>(alloc: Global, text: &S) -> Result<String, Refusal>
     ensures same { IfOk result (λ other. string_bytes other ≡ S.bytes text.now) }
     ensures memory { IfErr result (λ e. (e ≡ Refusal.Memory) × IsTrue (is_some_text (S.bytes text.now))) }

@@ -1,4 +1,4 @@
-//! Keys of a template that are the caller's own.
+//! Your own keys of a template.
 ghost use Rattle.std.specs.Prelude.{◌≡◌, ℕ, List, ◌++◌, [], IfOk, IfErr, OnOk, OnErr, string_bytes};
 ghost use Rattle.indicatif_bar.specs.Progress.{Progress};
 ghost use Rattle.indicatif_bar.specs.Trackers.{Tracking, writes_nothing, telling, entries, changed_trackers};
@@ -9,21 +9,21 @@ use std::alloc::Global;
 use std::marker::Model;
 use std::sync::Arc;
 
-/// What stands under a key of the caller's own in a template.
+/// What one of your own keys shows in a template.
 ///
-/// What it means is one record: its text at a state and a moment, and what a tick and a reset leave of it. A text follows
-/// from the tracker, the state and the moment alone. Each tick of a bar ticks its trackers, and so does another length, message
-/// or prefix; a reset of the bar resets them.
+/// Its meaning is one record: its text at a state and a moment, and how a tick and a reset change it. The text depends on nothing but the
+/// tracker, the state and the moment. Each tick of a bar ticks its trackers, and so does another length, message or prefix; a reset of the
+/// bar resets them.
 ///
 /// ```
 /// // `Left { of: 10 }` writes how many of 10 steps are left: "files 7" at the position 3
 /// let style = ProgressStyle::with_template(alloc, "{msg} {left}")?.with_key("left", Left { of: 10 })?;
 /// ```
 pub trait ProgressTracker: Sized + Send + Sync + Drop {
-    /// The text, and what a tick and a reset leave.
+    /// The text, and how a tick and a reset change the tracker.
     ghost means: { Tracking Self };
 
-    /// The bar has ticked, or was given another length, message or prefix, and is in this state at this moment.
+    /// The bar has ticked, or got another length, message or prefix, and is in this state at this moment.
     fn tick(&mut self, state: &ProgressState, now: Moment)
         ensures { self.new ≡ means.ticked self.old state.now now };
 
@@ -33,14 +33,14 @@ pub trait ProgressTracker: Sized + Send + Sync + Drop {
 
     /// Appends the text. A tab in it is shown as the bar's other tabs are.
     ///
-    /// Refused: `Memory`, with `out` as before.
+    /// Refused: `Memory`; then `out` is unchanged.
     fn write(&self, state: &ProgressState, now: Moment, out: &mut String) -> Result<(), Refusal>
         ensures text { OnOk result (string_bytes out.new
             ≡ string_bytes out.old ++ means.text self.now state.now now) }
         ensures unchanged { OnErr result (string_bytes out.new ≡ string_bytes out.old) }
         ensures memory { IfErr result (λ e. e ≡ Refusal.Memory) };
 
-    /// Another tracker, equal to this one.
+    /// A copy of the tracker.
     ///
     /// Refused: `Memory`.
     fn try_clone(&self) -> Result<Self, Refusal>
@@ -48,8 +48,8 @@ pub trait ProgressTracker: Sized + Send + Sync + Drop {
         ensures memory { IfErr result (λ e. e ≡ Refusal.Memory) };
 }
 
-/// What a bar asks of the trackers of its keys: the calls of `ProgressTracker`, without that trait's two bounds on threads. Every
-/// `ProgressTracker` meets it, so implement that one. A function of one's own over bars of any trackers asks for this one.
+/// What a bar needs from the trackers of its keys: the calls of `ProgressTracker`, without that trait's two bounds on threads. Every
+/// `ProgressTracker` implements it, so implement that one. Use this one as the bound of a function over bars with any trackers.
 ///
 /// ```
 /// fn step<K: Tracks, T: TermLike + Drop>(bar: &mut LoneBar<K, T>, now: Moment) -> Result<Drawn, Refusal> {
@@ -57,7 +57,7 @@ pub trait ProgressTracker: Sized + Send + Sync + Drop {
 /// }
 /// ```
 pub trait Tracks: Sized + Drop {
-    /// The text, and what a tick and a reset leave.
+    /// The text, and how a tick and a reset change the tracker.
     ghost means: { Tracking Self };
 
     /// As `ProgressTracker::tick`.
@@ -70,7 +70,7 @@ pub trait Tracks: Sized + Drop {
 
     /// As `ProgressTracker::write`.
     ///
-    /// Refused: `Memory`, with `out` as before.
+    /// Refused: `Memory`; then `out` is unchanged.
     fn track_text(
         &self,
         state: &ProgressState,
@@ -90,7 +90,7 @@ pub trait Tracks: Sized + Drop {
         ensures memory { IfErr result (λ e. e ≡ Refusal.Memory) };
 }
 
-/// Each tracker, by its own calls.
+/// Every `ProgressTracker`, by its own calls.
 impl<K: ProgressTracker> Tracks for K {
     ghost means = { K.means };
 
@@ -116,7 +116,7 @@ impl<K: ProgressTracker> Tracks for K {
     }
 }
 
-/// The tracker of a style without keys of its own: its text is empty.
+/// The tracker of a style without your own keys: its text is empty.
 ///
 /// ```
 /// let bar = BarState::<NoTracker>::new(alloc, Some(10), now)?;
@@ -145,8 +145,8 @@ impl ProgressTracker for NoTracker {
     }
 }
 
-/// What tells a text for an `FnTracker`: a caller's type that says which text it tells. A closure is kept in such a type,
-/// beside the fact of what it answers.
+/// Gives the text of an `FnTracker`: your own type, which states its text. To use a closure, keep it in such a type, beside the fact of
+/// what it returns.
 ///
 /// ```
 /// struct Always {
@@ -165,7 +165,7 @@ pub trait TellsText: Sized + Send + Sync + Drop {
     /// The text at a state and a moment, in bytes of UTF-8.
     ghost told_text: { Self → Progress → ℕ → List ℕ };
 
-    /// That text.
+    /// Returns that text.
     ///
     /// Refused: `Memory`.
     fn tell(&self, state: &ProgressState, now: Moment) -> Result<String, Refusal>
@@ -173,7 +173,7 @@ pub trait TellsText: Sized + Send + Sync + Drop {
         ensures memory { IfErr result (λ e. e ≡ Refusal.Memory) };
 }
 
-/// A tracker whose text a value of the caller's tells, which its clones share. Ticks and resets leave it as it is.
+/// A tracker whose text comes from a value of your own type, which its copies share. Ticks and resets don't change it.
 ///
 /// ```
 /// let tracker = FnTracker::new(alloc, Always { text: String::from_str(alloc, "ready")? })?;
@@ -184,7 +184,7 @@ pub struct FnTracker<F> {
     teller: Arc<F, Global>,
 }
 
-/// Contracts see what tells the text.
+/// Contracts see the value that gives the text.
 impl<F> Model for FnTracker<F> {
     ghost use Rattle.std.specs.Arc.{arc_value};
 
@@ -194,9 +194,9 @@ impl<F> Model for FnTracker<F> {
 }
 
 impl<F: TellsText> FnTracker<F> {
-    /// A tracker of the text that `teller` tells.
+    /// A tracker with the text of `teller`.
     ///
-    /// Refused: `Memory`; the teller is given up.
+    /// Refused: `Memory`; the teller is dropped.
     pub fn new(alloc: Global, teller: F) -> Result<FnTracker<F>, Refusal>
         ensures teller { IfOk result (λ tracker. tracker ≡ teller) }
         ensures memory { IfErr result (λ e. e ≡ Refusal.Memory) }

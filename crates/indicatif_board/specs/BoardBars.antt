@@ -7,8 +7,7 @@ use Rattle.indicatif_bar.specs.Commands.{BarRecord, Command, after_drop}
 use Rattle.indicatif_bar.specs.Bars.{bar_kind}
 use Rattle.indicatif_board.specs.Boards.{BoardKind}
 
--- bars whose trackers mean this, with all commands of a bar; one that loses its owner is finished by its stored finish, unless
--- it is finished already
+-- bars with this meaning of their trackers, and all commands of a bar; one that loses its owner is finished by its stored finish, unless it is finished already
 abbrev pub board_bars : {K : Type 0} → Tracking K → BoardKind (BarRecord K) (Command K)
 board_bars m = record {
   bars = bar_kind m;

@@ -1,4 +1,4 @@
--- Worked cases of a board: what calls at the moment 0 answer, and the rows that stand then. The terminal fails where a case says so.
+-- Worked cases of a board: the answers of calls at the moment 0, and the rows that stand afterwards. The terminal fails where a case says so.
 use Rattle.std.specs.Prelude.{◌≡◌, ℕ, Bool, true, false, List, [], ◌∷◌, ◌++◌, map, replicate, codes, Option, Some, None}
 use Rattle.std.specs.declared.io.ErrorKind.{ErrorKind}
 use Rattle.indicatif_text.specs.declared.refusal.Refusal.TheVariants.{ForeignBar, NotMember, NoColumns, TooWide, Memory, ElapsedBeyondClock, Terminal as Failure}
@@ -18,30 +18,30 @@ use Rattle.indicatif_board.specs.Boards.{BoardKind, BoardState, opening_board, I
 
 -- ---- a plain bar
 
--- how far a plain bar is
+-- the stages of a plain bar
 pub data PlainStage : Type 0 where
   Running : PlainStage
   Shown : PlainStage
   Gone : PlainStage
 
--- one line, a stage, and the stage that its finish gives
+-- a plain bar: one line, a stage, and the stage that its finish leads to
 pub record PlainBar : Type 0 where
   pub text : List ℕ
   pub stage : PlainStage
   pub at_finish : PlainStage
 
--- what it can be told
+-- the commands of a plain bar
 pub data Word : Type 0 where
   Touch : Word
   Say : (text : List ℕ) → Word
   FinishAs : (stage : PlainStage) → Word
 
--- a draw of a bar at this stage
+-- the draw that a bar at this stage asks for
 abbrev pub ask_at : PlainStage → Ask
 ask_at Running = Unforced
 ask_at _ = Forced
 
--- the bar then, and the draw that is asked for
+-- the bar after a command, and the draw that it asks for
 abbrev pub plain_after : Word → PlainBar → ℕ → PlainBar × Ask
 plain_after Touch b now = (b, ask_at b.stage)
 plain_after (Say text) b now = (record b { text = text }, ask_at b.stage)
@@ -51,7 +51,7 @@ abbrev pub says_text : Word → PlainBar → ℕ → Bool
 says_text (Say text) b now = true
 says_text _ b now = false
 
--- no line once it finished hidden or where it says nothing
+-- a line; none if the text is empty
 abbrev pub line_of : List ℕ → List (List ℕ)
 line_of [] = []
 line_of (c ∷ text) = (c ∷ text) ∷ []
@@ -60,7 +60,7 @@ abbrev pub lines_at : PlainStage → List ℕ → List (List ℕ)
 lines_at Gone text = []
 lines_at _ text = line_of text
 
--- its owner is gone: it is finished by a draw, unless it is already
+-- the stage of a bar that loses its owner: finished by a draw, unless it is finished already
 abbrev pub plain_end : PlainStage → PlainStage → PlainStage
 plain_end Running at_finish = at_finish
 plain_end stage at_finish = stage
@@ -69,7 +69,7 @@ abbrev pub end_asked : PlainStage → Ask
 end_asked Running = Forced
 end_asked _ = No
 
--- whether they take memory
+-- whether a bar at this stage takes memory for its line
 abbrev pub is_seen : PlainStage → Bool
 is_seen Gone = false
 is_seen _ = true
@@ -97,7 +97,7 @@ PlainCall = Call PlainBar Word
 abbrev pub id : ℕ → Id
 id number = record { mark = 1; number = number }
 
--- a bar that finishes hidden where nobody says how, with this text
+-- a bar with this text, which finishes hidden by default
 abbrev pub plain_bar : List ℕ → PlainBar
 plain_bar text = record { text = text; stage = Running; at_finish = Gone }
 
@@ -119,14 +119,14 @@ drop_it number = Drop (id number)
 abbrev pub remove_it : ℕ → PlainCall
 remove_it number = Remove (id number)
 
--- what calls answer, and the state then
+-- the answers of calls, and the state after them
 abbrev pub ran_on : Option Limiter → Target → List PlainCall → List Answer × BoardState PlainBar
 ran_on limiter target calls = outcomes (board plain_bars 1) target (map (λ call. (call, 0)) calls) (opening_board limiter)
 
 abbrev pub ran_in : ℕ → ℕ → List PlainCall → List Answer × BoardState PlainBar
 ran_in rows columns calls = ran_on None (terminal_of_size rows columns) calls
 
--- the rows that stand after calls are those of these lines
+-- after these calls the rows of these lines stand
 abbrev pub LeavesRows : ℕ → ℕ → List PlainCall → List (List ℕ) → Type 0
 LeavesRows rows columns calls lines = all_rows columns (ran_in rows columns calls).1.lists ≡ rows_of_lines columns lines
 
@@ -150,20 +150,20 @@ LeftAbove =
     × LeavesRows 2 10 (Align true ∷ add (codes "k") ∷ add (codes "x") ∷ touch 0 ∷ touch 1 ∷ finish_it 0 ∷ drop_it 0 ∷ add (codes "y") ∷ touch 2 ∷ remove_it 1 ∷ Log (codes "l") ∷ [])
     (codes "k" ∷ codes "l" ∷ codes "y" ∷ [])
 
--- a bar that leaves its row and one that hides, both dropped: a log takes the row that was kept
+-- a bar that leaves its row and one that hides, both dropped: a log overwrites the kept row
 abbrev pub BothDropped : Type 0
 BothDropped = LeavesRows 10 9
     (Insert End (New (record { text = codes "A"; stage = Running; at_finish = Shown })) ∷ add (codes "B") ∷ touch 0 ∷ touch 1 ∷ drop_it 0 ∷ drop_it 1 ∷ Log (codes "L") ∷ [])
     (codes "L" ∷ [])
 
--- at the bottom: a bar that is removed leaves a blank row above; one that is dropped passes on with it
+-- at the bottom: a removed bar leaves a blank row above; a dropped bar leaves with it
 abbrev pub BoardAtTheBottom : Type 0
 BoardAtTheBottom =
     let calls = Align true ∷ add (codes "m1") ∷ add (codes "m2") ∷ add (codes "m3") ∷ touch 0 ∷ touch 1 ∷ touch 2 ∷ remove_it 1 ∷ touch 0 ∷ [] in
     LeavesRows 6 9 calls ([] ∷ codes "m1" ∷ codes "m3" ∷ [])
     × LeavesRows 6 9 (calls ++ finish_it 0 ∷ drop_it 0 ∷ Log (codes "L") ∷ []) (codes "L" ∷ [] ∷ codes "m3" ∷ [])
 
--- the order after insertions at all places; a bar that is there stays; a bar of another board, and one that is gone
+-- the order after insertions at all places; a bar that is there keeps its place; a bar of another board, and one that is gone, are refused
 abbrev pub Ordered : Type 0
 Ordered =
     let p = New (plain_bar (codes "p")) in
@@ -181,13 +181,13 @@ Ordered =
 abbrev pub EmptyLog : Type 0
 EmptyLog = LeavesRows 5 9 (add (codes "a") ∷ touch 0 ∷ Log [] ∷ []) ([] ∷ codes "a" ∷ [])
 
--- a bar that is removed stays shown until the next draw
+-- a removed bar stays shown until the next draw
 abbrev pub RemovedLater : Type 0
 RemovedLater =
     LeavesRows 4 10 (add (codes "a") ∷ add (codes "b") ∷ touch 0 ∷ touch 1 ∷ remove_it 0 ∷ []) (codes "a" ∷ codes "b" ∷ [])
     × LeavesRows 4 10 (add (codes "a") ∷ add (codes "b") ∷ touch 0 ∷ touch 1 ∷ remove_it 0 ∷ touch 1 ∷ []) (codes "b" ∷ [])
 
--- a bar that is dropped behind the rows of a removed one waits for the next draw
+-- a dropped bar below the rows of a removed one waits for the next draw
 abbrev pub WaitsBehind : Type 0
 WaitsBehind = LeavesRows 4 10 (add (codes "a") ∷ add (codes "b") ∷ touch 0 ∷ finish_it 1 ∷ remove_it 0 ∷ drop_it 1 ∷ add (codes "c") ∷ touch 2 ∷ []) (codes "b" ∷ codes "c" ∷ [])
 
@@ -197,7 +197,7 @@ LongLog =
     LeavesRows 3 5 (add (codes "x") ∷ touch 0 ∷ Log (codes "abcdefghijk") ∷ []) (codes "abcde" ∷ codes "fghij" ∷ codes "k" ∷ codes "x" ∷ [])
     × LeavesRows 2 10 (add (codes "a") ∷ add (codes "b") ∷ add (codes "c") ∷ touch 0 ∷ touch 1 ∷ touch 2 ∷ Log (codes "l") ∷ []) (codes "l" ∷ codes "a" ∷ codes "b" ∷ [])
 
--- removed twice is done twice; told then, it isn't there
+-- a bar removed twice is no refusal; a command of it finds no bar
 abbrev pub RemovedTwice : Type 0
 RemovedTwice = (ran_in 4 10 (add (codes "a") ∷ remove_it 0 ∷ remove_it 0 ∷ touch 0 ∷ [])).0 ≡ Given (id 0) ∷ Done ∷ Done ∷ Refused NotMember ∷ []
 
@@ -211,8 +211,7 @@ abbrev pub TwentyDrawsAtOnce : Type 0
 TwentyDrawsAtOnce = (ran_on (Some (draw_limiter 20 0)) (terminal_of_size 5 9) (add (codes "a") ∷ replicate 21 (touch 0) ++ say 0 (codes "b") ∷ Redraw ∷ finish_it 0 ∷ touch 0 ∷ [])).0
     ≡ Given (id 0) ∷ replicate 20 (Drew Yes) ++ Drew Limited ∷ Drew Limited ∷ Drew Yes ∷ Drew Yes ∷ Drew Yes ∷ []
 
--- a bar's own text stands above all bars, and that bar's lines are laid out anew, here for the first time; rows of bars that are
--- gone make room for it; a bar that isn't there has none
+-- a text of one bar stands above all bars, and that bar's lines are laid out again, here for the first time; rows of bars that are gone make room for it; a bar that isn't there has no text
 abbrev pub OwnText : Type 0
 OwnText =
     let both = add (codes "a") ∷ add (codes "b") ∷ touch 0 ∷ [] in
@@ -223,7 +222,7 @@ OwnText =
     × ((ran_in 4 10 (both ++ BarLog (id 1) [] ∷ remove_it 1 ∷ BarLog (id 1) [] ∷ BarLog foreign [] ∷ [])).0
     ≡ Given (id 0) ∷ Given (id 1) ∷ Drew Yes ∷ Drew Yes ∷ Done ∷ Refused NotMember ∷ Refused ForeignBar ∷ [])
 
--- a clear takes the bars' rows back, and those that bars which are gone left; texts stay, and the next draw shows the bars again
+-- a clear erases the bars' rows, and those of bars that are gone; texts stay, and the next draw shows the bars again
 abbrev pub ClearedRows : Type 0
 ClearedRows =
     let logged = add (codes "a") ∷ add (codes "b") ∷ touch 0 ∷ touch 1 ∷ Log (codes "l") ∷ [] in
@@ -234,7 +233,7 @@ ClearedRows =
     × LeavesRows 4 10 (logged ++ left ++ Clear ∷ []) (codes "l" ∷ [])
     × LeavesRows 4 10 (logged ++ left ++ Clear ∷ touch 1 ∷ []) (codes "l" ∷ codes "b" ∷ [])
 
--- a dropped bar that waited, first in the order at last: a draw leaves its row above; a clear lets it go, and it isn't drawn again
+-- a dropped bar that waited until it was the first: a draw leaves its row above; a clear removes it, and it isn't drawn again
 abbrev pub ClearedHead : Type 0
 ClearedHead =
     let waits = add (codes "a") ∷ add (codes "b") ∷ add (codes "c") ∷ touch 0 ∷ touch 1 ∷ touch 2 ∷ finish_it 1 ∷ drop_it 1 ∷ remove_it 0 ∷ [] in
@@ -244,8 +243,7 @@ ClearedHead =
     × (order_of (ran_in 4 10 waits).1.members ≡ 1 ∷ 2 ∷ [])
     × (order_of (ran_in 4 10 (waits ++ Clear ∷ [])).1.members ≡ 2 ∷ [])
 
--- on a terminal without columns no line is laid out, a text is lost, and a bar that is dropped leaves all the same; from that
--- state, on a terminal with columns, the bar that was told something shows it
+-- on a terminal without columns no line is laid out, a text is lost, and a dropped bar still leaves; afterwards, on a terminal with columns, a bar whose text was set shows it
 abbrev pub WithoutColumns : Type 0
 WithoutColumns =
     let first = ran_in 4 0 (add (codes "a") ∷ add (codes "b") ∷ touch 1 ∷ say 1 (codes "c") ∷ Log (codes "l") ∷ drop_it 0 ∷ []) in
@@ -258,7 +256,7 @@ WithoutColumns =
     × (later.0 ≡ Drew Yes ∷ [])
     × (all_rows 10 later.1.lists ≡ rows_of_lines 10 (codes "c" ∷ []))
 
--- on a hidden target a text is dropped, and a bar that is dropped leaves
+-- on a hidden target a text is dropped, and a dropped bar leaves
 abbrev pub Unseen : Type 0
 Unseen =
     let both = ran_on None (nowhere) (add (codes "a") ∷ add (codes "b") ∷ touch 0 ∷ Log (codes "l") ∷ drop_it 1 ∷ drop_it 0 ∷ Clear ∷ []) in
@@ -267,21 +265,20 @@ Unseen =
 
 -- ---- a drop whose own draw is refused
 
--- one bar, of this finish, was drawn
+-- one bar, with this finish, was drawn
 abbrev pub one_shown : PlainStage → BoardState PlainBar
 one_shown at_finish = (ran_in 4 10 (Insert End (New (record { text = codes "a"; stage = Running; at_finish = at_finish })) ∷ touch 0 ∷ [])).1
 
--- it is dropped
+-- the drop of that bar
 abbrev pub its_drop : PlainStage → Deed (BoardState PlainBar) Answer
 its_drop at_finish = (board plain_bars 1).deed (terminal_of_size 4 10) (drop_it 0) 0 (one_shown at_finish)
 
--- it is ownerless and stays, though it is the first, with these lines
+-- it has no owner and stays, although it is the first, with these lines
 abbrev pub stays : PlainStage → List (List ℕ) → List (Member PlainBar)
 stays at_finish lines =
     let m : Member PlainBar = record { number = 0; bar = record { text = codes "a"; stage = at_finish; at_finish = at_finish }; stored = lines; dropped = true } in m ∷ []
 
--- where the terminal fails, its rows are forgotten; where memory is refused, they are as they were; and none is refused to a bar
--- that finishes hidden, since it has no lines
+-- if the terminal fails, its rows are forgotten; if memory is refused, they are unchanged; a bar that finishes hidden isn't refused memory, since it has no lines
 abbrev pub DropRefused : Type 0
 DropRefused =
     let machine = board plain_bars 1 in
@@ -292,8 +289,7 @@ DropRefused =
 
 -- ---- a draw that the terminal breaks off
 
--- `a` is logged above the bar `x`, and the next draw is broken off: the rows are forgotten, so `a` is taken back no more, and the bar
--- stays in the order; then `b` is logged, with the bar below
+-- `a` is logged above the bar `x`, and the next draw is broken off: the rows are forgotten, so `a` is never erased, and the bar stays in the order; then `b` is logged, with the bar below
 abbrev pub BrokenBelow : Type 0
 BrokenBelow =
     let machine = board plain_bars 1 in
@@ -312,22 +308,22 @@ BrokenBelow =
 abbrev pub BarCall : Type 0
 BarCall = Call (BarRecord (Unit {0})) (Command (Unit {0}))
 
--- what calls on 4 rows and 10 columns answer, and the state then
+-- the answers of calls on 4 rows and 10 columns, and the state after them
 abbrev pub ran_bars : List BarCall → List Answer × BoardState (BarRecord (Unit {0}))
 ran_bars calls = outcomes (board (board_bars no_trackers) 1) (terminal_of_size 4 10) (map (λ call. (call, 0)) calls) (opening_board None)
 
--- a bar with this message taken in
+-- the insertion of a bar with this message
 abbrev pub add_bar : List ℕ → BarCall
 add_bar text = Insert End (New (bar_saying text))
 
--- an elapsed time beyond the moment is refused, and changes nothing; that a bar isn't there comes first
+-- an elapsed time beyond the moment is refused, and changes nothing; a missing bar is refused first
 abbrev pub LateOnBoard : Type 0
 LateOnBoard =
     let both = ran_bars (add_bar (codes "a") ∷ Tell (id 0) (SetElapsed 1) ∷ Tell (id 1) (SetElapsed 1) ∷ []) in
     (both.0 ≡ Given (id 0) ∷ Refused ElapsedBeyondClock ∷ Refused NotMember ∷ [])
     × (both.1.members ≡ (ran_bars (add_bar (codes "a") ∷ [])).1.members)
 
--- of two bars that lose their owners, the one that is to be left leaves its row, and the other's row is gone
+-- of two bars that lose their owners, the one that finishes with its row leaves it, and the other's row is gone
 abbrev pub OneIsLeft : Type 0
 OneIsLeft =
     let calls = add_bar (codes "a") ∷ add_bar (codes "b") ∷ Tell (id 0) (WithFinish AndLeave) ∷ Tell (id 0) Tick ∷ Tell (id 1) Tick ∷ Drop (id 0) ∷ Drop (id 1) ∷ [] in

@@ -1,4 +1,4 @@
--- What a board was asked, and what it answered, as their definitions.
+-- Calls and answers of a board as values, and their definitions.
 use Rattle.std.specs.Prelude.{◌≡◌, ◌≢◌, ◌==◌, ◌&&◌, ℕ, Bool, true, false, List, [], ◌∷◌, Option, Result, Ok, Err, string_bytes}
 use Rattle.indicatif_text.specs.declared.refusal.Refusal.{Refusal}
 use Rattle.indicatif_text.specs.declared.refusal.Refusal.TheVariants.{ForeignBar}
@@ -18,7 +18,7 @@ use Rattle.indicatif_board.specs.declared.calls.Call.TheVariants as call
 use Rattle.indicatif_board.specs.declared.calls.Answer.{Answer as AnswerValue}
 use Rattle.indicatif_board.specs.declared.calls.Answer.TheVariants as answer
 
--- what is to be taken in
+-- a candidate, as its definition
 abbrev pub entrant_of : {K : Type 0} → Candidate K → Entrant (BarRecord K)
 entrant_of (NewCandidate bar) = New bar
 entrant_of (OldCandidate id) = Old (id_of id)
@@ -55,16 +55,16 @@ call_of call.Redraw = Redraw
 call_of (call.Align alignment) = Align (is_bottom alignment)
 call_of (call.Bar id command) = Tell (id_of id) (command_as string_bytes command)
 
--- the same with its moment
+-- a call that is a value with its moment, as its definition
 abbrev pub timed : {K : Type 0} → CallValue K × ℕ → Call (BarRecord K) (Command K) × ℕ
 timed c = (call_of c.0, c.1)
 
--- a copy of what is to be taken in takes memory: of a new bar
+-- a copy of a candidate takes memory if it is a new bar
 abbrev pub entrant_copy_takes : {K : Type 0} → Entrant (BarRecord K) → Bool
 entrant_copy_takes (New bar) = true
 entrant_copy_takes (Old id) = false
 
--- a copy of a call takes memory: of one with a new bar, with a text that isn't empty, or with a bar's command of which a copy does
+-- a copy of a call takes memory if it has a new bar, a text that isn't empty, or a bar's command whose copy takes memory
 abbrev pub call_copy_takes : {K : Type 0} → Call (BarRecord K) (Command K) → Bool
 call_copy_takes (Insert at entrant) = entrant_copy_takes entrant
 call_copy_takes (Log text) = is_some_text text
@@ -79,20 +79,19 @@ answer_of answer.Done = Done
 answer_of (answer.Drawn drawn) = Drew drawn
 answer_of (answer.Refused refusal) = Refused refusal
 
--- ---- who is meant
+-- ---- which bar is meant
 
--- this is the bar of the number on the board of the mark
+-- this is the bar with the number, on the board with the mark
 abbrev pub is_bar : ℕ → ℕ → Id → Bool
 is_bar mark number id = id.mark == mark && id.number == number
 
 module _ {K : Type 0} where
-  -- another board's bar is to be taken in
+  -- another board's bar is to be inserted
   abbrev pub IsForeign : ℕ → Entrant (BarRecord K) → Type 0
   IsForeign mark (New bar) = ⊥
   IsForeign mark (Old id) = id.mark ≢ mark
 
-  -- a call of the board of this mark names another board's bar; where one is to stand beside an anchor, the anchor is meant, which
-  -- is looked for first
+  -- a call of the board with this mark names another board's bar; for an insertion beside an anchor, the anchor is looked for first
   abbrev pub NamesForeign : ℕ → Call (BarRecord K) (Command K) → Type 0
   NamesForeign mark (Insert (Before anchor) entrant) = anchor.mark ≢ mark
   NamesForeign mark (Insert (After anchor) entrant) = anchor.mark ≢ mark
@@ -103,20 +102,20 @@ module _ {K : Type 0} where
   NamesForeign mark (Tell id command) = id.mark ≢ mark
   NamesForeign mark _ = ⊥
 
-  -- of calls with these answers each that names another board's bar is answered so
+  -- each of these calls that names another board's bar is refused with `ForeignBar`
   abbrev pub AreTurnedAway : ℕ → List (Call (BarRecord K) (Command K) × ℕ) → List Answer → Type 0
   AreTurnedAway mark [] [] = Unit {0}
   AreTurnedAway mark (call ∷ calls) (answer ∷ answers) = (NamesForeign mark call.0 → answer ≡ Refused ForeignBar) × AreTurnedAway mark calls answers
   AreTurnedAway mark _ _ = ⊥
 
-  -- a call of the board of this mark takes its bar of this number out, drops it or tells it something
+  -- a call of the board with this mark removes, drops or commands its bar with this number
   abbrev pub acts_on : ℕ → ℕ → Call (BarRecord K) (Command K) → Bool
   acts_on mark number (Remove id) = is_bar mark number id
   acts_on mark number (Drop id) = is_bar mark number id
   acts_on mark number (Tell id command) = is_bar mark number id
   acts_on mark number _ = false
 
--- an answer gives the bar of this number
+-- an answer gives the bar with this number
 abbrev pub gives : ℕ → Answer → Bool
 gives number (Given id) = id.number == number
 gives number _ = false

@@ -5,7 +5,7 @@ use Rattle.indicatif_board.specs.declared.done.Account.{Account}
 
 -- ---- shares
 
--- the parts that a share has at least after so many splits in a row: the whole can be halved 2^64 times
+-- the fewest parts that a share can have after n splits in a row: the whole can be halved 2^64 times
 unfoldable pub least_parts : ℕ → ℕ
 least_parts splits = 2 ^ (2 ^ 64 - splits)
 
@@ -18,7 +18,7 @@ whole_share = least_parts 0
 abbrev pub account : ℕ → ℕ → ℕ → Account
 account parts added seen = record { parts = parts; added = added; seen = seen }
 
--- of the first worker: the whole share, nothing added, nothing seen
+-- the first worker: the whole share, nothing added, nothing seen
 abbrev pub new_account : Account
 new_account = account whole_share 0 0
 
@@ -26,23 +26,23 @@ new_account = account whole_share 0 0
 abbrev pub after_adding : ℕ → Account → Account
 after_adding n a = record a { added = a.added + n; seen = a.seen + n }
 
--- a reading of the word found a sum, modulo 2^64, that is at least what was seen before; it is what was seen now
+-- a reading of the word found a sum, modulo 2^64, no less than the greatest seen before; it is the greatest seen now
 abbrev pub ReadsSum : Account → ℕ → Account → Type 0
 ReadsSum before found now = (now ≡ record before { seen = now.seen }) × (before.seen ≤ now.seen) × (found ≡ now.seen % 2 ^ 64)
 
--- of the first worker after a split: half of the share and all that was added
+-- the first worker after a split: half of the share and all that was added
 abbrev pub own_half : Account → Account
 own_half a = record a { parts = a.parts - a.parts / 2 }
 
--- of the second worker after a split: half of the share and nothing added; what was seen stays seen
+-- the second worker after a split: half of the share and nothing added; it has seen the same sum
 abbrev pub given_half : Account → Account
 given_half a = account (a.parts / 2) 0 a.seen
 
--- of two workers that become one: both shares, and what either added; at least that was seen, and what either saw
+-- one worker in place of two: both shares, the sum of what they added; it has seen that sum and what either saw
 abbrev pub account_of_both : Account → Account → Account
 account_of_both a b = account (a.parts + b.parts) (a.added + b.added) (max (max a.seen b.seen) (a.added + b.added))
 
--- of a worker that was joined to another
+-- a worker that was joined to another
 abbrev pub spent_account : Account
 spent_account = account 0 0 0
 
@@ -56,7 +56,7 @@ all_added accounts = sum_by (λ a. a.added) accounts
 abbrev pub all_parts : List Account → ℕ
 all_parts accounts = sum_by (λ a. a.parts) accounts
 
--- it has seen what it added, and no more than the sum; without a share it added nothing
+-- a worker has seen what it added, and no more than the sum; without a share it added nothing
 abbrev pub IsFair : ℕ → Account → Type 0
 IsFair sum a = (a.added ≤ a.seen) × (a.seen ≤ sum) × (a.parts ≡ 0 → a.added ≡ 0)
 
@@ -69,7 +69,7 @@ AddsUp words accounts =
 
 -- ---- a worker, as contracts see it
 
--- which sum it is
+-- the identity of a sum
 abbrev pub SumId : Type 0
 SumId = TableId
 
@@ -100,7 +100,7 @@ shares_of workers = sum_by (λ w. w.account.parts) workers
 abbrev pub added_by : List Worker → ℕ
 added_by workers = sum_by (λ w. w.account.added) workers
 
--- these workers came of one: they add to its sum, have its share and its adds together, and have seen what it had
+-- these workers come from one: together they have its share and what it added, and each has seen what it had seen
 pub record IsDivided (one : Worker) (workers : List Worker) : Type 0 where
   pub same_sum : All (λ w. w.adds_to ≡ one.adds_to) workers
   pub share : shares_of workers ≡ one.account.parts

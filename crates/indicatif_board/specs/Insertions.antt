@@ -1,4 +1,4 @@
--- What an insertion makes of a board.
+-- The effect of an insertion on a board.
 use Rattle.std.specs.Prelude.{◌≡◌, ◌≢◌, ℕ, false, None, IsFalse, Result, IfErr}
 use Rattle.indicatif_text.specs.declared.refusal.Refusal.TheVariants.{ForeignBar, NotMember}
 use Rattle.indicatif_term.specs.Calls.{TermView}
@@ -20,13 +20,13 @@ module _ {K T : Type 0} where
   HasAnchor b (After anchor) = (anchor.mark ≡ mark_of b) × (record_at anchor.number b ≢ None)
   HasAnchor b _ = Unit {0}
 
-  -- the anchor is a bar of this board that no call may name; where a place has no anchor, what is to be taken in is one
+  -- the anchor is a bar of this board that no call may name; if the place has no anchor, the candidate is such a bar
   abbrev pub NamesAbsent : Board K T → Location → Entrant (BarRecord K) → Type 0
   NamesAbsent b (Before anchor) entrant = IsAbsent b anchor
   NamesAbsent b (After anchor) entrant = IsAbsent b anchor
   NamesAbsent b at entrant = EntersAbsent b entrant
 
-  -- a candidate was to stand there: it was taken in, or was turned away and came back
+  -- a candidate was to be inserted at a place: it was inserted, or was refused and came back
   pub record Inserts (m : Tracking K) (view : T → TermView) (at : Location) (candidate : Candidate K) (taken : Result BarId (Turned K)) (old new : Board K T) : Type 0 where
     pub keeps : Keeps view false old new
     pub quiet : IsFalse (wrote (drawn_of (given taken)))

@@ -1,4 +1,4 @@
--- What a call is about to do where nothing limits its draws.
+-- The effect of a call whose draw no limiter refuses.
 use Rattle.std.specs.Prelude.{IsTrue}
 use Rattle.indicatif_bar.specs.Machines.{Deed, AtOnce, Draws}
 

@@ -13,7 +13,7 @@ use Rattle.indicatif_board.specs.Boards.{BoardKind, BoardState, Id, End, New, Ca
 abbrev pub first_bar : ℕ → Id
 first_bar mark = record { mark = mark; number = 0 }
 
--- a board with one bar in the state of a lone one, and these lines stored of it
+-- a board with one bar in the state of a lone one, with these stored lines
 abbrev pub with_one : {B : Type 0} → List (List ℕ) → LoneState B → BoardState B
 with_one stored s = record {
   members = record { number = 0; bar = s.bar; stored = stored; dropped = false } ∷ [];
@@ -29,16 +29,16 @@ call_on_board mark (Obey command) = Tell (first_bar mark) command
 call_on_board mark (Log text) = BarLog (first_bar mark) text
 call_on_board mark ClearLone = Clear
 
--- the same with its moment
+-- a call that is a value with its moment, as its definition
 abbrev pub on_board : {B C : Type 0} → ℕ → LoneCall C × ℕ → Call B C × ℕ
 on_board mark call = (call_on_board mark call.0, call.1)
 
--- a bar that is taken in first makes such a board, as a lone bar begins
+-- the insertion of a first bar makes such a board, as a lone bar begins
 abbrev pub OneIsTakenIn : Type 0 → Type 0
 OneIsTakenIn B = (mark : ℕ) (bar : B) (limiter : Option Limiter) →
     inserted mark End (New bar) (opening_board limiter) ≡ AtOnce true (Given (first_bar mark)) (with_one [] (opening_state bar limiter))
 
--- from then on every run of a lone bar is one of the board: same answers, same bytes, same lists, so the same picture
+-- afterwards every run of a lone bar is one of the board: same answers, same bytes, same lists, so the same picture
 abbrev pub LoneRunsAreBoardRuns : {B C : Type 0} → BoardKind B C → Type 0
 LoneRunsAreBoardRuns {B} {C} kind =
     (mark : ℕ) (calls : List (LoneCall C × ℕ)) (answers : List (Result Drawn Refusal)) (old : Option TermView) (s : LoneState B) (new : Option TermView) (next : LoneState B)

@@ -7,7 +7,7 @@ use Rattle.indicatif_term.specs.Lists.{BarLines}
 pub record Member (B : Type 0) : Type 0 where
   pub number : ℕ
   pub bar : B
-  -- its lines as they were laid out last, as characters
+  -- its last laid-out lines, as characters
   pub stored : List (List ℕ)
   -- whether its owner is gone
   pub dropped : Bool
@@ -23,7 +23,7 @@ module _ {B : Type 0} where
   abbrev pub order_of : List (Member B) → List ℕ
   order_of members = map (λ m. m.number) members
 
-  -- how many members stand before a bar; all of them where it is no member
+  -- how many members stand before a bar; all of them if it is no member
   abbrev pub place_of : ℕ → List (Member B) → ℕ
   place_of number members = position_or_len (λ m. m.number == number) members
 
@@ -43,12 +43,12 @@ module _ {B : Type 0} where
 
   -- ---- a member
 
-  -- the members with the one of a number changed
+  -- the members, with the one of this number changed
   abbrev pub changed_at : ℕ → (Member B → Member B) → List (Member B) → List (Member B)
   changed_at number f [] = []
   changed_at number f (m ∷ ms) = if m.number == number then f m ∷ ms else m ∷ changed_at number f ms
 
-  -- the bar ownerless: its owner is gone
+  -- the members, with this bar's owner gone
   abbrev pub ownerless : ℕ → List (Member B) → List (Member B)
   ownerless number members = changed_at number (λ m. record m { dropped = true }) members
 
@@ -68,7 +68,7 @@ module _ {B : Type 0} where
   abbrev pub frame_of : List (Member B) → List BarLines
   frame_of members = map (λ m. record { bar = m.number; lines = m.stored }) members
 
--- what is said of the bar of a number; of a bar that isn't there, this
+-- a function of the bar with a number; a default if it isn't there
 abbrev pub said_of : {B X : Type 0} → X → (B → X) → ℕ → List (Member B) → X
 said_of other f number [] = other
 said_of other f number (m ∷ ms) = if m.number == number then f m.bar else said_of other f number ms

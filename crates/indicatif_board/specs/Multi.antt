@@ -22,7 +22,7 @@ use Rattle.indicatif_board.specs.ShownBars.{AreShownAs, HeadIsOwned, record_on}
 use Rattle.indicatif_board.specs.declared.calls.Answer.{Answer as AnswerValue}
 use Rattle.indicatif_board.specs.declared.multi.Board.{Board}
 
--- how many of the bars of these numbers, from the top, stand before a new one there
+-- how many of the bars with these numbers, from the top, stand before a new one at this place
 abbrev pub seat_in : Location → List ℕ → ℕ
 seat_in End order = length order
 seat_in (Index i) order = min i (length order)
@@ -31,11 +31,11 @@ seat_in (Before anchor) order = position_or_len (λ n. n == anchor.number) order
 seat_in (After anchor) order = position_or_len (λ n. n == anchor.number) order + 1
 
 module _ {K T : Type 0} where
-  -- its terminal; none where the target is hidden
+  -- its terminal; none if the target is hidden
   abbrev pub terminal_of : Board K T → Option T
   terminal_of b = option_map engine_term b.stage.engine
 
-  -- whether its draws go by moves of the cursor alone, where that shows the same; nothing where the target is hidden
+  -- whether its draws use cursor moves alone, if that shows the same; nothing if the target is hidden
   abbrev pub moves_of : Board K T → Option Bool
   moves_of b = option_map engine_moves b.stage.engine
 
@@ -43,8 +43,7 @@ module _ {K T : Type 0} where
   abbrev pub slots_of : Board K T → SlotTable
   slots_of b = b.shown.table
 
-  -- the board of this mark may be in this state; on a hidden target it has no rows. Of the rows only the numbers are kept, so many
-  -- states fit one board; what is claimed holds of each
+  -- the board with this mark may be in this state; on a hidden target it has no rows. Only the numbers of the rows are kept, so many states fit one board; clauses hold of each
   unfoldable pub IsIn : ℕ → Board K T → BoardState (BarRecord K) → Type 0
   IsIn mark b s = (b.mark ≡ mark) × AreShownAs b.shown s × IsStaged b.stage s.limiter s.lists
 
@@ -52,7 +51,7 @@ module _ {K T : Type 0} where
   abbrev pub known : (T → TermView) → Board K T → Option TermView
   known view b = option_map view (terminal_of b)
 
-  -- there is nothing to draw on: its target is hidden, or a terminal without columns
+  -- its draws write nothing: its target is hidden, or a terminal without columns
   abbrev pub IsNowhere : (T → TermView) → Board K T → Type 0
   IsNowhere view b = (target_of (known view b)).columns ≡ 0
 
@@ -60,12 +59,12 @@ module _ {K T : Type 0} where
   abbrev pub mark_of : Board K T → ℕ
   mark_of b = b.mark
 
-  -- its mark and how its draws go are as before; where it was not written, its terminal is, too; and it was not, where there is nothing to draw on
+  -- its mark and its way of drawing are unchanged; if it was not written, so is its terminal; and a hidden target or a terminal without columns was not written
   abbrev pub Keeps : (T → TermView) → Bool → Board K T → Board K T → Type 0
   Keeps view written old new =
       (mark_of new ≡ mark_of old) × (moves_of new ≡ moves_of old) × (IsFalse written → terminal_of new ≡ terminal_of old) × (IsNowhere view old → IsFalse written)
 
-  -- the record of its bar of a number; none where no call may name that: it was removed, dropped or never given
+  -- the record of its bar with a number; none if no call may name that bar: it was removed, dropped or never given
   abbrev pub record_at : ℕ → Board K T → Option (BarRecord K)
   record_at number b = record_on number b.shown
 
@@ -73,44 +72,43 @@ module _ {K T : Type 0} where
   abbrev pub IsAbsent : Board K T → Id → Type 0
   IsAbsent b id = (id.mark ≡ b.mark) × (record_at id.number b ≡ None)
 
-  -- such a bar is to be taken in
+  -- such a bar is to be inserted
   abbrev pub EntersAbsent : Board K T → Entrant (BarRecord K) → Type 0
   EntersAbsent b (New bar) = ⊥
   EntersAbsent b (Old id) = IsAbsent b id
 
-  -- a call was refused so, and nothing has changed
+  -- a call was refused with this, and nothing has changed
   abbrev pub TurnsAway : Refusal → Answer → Board K T → Board K T → Type 0
   TurnsAway refusal answer old new = (answer ≡ Refused refusal) × (new ≡ old)
 
-  -- every bar's record is as before
+  -- every bar's record is unchanged
   abbrev pub RecordsStay : Board K T → Board K T → Type 0
   RecordsStay old new = (number : ℕ) → record_at number new ≡ record_at number old
 
-  -- every bar's is, but for that of this number
+  -- every bar's record but that of this number is unchanged
   abbrev pub OtherRecordsStay : ℕ → Board K T → Board K T → Type 0
   OtherRecordsStay number old new = (other : ℕ) → other ≢ number → record_at other new ≡ record_at other old
 
-  -- a bar was told a command: if it has a record, that goes as a lone bar's does
+  -- a bar got a command: if it has a record, the record changes as a lone bar's does
   abbrev pub RecordObeys : Tracking K → ℕ → Command K → ℕ → Result Drawn Refusal → Board K T → Board K T → Type 0
   RecordObeys m number command now answer old new =
       (bar : BarRecord K) → record_at number old ≡ Some bar →
       (bar' : BarRecord K) × (record_at number new ≡ Some bar') × RecordGoes m (Obey command) now answer bar bar'
 
-  -- one was to be taken in: a new bar's number had no record, and has the bar's now; where it was turned away, or was there
-  -- already, all stay
+  -- a candidate was to be inserted: a new bar's number had no record, and has the bar's now; if it was refused, or was there already, all records are unchanged
   abbrev pub RecordsTake : Entrant (BarRecord K) → Answer → Board K T → Board K T → Type 0
   RecordsTake (New bar) (Given id) old new =
       (id.mark ≡ old.mark) × (record_at id.number old ≡ None) × (record_at id.number new ≡ Some bar) × OtherRecordsStay id.number old new
   RecordsTake _ _ old new = RecordsStay old new
 
-  -- one was to be taken in there: a new bar stands there, and has the slot that was freed last, or where none was free the first
-  -- that was never used; where it was turned away, or was there already, each bar stands where it stood, with the slot that it had
+  -- a candidate was to be inserted at a place: a new bar stands there, and has the slot that was freed last, or if none was free the first unused one; if it was refused, or was there already, each
+  -- bar keeps its place and its slot
   abbrev pub SlotsTake : Location → Entrant (BarRecord K) → Answer → Board K T → Board K T → Type 0
   SlotsTake at (New bar) (Given id) old new =
       (slot_of id.number (slots_of new) ≡ Some (next_slot (slots_of old))) × (slots_of new ≡ seated (seat_in at (slots_of old).order) (slots_of old))
   SlotsTake at _ _ old new = slots_of new ≡ slots_of old
 
-  -- one was to be taken out: it left its slot, or it wasn't there
+  -- a bar was to be removed: it left its slot, or it wasn't there
   abbrev pub SlotsGive : Option (BarRecord K) → Board K T → Board K T → Type 0
   SlotsGive out old new = MatchOption out (slots_of new ≡ slots_of old) (λ bar. LeavesFrom (slots_of old) (slots_of new))
 
@@ -122,7 +120,7 @@ module _ {K T : Type 0} where
   abbrev pub HeadHasRecord : Board K T → Type 0
   HeadHasRecord b = HeadIsOwned b.shown
 
-  -- what a call with this answer made of the slots
+  -- how a call with this answer changes the slots
   abbrev pub SlotsChange : Call (BarRecord K) (Command K) → Answer → Board K T → Board K T → Type 0
   SlotsChange (Insert at entrant) answer old new = SlotsTake at entrant answer old new
   SlotsChange (Remove id) answer old new = (slots_of new ≡ slots_of old) ⊎ LeavesFrom (slots_of old) (slots_of new)
@@ -130,15 +128,15 @@ module _ {K T : Type 0} where
   SlotsChange (Align bottom) answer old new = slots_of new ≡ slots_of old
   SlotsChange _ answer old new = SlotsLeft old new × (answer ≡ Drew Yes → HeadHasRecord new) × (answer ≢ Drew Yes → slots_of new ≡ slots_of old)
 
-  -- the bar of this number has this slot, or stands in the order no more
+  -- the bar with this number has this slot, or has left the order
   abbrev pub StaysInSlot : ℕ → ℕ → Board K T → Type 0
   StaysInSlot number slot b = (slot_of number (slots_of b) ≡ Some slot) ⊎ (slot_of number (slots_of b) ≡ None)
 
-  -- a call named a bar: of a bar of this board it made what is said, and others stay; of another board's, all stay
+  -- a call named a bar: a bar of this board changes as stated, and the others are unchanged; for another board's bar, all are unchanged
   abbrev pub NamedGoes : Id → Type 0 → Board K T → Board K T → Type 0
   NamedGoes id goes old new = (id.mark ≡ old.mark → goes) × (id.mark ≢ old.mark → RecordsStay old new) × OtherRecordsStay id.number old new
 
-  -- what a call with this answer made of the records
+  -- how a call with this answer changes the records
   abbrev pub RecordsChange : Tracking K → Call (BarRecord K) (Command K) → ℕ → Answer → Board K T → Board K T → Type 0
   RecordsChange m (Insert at entrant) now answer old new = RecordsTake entrant answer old new
   RecordsChange m (Remove id) now answer old new = NamedGoes id (record_at id.number new ≡ None) old new
@@ -146,19 +144,18 @@ module _ {K T : Type 0} where
   RecordsChange m (Tell id command) now answer old new = NamedGoes id (RecordObeys m id.number command now (drawn_of answer) old new) old new
   RecordsChange m _ now answer old new = RecordsStay old new
 
-  -- the record of a number is as before; or it had none, and one of these answers gave the bar of that number
+  -- the record of a number is unchanged; or it had none, and one of these answers gave the bar with that number
   abbrev pub StaysOrComes : ℕ → List AnswerValue → Board K T → Board K T → Type 0
   StaysOrComes number answers old new =
       (record_at number new ≡ record_at number old) ⊎ ((record_at number old ≡ None) × IsTrue (list_any (λ answer. gives number (answer_of answer)) answers))
 
-  -- whatever state the board may have been in, there is one that it is in now, and the call led from the one to the other with
-  -- this answer
+  -- for each state that the board may have been in, there is one that it is in now, and the call led from one to the other with this answer
   abbrev pub LeadsBy : Tracking K → (T → TermView) → Board K T → Board K T → Call (BarRecord K) (Command K) → ℕ → Answer → Type 0
   LeadsBy m view old new call now answer =
       (mark : ℕ) (s : BoardState (BarRecord K)) → IsIn mark old s →
       (next : BoardState (BarRecord K)) × IsIn mark new next × CallMade (board (board_bars m) mark) (known view old) (known view new) (call, now) s answer next
 
-  -- the same of a board that was suspended: it was cleared and drawn again; or the clear was refused, and nothing drawn
+  -- a board was suspended: it was cleared and drawn again; or the clear was refused, and nothing drawn
   abbrev pub Suspends : Tracking K → (T → TermView) → Board K T → Board K T → ℕ → Result Drawn Refusal → Type 0
   Suspends m view old new now answer =
       (mark : ℕ) (s : BoardState (BarRecord K)) → IsIn mark old s → let machine = board (board_bars m) mark in
@@ -166,6 +163,6 @@ module _ {K T : Type 0} where
       × (((cleared : Drawn) × Runs machine ((Clear, now) ∷ (Redraw, now) ∷ []) (Drew cleared ∷ says answer ∷ []) (known view old) s (known view new) next)
       ⊎ ((e : Refusal) × (answer ≡ Err e) × Runs machine ((Clear, now) ∷ []) (Refused e ∷ []) (known view old) s (known view new) next))
 
--- a board with other rows, as its terminal gets another size
+-- a board whose terminal gets another size
 abbrev pub board_sizing : {K : Type 0} → (m : Tracking K) (mark : ℕ) → Sizing (board (board_bars m) mark)
 board_sizing m mark = record { put = λ l s. record s { lists = l }; lists_are = λ l s. refl }

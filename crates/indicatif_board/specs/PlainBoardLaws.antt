@@ -12,12 +12,12 @@ use Rattle.indicatif_board.specs.Boards.{BoardState, Entrant, New, Old, Call, In
 use Rattle.indicatif_board.specs.BoardBars.{board_bars}
 
 module _ {K : Type 0} (m : Tracking K) where
-  -- the texts of a bar that is to be taken in
+  -- the texts of a candidate are plain
   abbrev pub IsPlainEntrant : Entrant (BarRecord K) → Type 0
   IsPlainEntrant (New bar) = IsPlainBar m bar
   IsPlainEntrant (Old id) = Unit {0}
 
-  -- those of a call of a board
+  -- the texts of a board's call are plain
   abbrev pub IsPlainCall : Call (BarRecord K) (Command K) → Type 0
   IsPlainCall (Insert at entrant) = IsPlainEntrant entrant
   IsPlainCall (Log text) = All IsPlainText (logged_lines text)
@@ -25,17 +25,16 @@ module _ {K : Type 0} (m : Tracking K) where
   IsPlainCall (Tell id command) = IsPlainCommand m command
   IsPlainCall _ = Unit {0}
 
-  -- those of a bar on a board
+  -- the texts of a bar on a board are plain
   pub record IsPlainMember (member : Member (BarRecord K)) : Type 0 where
     pub bar : IsPlainBar m member.bar
     pub stored : IsTrue (are_plain member.stored)
 
-  -- those of a board between two calls
+  -- the texts of a board between two calls are plain
   abbrev pub IsPlainBoard : BoardState (BarRecord K) → Type 0
   IsPlainBoard s = All IsPlainMember s.members
 
--- where all these texts are plain, so is every run, and the headline holds of it; and the board's texts are plain at its end, so that
--- what comes after it is plain too
+-- if all these texts are plain, so is every run, and the headline holds of it; the board's texts are plain at its end too, so the next run can be plain as well
 abbrev pub BoardRunsArePlain : {K : Type 0} → Tracking K → Type 0
 BoardRunsArePlain {K} m = (mark : ℕ) (calls : List (Call (BarRecord K) (Command K) × ℕ)) (answers : List Answer) (old : Option TermView)
     (s : BoardState (BarRecord K)) (new : Option TermView) (next : BoardState (BarRecord K))

@@ -1,4 +1,4 @@
--- A board with its calls and answers: what they are as definitions, and what a call adds to them.
+-- A board with its calls and answers: their definitions, and what a call adds to them.
 use Rattle.std.specs.Prelude.{◌≡◌, ℕ, true, false, List, [], ◌∷◌, ◌++◌, map, Option, Some, None, if◌then◌else◌}
 use Rattle.std.specs.declared.io.ErrorKind.{ErrorKind}
 use Rattle.std.specs.declared.io.ErrorKind.TheVariants.{Other}
@@ -34,7 +34,7 @@ answers_of = map (λ e. e.answer)
 
 -- ---- what is stored
 
--- a target by the size of its terminal; without one it is hidden
+-- a target by the size of its terminal; a hidden one without a size
 abbrev pub target_by : Option Size → Target
 target_by None = record { hidden = true; columns = 0; rows = 0 }
 target_by (Some size) = record { hidden = false; columns = size.columns; rows = size.rows }
@@ -47,7 +47,7 @@ BoardStep K = CallStep (Call (BarRecord K) (Command K)) Answer
 abbrev pub step_of : {K : Type 0} → Entry K → BoardStep K
 step_of e = record { call = call_of e.call; now = e.now; answer = answer_of e.answer }
 
--- a board, the mark, the limiter and the target that it began with, and the steps that it has made since
+-- a board, the mark, the limiter and the target of its opening, and the steps since then
 pub record Record (K T : Type 0) : Type 0 where
   pub mark : ℕ
   pub limiter : Option Limiter
@@ -55,25 +55,24 @@ pub record Record (K T : Type 0) : Type 0 where
   pub board : Board K T
   pub steps : List (BoardStep K)
 
--- a terminal of this size that tells nothing, with so many faults, the last of this kind; none where the target is hidden
+-- a terminal with this size whose state can't be read, with this many faults, the last of this kind; none if the target is hidden
 abbrev pub untold : Target → ℕ → ErrorKind → Option TermView
 untold target faults kind =
     if target.hidden then None else Some (record { told = Nothing; columns = target.columns; rows = target.rows; faults = faults; kind = kind })
 
 module _ {K T : Type 0} where
-  -- the steps are a run from the opening on, all on a target of the opening's size, and the board is where that run ends; this was
-  -- known of the target when it began, and this is in the end
+  -- the steps are a run from the opening on, all on a target of the opening's size, and the board is where that run ends; the first was known of the target at its start, and the second at its end
   pub record IsRun (m : Tracking K) (opened : Option TermView) (r : Record K T) (last : Option TermView) : Type 0 where
     pub size : target_of opened ≡ r.target
     pub state : BoardState (BarRecord K)
     pub holds : IsIn r.mark r.board state
     pub runs : Runs (board (board_bars m) r.mark) (calls_of r.steps) (answers_of r.steps) opened (opening_board r.limiter) last state
 
-  -- they are one run, whatever the terminal tells: what is claimed of a terminal of this size that tells nothing holds of it
+  -- they are one run, whatever is known of the terminal: clauses about a terminal of this size whose state can't be read hold of it
   abbrev pub IsOneRun : Tracking K → Record K T → Type 0
   IsOneRun m r = (faults : ℕ) × (kind : ErrorKind) × IsRun m (untold r.target 0 Other) r (untold r.target faults kind)
 
-  -- the board made this call, with this answer, and exactly that was added
+  -- the board made this call, with this answer, and exactly that step was added
   pub record AddsCall (m : Tracking K) (view : T → TermView) (old : Record K T) (call : Call (BarRecord K) (Command K)) (now : ℕ) (answer : Answer) (new : Record K T) : Type 0 where
     pub mark : new.mark ≡ old.mark
     pub limiter : new.limiter ≡ old.limiter
@@ -82,11 +81,11 @@ module _ {K T : Type 0} where
     pub size : target_of (known view old.board) ≡ old.target
     pub steps : new.steps ≡ old.steps ++ record { call = call; now = now; answer = answer } ∷ []
     pub leads : LeadsBy m view old.board new.board call now answer
-    -- what it made of the slots and the records, as of a board without its history
+    -- its effect on the slots and the records, as for a board without its history
     pub slots : SlotsChange call answer old.board new.board
     pub records : RecordsChange m call now answer old.board new.board
 
--- the bar that a call hands back which was answered so: a new one that was turned away, or one that was removed
+-- the bar that a call with this answer hands back: a new one that was refused, or one that was removed
 abbrev pub handed_back : {K : Type 0} → Call (BarRecord K) (Command K) → Answer → BarRecord K → List (Member (BarRecord K)) → Option (BarRecord K)
 handed_back (Insert at (New bar)) (Refused e) other members = Some bar
 handed_back (Remove id) Done other members = if is_member id.number members then Some (said_of other (λ b. b) id.number members) else None

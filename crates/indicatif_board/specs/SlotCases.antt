@@ -2,11 +2,11 @@
 use Rattle.std.specs.Prelude.{◌≡◌, [], ◌∷◌, Some, None}
 use Rattle.indicatif_board.specs.Slots.{SlotTable, opening_slots, seated, unseated, head_unseated, slot_of}
 
--- three bars, each behind the others
+-- three bars, each inserted after the others
 abbrev pub three : SlotTable
 three = seated 2 (seated 1 (seated 0 opening_slots))
 
--- the second one leaves; the next bar has its slot, at the top of the order, and the one after that a new slot, behind all
+-- the second one leaves; the next bar gets its slot, at the top of the order, and the one after that a new slot, at the end
 abbrev pub one_left : SlotTable
 one_left = seated 9 (seated 0 (unseated 1 three))
 

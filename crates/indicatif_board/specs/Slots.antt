@@ -1,19 +1,19 @@
--- The order of a board's bars by their numbers, and the slots that they have.
+-- The order of a board's bars by their numbers, and their slots.
 use Rattle.std.specs.Prelude.{◌≡◌, ℕ, ◌+◌, ◌-◌, ◌^◌, ◌<◌, ◌≤◌, ◌==◌, List, [], ◌∷◌, ◌++◌, take, drop, get_or, length, Option, Some, None, if◌then◌else◌}
 use Rattle.std.specs.List.{insert, remove}
 
--- bars in an order, and the slots that have none
+-- bars in an order, and the free slots
 pub record SlotTable : Type 0 where
   -- the bars' numbers, from the top
   pub order : List ℕ
   -- their slots, at the same places
   pub slots : List ℕ
-  -- the slots without a bar, the one that was freed last at the end
+  -- the slots without a bar, the last freed one at the end
   pub free : List ℕ
-  -- how many bars were ever taken in; the next one's number
+  -- how many bars were ever inserted: the next bar's number
   pub made : ℕ
 
--- how many bars were ever taken in, by the number of the next; none is left past 2 ^ 64
+-- how many bars were ever inserted, by the number of the next; no number is left after 2 ^ 64
 abbrev pub made_by : Option ℕ → ℕ
 made_by None = 2 ^ 64
 made_by (Some number) = number
@@ -22,11 +22,11 @@ made_by (Some number) = number
 abbrev pub opening_slots : SlotTable
 opening_slots = record { order = []; slots = []; free = []; made = 0 }
 
--- the slot that the next bar gets: the one that was freed last; where none is free, the first that was never used
+-- the slot that the next bar gets: the last freed one; if none is free, the first unused one
 abbrev pub next_slot : SlotTable → ℕ
 next_slot t = get_or t.free (length t.free - 1) (length t.slots)
 
--- a new bar where so many stand before it; behind all others where there are fewer
+-- a new bar inserted after the first `at` bars; after all others if there are fewer
 abbrev pub seated : ℕ → SlotTable → SlotTable
 seated at t = record {
   order = insert t.order at t.made;
@@ -35,7 +35,7 @@ seated at t = record {
   made = t.made + 1;
 }
 
--- the bar at a place taken out, if there is one: its slot is free
+-- the bar at a place removed, if there is one: its slot is free
 abbrev pub unseated : ℕ → SlotTable → SlotTable
 unseated at t = record t {
   order = remove t.order at;
@@ -43,7 +43,7 @@ unseated at t = record t {
   free = t.free ++ take 1 (drop at t.slots);
 }
 
--- so many bars at the head taken out, one after another
+-- the given number of bars at the head removed, one after another
 abbrev pub head_unseated : ℕ → SlotTable → SlotTable
 head_unseated count t = record t {
   order = drop count t.order;
@@ -72,12 +72,12 @@ abbrev pub occurrences : ℕ → List ℕ → ℕ
 occurrences n [] = 0
 occurrences n (x ∷ xs) = if x == n then 1 + occurrences n xs else occurrences n xs
 
--- each bar stands in the order once and has a slot of its own
+-- each bar stands in the order once and has its own slot
 pub record IsSeated (t : SlotTable) : Type 0 where
   pub even : length t.order ≡ length t.slots
-  -- no bar stands there twice, and none that was not taken in
+  -- no bar stands there twice, and each was inserted
   pub apart : (number : ℕ) → occurrences number t.order ≤ 1
   pub given : (number : ℕ) → t.made ≤ number → occurrences number t.order ≡ 0
-  -- each slot that was ever used has one bar or is free, not both; there are as many as bars and free ones
+  -- each used slot either has one bar or is free; their number is that of bars and free slots
   pub used : (slot : ℕ) → slot < length t.slots + length t.free → occurrences slot t.slots + occurrences slot t.free ≡ 1
   pub unused : (slot : ℕ) → length t.slots + length t.free ≤ slot → occurrences slot t.slots + occurrences slot t.free ≡ 0

@@ -8,8 +8,8 @@
 /// ```
 #[derive(Clone, Copy, Debug, Drop, PartialEq, Eq)]
 pub struct BarId {
-    /// The board's mark: a number that its maker chose.
+    /// The board's mark: a number that you chose when you made the board.
     pub mark: u64,
-    /// The bar's number, counted from 0 as bars were taken in.
+    /// The bar's number, counted from 0 in the order of insertion.
     pub number: u64,
 }

@@ -1,4 +1,4 @@
-//! Lines of a log above the bars of a board.
+//! Log lines above the bars of a board.
 ghost use Rattle.std.specs.Prelude.{◌≡◌, ◌⊎◌, ◌++◌, ◌+◌, ◌<◌, ◌≤◌, ◌∷◌, [], IfErr, OnOk, OnErr, Err, IsFalse, length, string_bytes, string_len, string_capacity};
 ghost use Rattle.indicatif_bar.specs.Runs.{wrote};
 ghost use Rattle.indicatif_board.specs.Boards.{Log, says};
@@ -14,7 +14,7 @@ use std::alloc::Global;
 
 /// Appends a record's line: its level in capitals, filled with spaces to five columns, a space, and the text.
 ///
-/// Refused: `Memory`, only where `out` has no room for all of it; `out` is as before then.
+/// Refused: `Memory`, only if `out` has no room for all of it; then `out` is unchanged.
 ///
 /// ```
 /// bridge_line(Level::Warn, "low disk", &mut out)?;
@@ -34,10 +34,10 @@ pub fn bridge_line(level: Level, text: &str, out: &mut String) -> Result<(), Ref
     Ok(())
 }
 
-/// Writes one line of a log above the bars of a board, by force: its level and its text. A text of several lines has its level
-/// before the first alone. On a hidden target the line is dropped.
+/// Writes a log line above the bars of a board, whatever the rate says: its level and its text. In a text of several lines only the first
+/// one has the level. On a hidden target the line is dropped.
 ///
-/// Refused: `Memory` for the line, and nothing has changed then; else what `Board::println` is refused.
+/// Refused: `Memory` for the line, and then nothing has changed; otherwise as `Board::println`.
 ///
 /// ```
 /// let drawn = emit(alloc, &mut board, Level::Error, "no such file", now)?; // `ERROR no such file` stands above the bars
@@ -61,7 +61,7 @@ pub fn emit<K: Tracks, T: TermLike + Drop>(
     board.println(line.as_str(), now)
 }
 
-/// A level as it stands before a text.
+/// A level as the start of a line.
 fn front_of(level: Level) -> &'static str
     ensures { result.now ≡ level_column level ++ 0x20 ∷ [] }
 {
@@ -74,7 +74,7 @@ fn front_of(level: Level) -> &'static str
     }
 }
 
-/// Appends a text for which there is room.
+/// Appends a text, in memory that was taken before.
 fn append(out: &mut String, text: &str)
     requires { string_len out.old + length text.now ≤ string_capacity out.old }
     ensures bytes { string_bytes out.new ≡ string_bytes out.old ++ text.now }

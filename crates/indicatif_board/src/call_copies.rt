@@ -1,4 +1,4 @@
-//! Calls and answers equal to others.
+//! Copies of calls and answers.
 ghost use Rattle.std.specs.Prelude.{◌≡◌, IfOk, IfErr, IsTrue};
 ghost use Rattle.indicatif_board.specs.Calls.{call_of, entrant_of, call_copy_takes, entrant_copy_takes};
 
@@ -9,13 +9,13 @@ use indicatif_text::columns::Refusal;
 use std::alloc::Global;
 
 impl<K: Tracks> Call<K> {
-    /// Another call, equal to this one.
+    /// A copy of the call.
     ///
     /// ```
     /// let again = call.try_clone(alloc)?;
     /// ```
     ///
-    /// Refused: `Memory`, only where it has a new bar, a style, or a text that isn't empty.
+    /// Refused: `Memory`, only if it has a new bar, a style, or a text that isn't empty.
     pub fn try_clone(&self, alloc: Global) -> Result<Call<K>, Refusal>
         ensures same { IfOk result (λ other. call_of other ≡ call_of self.now) }
         ensures memory { IfErr result (λ e. (e ≡ Refusal.Memory) × IsTrue (call_copy_takes (call_of self.now))) }
@@ -38,13 +38,13 @@ impl<K: Tracks> Call<K> {
 }
 
 impl<K: Tracks> Candidate<K> {
-    /// Another candidate, equal to this one.
+    /// A copy of the candidate.
     ///
     /// ```
     /// let again = candidate.try_clone()?;
     /// ```
     ///
-    /// Refused: `Memory`, only where it is a new bar.
+    /// Refused: `Memory`, only if it is a new bar.
     pub fn try_clone(&self) -> Result<Candidate<K>, Refusal>
         ensures same { IfOk result (λ other. entrant_of other ≡ entrant_of self.now) }
         ensures memory { IfErr result (λ e. (e ≡ Refusal.Memory) × IsTrue (entrant_copy_takes (entrant_of self.now))) }
@@ -57,7 +57,7 @@ impl<K: Tracks> Candidate<K> {
 }
 
 impl Answer {
-    /// The same answer once more.
+    /// A copy of the answer.
     ///
     /// ```
     /// let again = answer.same();

@@ -1,4 +1,4 @@
-//! What a board can be asked, and what it answers.
+//! A board's calls and answers, as values.
 ghost use Rattle.std.specs.Prelude.{◌≡◌};
 ghost use Rattle.indicatif_bar.specs.Runs.{is_undisturbed};
 ghost use Rattle.indicatif_board.specs.Boards.{says};
@@ -11,7 +11,7 @@ use indicatif_bar::style::Tracks;
 use indicatif_term::draw_target::MultiProgressAlignment;
 use indicatif_text::columns::{Drawn, Refusal};
 
-/// What is to be taken in.
+/// What to insert.
 ///
 /// ```
 /// let id = board.add(Candidate::New(bar)).map_err(|turned| turned.refusal)?;
@@ -25,7 +25,7 @@ pub enum Candidate<K> {
     Member(BarId),
 }
 
-/// A candidate that was turned away, and why.
+/// A candidate that was refused, and why.
 ///
 /// ```
 /// if let Err(turned) = board.insert_after(id, Candidate::New(bar)) {
@@ -36,11 +36,11 @@ pub enum Candidate<K> {
 pub struct Turned<K> {
     /// The candidate, as it was.
     pub candidate: Candidate<K>,
-    /// Why it was turned away.
+    /// Why it was refused.
     pub refusal: Refusal,
 }
 
-/// Where a bar is to stand in the order.
+/// Where to insert a bar in the order.
 ///
 /// ```
 /// let first = board.add(Candidate::New(bar)).map_err(|turned| turned.refusal)?;
@@ -48,11 +48,11 @@ pub struct Turned<K> {
 /// ```
 #[derive(Clone, Copy, Debug, Drop, PartialEq, Eq)]
 pub enum InsertLocation {
-    /// Behind all others.
+    /// After all others.
     End,
-    /// Where so many bars stand before it, or behind all others where there are fewer.
+    /// After this many bars from the top, or after all if there are fewer.
     Index(usize),
-    /// Where so many bars stand behind it, or before all others where there are fewer.
+    /// Before this many bars at the bottom, or before all if there are fewer.
     FromBack(usize),
     /// Right before this bar.
     Before(BarId),
@@ -68,32 +68,32 @@ pub enum InsertLocation {
 /// ```
 #[derive(Drop)]
 pub enum Call<K> {
-    /// A bar taken in.
+    /// Inserts a bar.
     Insert {
-        /// Where it is to stand in the order.
+        /// Where to insert it in the order.
         at: InsertLocation,
-        /// What is taken in.
+        /// What to insert.
         candidate: Candidate<K>,
     },
-    /// A bar taken out of the order.
+    /// Removes a bar from the order.
     Remove(BarId),
-    /// A bar whose owner is gone.
+    /// Tells the board that a bar's owner is gone.
     Drop(BarId),
-    /// Lines of text above the bars.
+    /// Writes lines of text above the bars.
     Log(String),
-    /// The same, with one bar's lines laid out anew.
+    /// Writes lines of text above the bars, and lays out one bar's lines again.
     BarLog(BarId, String),
-    /// The bars' rows taken back.
+    /// Erases the bars' rows.
     Clear,
-    /// The bars drawn as they were laid out.
+    /// Draws the bars as they were last laid out.
     Redraw,
-    /// Bars at the top or at the bottom of what is taken back.
+    /// Puts bars at the top or at the bottom of the rows that a draw erases.
     Align(MultiProgressAlignment),
-    /// A command of a bar.
+    /// Makes a command of a bar.
     Bar(BarId, BarCommand<K>),
 }
 
-/// What a board answers to a call.
+/// The answer of a board's call.
 ///
 /// ```
 /// board.call(Call::Clear, now) // Answer::Drawn(Drawn::Yes)
@@ -101,9 +101,9 @@ pub enum Call<K> {
 /// ```
 #[derive(Debug, Drop, PartialEq, Eq)]
 pub enum Answer {
-    /// The bar that was taken in, or was there already.
+    /// The bar that was inserted, or was there already.
     Id(BarId),
-    /// It was done, and there is nothing more to say of it.
+    /// It was done, and has no other result.
     Done,
     /// Whether the call drew.
     Drawn(Drawn),
@@ -121,14 +121,14 @@ pub fn draw_answer(drawn: Result<Drawn, Refusal>) -> Answer
     }
 }
 
-/// Whether neither want of memory nor the terminal broke a draw off.
+/// Whether a draw was broken off neither for want of memory nor by the terminal.
 pub fn is_undisturbed(drawn: &Result<Drawn, Refusal>) -> bool
     ensures { result ≡ is_undisturbed drawn.now }
 {
     !matches!(drawn, Err(Refusal::Memory | Refusal::Terminal(_)))
 }
 
-/// The answer of an insertion, and the new bar that was turned away.
+/// The answer of an insertion, and the new bar if it was refused.
 pub fn insertion_answer<K: Tracks>(taken: Result<BarId, Turned<K>>) -> (Answer, Option<BarState<K>>)
     ensures answer { answer_of result.0 ≡ given taken }
     ensures back { result.1 ≡ turned_back taken }
@@ -142,7 +142,7 @@ pub fn insertion_answer<K: Tracks>(taken: Result<BarId, Turned<K>>) -> (Answer, 
     }
 }
 
-/// The answer of a removal, and the bar that was removed.
+/// The answer of a removal, and the removed bar.
 pub fn removal_answer<K: Tracks>(
     removed: Result<Option<BarState<K>>, Refusal>,
 ) -> (Answer, Option<BarState<K>>)
@@ -155,7 +155,7 @@ pub fn removal_answer<K: Tracks>(
     }
 }
 
-/// The new bar that a candidate is.
+/// The bar of a candidate that is a new bar.
 pub fn new_bar_in<K: Tracks>(candidate: Candidate<K>) -> Option<BarState<K>>
     ensures { result ≡ bar_in (entrant_of candidate) }
 {

@@ -2,7 +2,7 @@
 ghost use Rattle.indicatif_board.specs.SlotCases.{UsedAgain, FreedLastFirst, EachItsOwn};
 ghost use Rattle.indicatif_board.specs.BoardCases.{TwoBars, ThreeBarsOnTwo, LeftAbove, BothDropped, BoardAtTheBottom, Ordered, EmptyLog, RemovedLater, WaitsBehind, LongLog, RemovedTwice, TooWideForAll, TwentyDrawsAtOnce, Unseen, DropRefused, BrokenBelow, LateOnBoard, OneIsLeft, OwnText, ClearedRows, ClearedHead, WithoutColumns};
 
-/// What stands after calls of a board.
+/// The rows after calls of a board.
 pub fn rows()
     ensures two_bars { TwoBars }
     ensures three_on_two { ThreeBarsOnTwo }
@@ -15,7 +15,7 @@ pub fn rows()
     ensures long_log { LongLog }
 {}
 
-/// What stands after a bar's own text, and after the bars' rows were taken back.
+/// The rows after a text of one bar, and after the bars' rows were erased.
 pub fn texts_and_clears()
     ensures own_text { OwnText }
     ensures cleared_rows { ClearedRows }
@@ -23,7 +23,7 @@ pub fn texts_and_clears()
     ensures without_columns { WithoutColumns }
 {}
 
-/// What calls of a board answer.
+/// The answers of a board's calls.
 pub fn answers()
     ensures ordered { Ordered }
     ensures removed_twice { RemovedTwice }
@@ -42,7 +42,7 @@ pub fn broken_draws()
     ensures { BrokenBelow }
 {}
 
-/// Bars of the product on a board.
+/// Real bars on a board.
 pub fn bars()
     ensures late_on_board { LateOnBoard }
     ensures one_is_left { OneIsLeft }

@@ -1,8 +1,8 @@
 //! A sum that many threads add to without a lock.
 //!
-//! A `Done` is the sum, shared by reference. A `BarWorker` is the right to add to it: each thread has one of its own, made by
-//! splitting another. Workers hold shares of the sum, which together are the whole; the one that has the whole again, after
-//! all others were joined to it, closes the sum and learns it exactly.
+//! A `Done` is the sum, shared by reference. A `BarWorker` is the right to add to it: each thread has its own, made by splitting another.
+//! Workers hold shares of the sum, which together are the whole; once all others are joined to one, it has the whole again, and can close
+//! the sum and get its exact value.
 //!
 //!     let (done, worker) = Done::new(alloc)?;
 //!     let (mut mine, mut theirs) = worker.split(&done)?;
@@ -23,7 +23,7 @@ use indicatif_text::columns::Refusal;
 use std::alloc::Global;
 use std::marker::Model;
 
-/// What a worker knows. Contracts alone speak of it, with numbers of any size; no value of it is made.
+/// What a worker knows. Only contracts use it, with numbers of any size; no value of it is made.
 ///
 /// ```
 /// fn add_all(done: &Done, mut worker: BarWorker) -> BarWorker // adds 1 a thousand times
@@ -32,13 +32,13 @@ use std::marker::Model;
 pub struct Account {
     /// Its share of the sum, in parts of the whole.
     pub parts: u64,
-    /// What was added by it, and by the workers that were joined to it.
+    /// What it added, with the workers that were joined to it.
     pub added: u64,
     /// The greatest sum that it knows of: at least its own adds, at most the sum.
     pub seen: u64,
 }
 
-/// A sum that workers add to. Contracts see which sum it is.
+/// A sum that workers add to. Contracts see its identity.
 ///
 /// ```
 /// let (done, mut worker) = Done::new(alloc)?;
@@ -64,8 +64,8 @@ impl Model for Done {
     ghost invariant = { λ d. (d.table.shared.table_id.words ≡ 1) × (d.table.shared.table_id.slots ≡ 0) };
 }
 
-/// The right to add to a sum, and a share of it. Contracts see the sum that it adds to, and what its holder knows of it. The sum
-/// that each call is handed is that one.
+/// The right to add to a sum, and a share of it. Contracts see which sum it adds to, and what the worker knows of it. Pass that sum to each
+/// call.
 ///
 /// ```
 /// let (mut first, mut second) = worker.split(&done)?;
@@ -90,9 +90,9 @@ impl Model for BarWorker {
 }
 
 impl Done {
-    /// A sum of 0, and the worker that has the whole share of it.
+    /// A sum of 0, and a worker with the whole share of it.
     ///
-    /// Refused: `Memory`, and nothing is made.
+    /// Refused: `Memory`, nothing is made.
     pub fn new(alloc: Global) -> Result<(Done, BarWorker), Refusal>
         ensures worker { IfOk result (λ made. made.1 ≡ first_worker made.0) }
         ensures memory { IfErr result (λ e. e ≡ Refusal.Memory) }
@@ -101,8 +101,8 @@ impl Done {
         Ok((Done { table }, BarWorker { splits: 0, seat }))
     }
 
-    /// Ends the sum, and answers what was added to it, modulo 2^64. The worker has the whole share: every other worker of
-    /// this sum was joined to it. No total that one of them read was more than was added.
+    /// Ends the sum, and returns its value, modulo 2^64. The worker must hold the whole share: every other worker of this sum was joined to
+    /// it. No `total` that a worker read was greater than what was added.
     pub fn close(self, worker: BarWorker) -> u64
         requires of { worker.adds_to ≡ self }
         requires whole { worker.account.parts ≡ whole_share }
@@ -117,7 +117,7 @@ impl Done {
 }
 
 impl BarWorker {
-    /// Adds `n` to the sum, which wraps at 2^64. Takes no memory and waits for nobody.
+    /// Adds `n` to the sum, modulo 2^64. Takes no memory and never waits.
     pub fn add(&mut self, done: &Done, n: u64)
         requires of { self.old.adds_to ≡ done.now }
         ensures added { self.new ≡ with_account (after_adding n self.old.account) self.old }
@@ -125,8 +125,8 @@ impl BarWorker {
         done.table.shared.fetch_add::<Adds>(&mut self.seat, 0, n);
     }
 
-    /// The sum as it stands, modulo 2^64: at least all that this worker had seen, its own adds among it. Other workers may
-    /// have added more by the time the caller looks at it. Takes no memory and waits for nobody.
+    /// The current sum, modulo 2^64: at least all that this worker had seen, including its own adds. Other workers may add more before you
+    /// use the result. Takes no memory and never waits.
     pub fn total(&mut self, done: &Done) -> u64
         requires of { self.old.adds_to ≡ done.now }
         ensures sum { ReadsSum self.old.account result self.new.account }
@@ -135,11 +135,10 @@ impl BarWorker {
         done.table.shared.load::<Totals>(&mut self.seat, 0)
     }
 
-    /// Two workers in place of this one, each with half of its share. The first has all that was added; both have seen what
-    /// this one had.
+    /// Splits this worker into two, each with half of its share. The first has all that was added; both have seen what this one had seen.
     ///
-    /// Refused: `Memory`, after 2^64 - 1 splits in a row, which no program makes. The worker is given up then, and the sum
-    /// can't be closed any more.
+    /// Refused: `Memory`, after 2^64 - 1 splits in a row, which no program makes. Then the worker is dropped, and the sum can't be closed
+    /// any more.
     pub fn split(self, done: &Done) -> Result<(BarWorker, BarWorker), Refusal>
         requires of { self.adds_to ≡ done.now }
         ensures first { IfOk result (λ halves. halves.0 ≡ split_into (own_half self.account) self) }
@@ -159,8 +158,7 @@ impl BarWorker {
         ))
     }
 
-    /// One worker in place of this one and `other`, with both shares and all that either added or saw. Takes no memory and
-    /// waits for nobody.
+    /// Joins this worker and `other` into one, with both shares and all that either added or saw. Takes no memory and never waits.
     pub fn join(self, other: BarWorker, done: &Done) -> BarWorker
         requires of { self.adds_to ≡ done.now }
         requires other_of { other.adds_to ≡ done.now }
@@ -171,10 +169,10 @@ impl BarWorker {
         BarWorker { splits, seat }
     }
 
-    /// `count` workers, at least 1, in place of this one, by splitting halves of halves: however many are asked for, shares don't run out.
+    /// Splits this worker into `count` workers, at least 1, by splitting halves of halves: shares don't run out.
     ///
-    /// Refused: `Memory`, where the list's memory was refused (or after some 2^64 splits in a row). The worker is given up
-    /// then, and the sum can't be closed any more.
+    /// Refused: `Memory`, for want of memory for the list (or after some 2^64 splits in a row). Then the worker is dropped, and the sum
+    /// can't be closed any more.
     pub fn split_among(
         self,
         alloc: Global,
@@ -192,8 +190,7 @@ impl BarWorker {
         Ok(workers)
     }
 
-    /// One worker in place of all of these, with all their shares and all that any of them added; none in place of none. What one of
-    /// them had seen, it has seen.
+    /// Joins all these workers into one, with all their shares and all that any of them added or saw; `None` if there are none.
     pub fn join_all(workers: Vec<BarWorker>, done: &Done) -> Option<BarWorker>
         requires of { All (λ w. w.adds_to ≡ done.now) workers.items }
         ensures none { IsNone result ↔ (workers.items ≡ []) }

@@ -1,4 +1,4 @@
-//! The bars of a board for which its terminal may have rows.
+//! The bars of a board that its terminal may have rows for.
 ghost use Rattle.std.specs.Prelude.{◌≡◌, ◌⊎◌, ◌≤◌, Bool, Result, map, min, take, length};
 ghost use Rattle.indicatif_term.specs.Frames.{all_lines, bar_lines};
 ghost use Rattle.indicatif_term.specs.declared.engine.Engine.{Engine};
@@ -11,11 +11,11 @@ use indicatif_bar::stage::Writing;
 use indicatif_term::draw_target::{Engine, Segment};
 use indicatif_term::term_like::TermLike;
 
-/// No character takes more columns than these. So on a terminal that has as many, no line is too wide.
+/// The width of the widest character. On a terminal with as many columns no line is too wide.
 const WIDEST: u16 = 3;
 
-/// How many bars from the front are looked at, of a frame whose first `gone` bars are those that are gone: what is put of these is put of all.
-/// Bars below the terminal's last row aren't, unless one of their lines may be too wide: each line takes a row at least.
+/// How many bars from the front have to be considered, in a frame whose first `gone` bars are gone: what fits of these fits of all. Bars
+/// below the terminal's last row aren't, unless one of their lines may be too wide: each line takes at least one row.
 pub fn bars_in_window<T: TermLike + Drop>(
     engine: &Engine<T>,
     frame: &[Segment],
@@ -46,7 +46,7 @@ fn drawn_from(writing: &Writing<'_>, gone: usize) -> usize
     }
 }
 
-/// How many bars from the front have so many lines together; all, where they have fewer.
+/// How many bars from the front have `lines` lines together; all if they have fewer.
 fn bars_with_lines(frame: &[Segment], lines: usize) -> usize
     ensures within { result ≤ length frame.now }
     ensures enough { (result ≡ length frame.now) ⊎ (lines ≤ length (all_lines (map bar_lines (take result frame.now)))) }

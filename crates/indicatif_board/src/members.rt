@@ -21,7 +21,7 @@ pub struct Member<K> {
     pub dropped: bool,
 }
 
-/// A member in a room of its own, so that one that is taken in or out moves no other's record.
+/// A member in its own allocation, so that inserting or removing one moves no other's record.
 #[derive(Drop)]
 pub struct Seated<K> {
     member: Box<Member<K>>,
@@ -37,7 +37,7 @@ impl<K> Model for Seated<K> {
 }
 
 impl<K: Tracks> Seated<K> {
-    /// A bar with its owner. It comes back where it finds no room.
+    /// A bar with its owner. It comes back if there is no memory for it.
     pub fn new(alloc: Global, bar: BarState<K>) -> Result<Seated<K>, BarState<K>>
         ensures { MatchResult result (λ m. m ≡ record { bar = bar; dropped = false }) (λ b. b ≡ bar) }
     {
@@ -55,7 +55,7 @@ impl<K: Tracks> Seated<K> {
         &self.member.bar
     }
 
-    /// Its bar, alone.
+    /// Takes its bar out.
     pub fn into_bar(self) -> BarState<K>
         ensures { result ≡ self.bar }
     {
@@ -69,7 +69,7 @@ impl<K: Tracks> Seated<K> {
         self.member.dropped
     }
 
-    /// Its bar is told something, as `BarState::tell`.
+    /// Makes a command of its bar, as `BarState::tell`.
     pub fn obey<S: Text>(&mut self, command: BarCommand<K, S>, now: Moment) -> Result<Ask, Refusal>
         ensures done { IfOk result (λ ask. (self.new.bar, ask) ≡ obeyed K.means (command_as S.bytes command) self.old.bar now) }
         ensures unchanged { OnErr result (self.new.bar ≡ self.old.bar) }
@@ -81,7 +81,7 @@ impl<K: Tracks> Seated<K> {
         self.member.bar.tell(command, now)
     }
 
-    /// Its bar's owner is gone, as `BarState::dropped`; the member itself doesn't say so yet.
+    /// Finishes its bar as `BarState::dropped`; the member isn't marked as ownerless yet.
     pub fn lose_owner(&mut self, now: Moment) -> Result<Ask, Refusal>
         ensures done { IfOk result (λ ask. (self.new.bar, ask) ≡ after_drop self.old.bar now) }
         ensures unchanged { OnErr result (self.new.bar ≡ self.old.bar) }
@@ -92,7 +92,7 @@ impl<K: Tracks> Seated<K> {
         self.member.bar.dropped(now)
     }
 
-    /// Its owner is gone.
+    /// Marks it as ownerless.
     pub fn set_ownerless(&mut self)
         ensures { self.new ≡ record self.old { dropped = true } }
     {
@@ -112,7 +112,7 @@ pub fn leading<K: Tracks>(members: &VecDeque<Seated<K>>) -> usize
     members.len()
 }
 
-/// The place of a bar's number in an order; past its end where it isn't there.
+/// The place of a bar's number in an order; past its end if it isn't there.
 pub fn place_of_bar(order: &[u64], bar: u64) -> usize
     ensures { result ≡ position_or_len (λ n. n == bar) order.now }
 {
@@ -124,7 +124,7 @@ pub fn place_of_bar(order: &[u64], bar: u64) -> usize
     order.len()
 }
 
-/// Takes the first ones away. Takes no memory.
+/// Removes the first `count` items. Takes no memory.
 pub fn drop_front<X: Drop>(items: &mut Vec<X>, count: usize)
     requires { count ≤ vec_len items.old }
     ensures { items.new.items ≡ drop count items.old.items }
@@ -135,7 +135,7 @@ pub fn drop_front<X: Drop>(items: &mut Vec<X>, count: usize)
     items.drain(..count);
 }
 
-/// Puts one in where there is room for it.
+/// Inserts an item, in memory that was taken before.
 pub fn put_at<X: Drop>(items: &mut Vec<X>, at: usize, item: X)
     requires within { at ≤ vec_len items.old }
     requires room { vec_len items.old < vec_capacity items.old }
@@ -146,7 +146,7 @@ pub fn put_at<X: Drop>(items: &mut Vec<X>, at: usize, item: X)
     }
 }
 
-/// Puts these behind all others, where there is room for them.
+/// Appends items, in memory that was taken before.
 fn put_behind(items: &mut Vec<usize>, more: &[usize])
     requires room { vec_len items.old + length more.now ≤ vec_capacity items.old }
     ensures items { items.new.items ≡ items.old.items ++ more.now }
@@ -159,7 +159,7 @@ fn put_behind(items: &mut Vec<usize>, more: &[usize])
 
 // ---- queues, whose shorter side moves where one is put in or taken out
 
-/// Puts one in where there is room for it.
+/// Inserts an item, in memory that was taken before.
 pub fn queue_at<X: Drop>(items: &mut VecDeque<X>, at: usize, item: X)
     requires within { at ≤ deque_len items.old }
     requires room { deque_len items.old < deque_capacity items.old }
@@ -174,7 +174,7 @@ pub fn queue_at<X: Drop>(items: &mut VecDeque<X>, at: usize, item: X)
     }
 }
 
-/// Takes the one at a place out.
+/// Removes the item at a place.
 pub fn take_at<X: Drop>(items: &mut VecDeque<X>, at: usize) -> X
     requires within { at < deque_len items.old }
     ensures value { result ≡ slice_index_or items.old.items at result }
@@ -186,7 +186,7 @@ pub fn take_at<X: Drop>(items: &mut VecDeque<X>, at: usize) -> X
     items.remove(at).unwrap()
 }
 
-/// Takes the first ones away. Takes no memory.
+/// Removes the first `count` items. Takes no memory.
 pub fn take_front<X: Drop>(items: &mut VecDeque<X>, count: usize)
     requires { count ≤ deque_len items.old }
     ensures { items.new.items ≡ drop count items.old.items }
@@ -197,7 +197,7 @@ pub fn take_front<X: Drop>(items: &mut VecDeque<X>, count: usize)
     items.drain(..count);
 }
 
-/// Moves the first ones away, behind others, where there is room for them. Takes no memory.
+/// Moves the first `count` items to the end of `others`, in memory that was taken before.
 pub fn move_front(items: &mut VecDeque<usize>, count: usize, others: &mut Vec<usize>)
     requires within { count ≤ deque_len items.old }
     requires room { vec_len others.old + count ≤ vec_capacity others.old }

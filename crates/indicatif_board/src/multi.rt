@@ -1,8 +1,8 @@
 //! A board: several bars on one target, in an order.
 //!
-//! What it is and how it draws stands here. Beside it, all private:
+//! The board and its draws are here. The modules below are private:
 //!
-//! - `insertions`: how bars come into the order; `leaving`: how they leave it.
+//! - `insertions`: how bars enter the order; `leaving`: how they leave it.
 //! - `runs`: its calls as values, one or a list.
 ghost use Rattle.std.specs.Prelude.{◌≡◌, ◌≢◌, ◌==◌, ◌↔◌, ◌⊎◌, ◌<◌, ◌∷◌, [], ℕ, Bool, Option, Some, None, Ok, Err, is_some, false, option_map, IsTrue, IsFalse, IfOk, IfErr, IfSome, MatchResult, OnErr, if◌then◌else◌};
 ghost use Rattle.std.specs.VecDeque.{deque_len};
@@ -40,17 +40,16 @@ use std::alloc::Global;
 
 /// Several bars on one target, a terminal or none, in an order, with text above them.
 ///
-/// It is made where the terminal's cursor is at the front of a row with nothing in that row or below. From then on the rows
-/// above that one stay as they are; the text lines that were logged follow them, and the rows of bars that are gone; then come
-/// the bars. Nobody else writes to the terminal while the board lives, and the bars' lines hold printable characters and colour
-/// sequences alone.
+/// Make it while the terminal's cursor is at the front of a row, with nothing in that row or below. The rows above that one stay as they
+/// are; the text lines that were logged follow them, and the rows of bars that are gone; then come the bars. Nobody else may write to the
+/// terminal while the board exists, and the bars' lines hold only printable characters and colour sequences.
 ///
-/// A call that names a bar is refused with `ForeignBar` where the bar has another board's mark, and with `NotMember` where it was
-/// removed, dropped or never given; nothing has changed then. (`remove` answers `None` in place of `NotMember`, and `slot` in place
-/// of both.) Else a call that draws goes the steps that `LoneBar` lists, with the
-/// stored lines of all bars in their order in the place of its own; of the bars only the one that is named is laid out anew, and that
-/// before the limiter is asked. As many lines from the front are shown as have at most the terminal's rows together. A draw that was answered with `Yes` takes the
-/// dropped bars at the head of the order out of it. After `Terminal` no bar leaves the order, and the next draw begins on a new row.
+/// A call that names a bar is refused with `ForeignBar` if the bar has another board's mark, and with `NotMember` if it was removed,
+/// dropped or never given; then nothing has changed. (`remove` returns `None` in place of `NotMember`, and `slot` in place of both.)
+/// Otherwise a call that draws goes through the steps that `LoneBar` lists, with the stored lines of all bars in their order in place of
+/// its own. Only the named bar is laid out again, before the limiter is asked. The lines from the top are shown that fit on the terminal's
+/// rows. A draw that was answered with `Yes` removes the dropped bars at the head of the order. After `Terminal` no bar leaves the order,
+/// and the next draw begins on a new row.
 ///
 /// ```
 /// let mut board: Board<NoTracker, _> = Board::new(alloc, ProgressDrawTarget::term_like(term), 1);
@@ -76,7 +75,7 @@ impl<K: Tracks, T: TermLike + Drop> Board<K, T> {
     ghost use Rattle.indicatif_board.specs.Multi.{IsIn, IsNowhere, Keeps, mark_of, record_at, RecordsStay, OtherRecordsStay, RecordObeys};
     ghost use Rattle.indicatif_board.specs.Multi.{SlotsLeft, HeadHasRecord, LeadsBy, Suspends, known, moves_of, slots_of, terminal_of};
 
-    /// A board without bars on this target, of this mark. It takes no memory and writes nothing.
+    /// A board without bars on this target, with this mark. It takes no memory and writes nothing.
     pub fn new(alloc: Global, target: ProgressDrawTarget<T>, mark: u64) -> Self
         ensures state { IsIn mark result (opening_board (limiter_of target)) }
         ensures mark { mark_of result ≡ mark }
@@ -91,7 +90,7 @@ impl<K: Tracks, T: TermLike + Drop> Board<K, T> {
         }
     }
 
-    /// The terminal; `None` where the target is hidden.
+    /// The terminal; `None` if the target is hidden.
     pub fn term(&self) -> Option<&T>
         ensures { option_map (λ t. t.now) result ≡ terminal_of self.now }
     {
@@ -121,8 +120,8 @@ impl<K: Tracks, T: TermLike + Drop> Board<K, T> {
         Ok(self.shown.members[at].bar())
     }
 
-    /// The bars' numbers in their order, from the top. A bar that was dropped stands there until it leaves. The board is in some
-    /// state: of that, and of each other that it may be in, hold the claims of its calls.
+    /// The bars' numbers in their order, from the top. A dropped bar stands there until it leaves. The board is in some state; the clauses
+    /// of its calls hold for each state that it may be in.
     pub fn order(&self) -> &[u64]
         ensures some { (s : BoardState (BarRecord K)) × IsIn (mark_of self.now) self.now s }
         ensures order { (mark : ℕ) (s : BoardState (BarRecord K)) → IsIn mark self.now s → result.now ≡ order_of s.members }
@@ -133,9 +132,9 @@ impl<K: Tracks, T: TermLike + Drop> Board<K, T> {
         self.shown.table.order()
     }
 
-    /// A bar's slot; `None` where it isn't in the order, or has another board's mark. No two bars in the order have the same, and
-    /// a bar keeps its own as long as it stands there (law `each_bar_stays_in_its_slot`). A new bar gets the one that was freed last, or
-    /// the first that was never used.
+    /// A bar's slot; `None` if it isn't in the order, or has another board's mark. No two bars in the order have the same slot, and a bar
+    /// keeps its slot as long as it stands there (law `each_bar_stays_in_its_slot`). A new bar gets the slot that was freed last, or the
+    /// first unused one.
     pub fn slot(&self, id: BarId) -> Option<usize>
         ensures { result ≡ (if id.mark == mark_of self.now then slot_of id.number (slots_of self.now) else None) }
     {
@@ -145,8 +144,8 @@ impl<K: Tracks, T: TermLike + Drop> Board<K, T> {
         self.shown.table.slot(id.number)
     }
 
-    /// Another target, and the old one. Nothing is written to either: what stands on the old one stays, and on the new one the
-    /// bars begin anew, with their next draw.
+    /// Sets the target, and returns the old one. Nothing is written to either: the rows on the old one stay, and on the new one the bars
+    /// begin with their next draw.
     pub fn set_draw_target(&mut self, target: ProgressDrawTarget<T>) -> ProgressDrawTarget<T>
         ensures old { term_of result ≡ terminal_of self.old }
         ensures old_limiter { (mark : ℕ) (s : BoardState (BarRecord K)) → IsIn mark self.old s → IfSome result (λ t. t.1 ≡ s.limiter) }
@@ -162,9 +161,8 @@ impl<K: Tracks, T: TermLike + Drop> Board<K, T> {
         self.stage.set_draw_target(alloc, target)
     }
 
-    /// Whether draws write their lines over those that stand there, by moves of the cursor alone, where that shows the same:
-    /// `Engine::set_move_cursor` says where. Nothing is written now. On a hidden target this does nothing, and another target begins
-    /// with it off.
+    /// Sets whether draws write their lines over the old ones, by cursor moves alone, if that shows the same: `Engine::set_move_cursor`
+    /// says when. It writes nothing. On a hidden target this does nothing, and another target begins with it off.
     ///
     /// ```
     /// board.set_move_cursor(true); // for a terminal that flickers where rows are emptied
@@ -180,7 +178,7 @@ impl<K: Tracks, T: TermLike + Drop> Board<K, T> {
         self.stage.set_move_cursor(on);
     }
 
-    /// Whether bars stand at the top of what is taken back, or at its bottom, from the next draw on.
+    /// Sets whether the next draws put the bars at the top or at the bottom of the rows that they clear.
     pub fn set_alignment(&mut self, alignment: MultiProgressAlignment)
         ensures keeps { Keeps T.view false self.old self.new }
         ensures leads { (now : ℕ) → LeadsBy K.means T.view self.old self.new (Align (is_bottom alignment)) now Done }
@@ -190,14 +188,14 @@ impl<K: Tracks, T: TermLike + Drop> Board<K, T> {
         self.shown.alignment = alignment;
     }
 
-    /// A command of a bar, whose text may be lent, and the draw that it asks for.
+    /// Makes a command of a bar, whose text may be borrowed, and the draw that it asks for.
     ///
     /// ```
     /// board.tell(id, BarCommand::SetMessage("copying"), now)?; // no copy of the text is made but the record's
     /// ```
     ///
-    /// Refused: `ForeignBar`, `NotMember`, `NoColumns`, `TooWide`, `Terminal` or `Memory`, as `Board` says; and
-    /// `ElapsedBeyondClock`, where the command sets an elapsed time that is more than the moment: nothing has changed then.
+    /// Refused: `ForeignBar`, `NotMember`, `NoColumns`, `TooWide`, `Terminal` or `Memory`, as `Board` says; and `ElapsedBeyondClock`, if
+    /// the command sets an elapsed time that is more than the moment: then nothing has changed.
     pub fn tell<S: Text>(
         &mut self,
         id: BarId,
@@ -224,7 +222,7 @@ impl<K: Tracks, T: TermLike + Drop> Board<K, T> {
         self.draw(ask, Some(at), Writing::Frame, now)
     }
 
-    /// As `tell`, for a command with a text of its own.
+    /// As `tell`, for a command with its own text.
     ///
     /// Refused: as `tell`.
     pub fn command(
@@ -250,8 +248,8 @@ impl<K: Tracks, T: TermLike + Drop> Board<K, T> {
         self.tell(id, command, now)
     }
 
-    /// Writes the text's lines above the bars, by force; the bars go on below them. A line is ended by `\n` or `\r\n`; an empty text is one empty line;
-    /// tabs stay as they are. On a hidden target the text is dropped.
+    /// Writes the text's lines above the bars, whatever the rate says; the bars go on below them. A line is ended by `\n` or `\r\n`; an
+    /// empty text is one empty line; tabs stay as they are. On a hidden target the text is dropped.
     ///
     /// Refused: `NoColumns`, `TooWide`, `Terminal` or `Memory`, as `Board` says; nothing of the text is kept.
     pub fn println(&mut self, text: &str, now: Moment) -> Result<Drawn, Refusal>
@@ -265,7 +263,7 @@ impl<K: Tracks, T: TermLike + Drop> Board<K, T> {
         self.draw(Ask::Forced, None, Writing::TextAndFrame(text), now)
     }
 
-    /// The same, with one bar's lines laid out anew.
+    /// Writes lines of text above the bars, and lays out one bar's lines again.
     ///
     /// Refused: `ForeignBar`, `NotMember`, `NoColumns`, `TooWide`, `Terminal` or `Memory`, as `Board` says.
     pub fn bar_println(&mut self, id: BarId, text: &str, now: Moment) -> Result<Drawn, Refusal>
@@ -283,8 +281,8 @@ impl<K: Tracks, T: TermLike + Drop> Board<K, T> {
         self.draw(Ask::Forced, Some(at), Writing::TextAndFrame(text), now)
     }
 
-    /// Takes the bars' rows back, by force. The next draw shows the bars again, but for what was dropped: rows that such bars left go
-    /// for good, and so do dropped bars at the head of the order. Takes no memory.
+    /// Clears the bars' rows, whatever the rate says. The next draw shows the bars again, but for those that were dropped: rows that such
+    /// bars left are erased for good, and dropped bars at the head of the order leave it. Takes no memory.
     ///
     /// Refused: `NoColumns` or `Terminal`, as `Board` says.
     pub fn clear(&mut self, now: Moment) -> Result<Drawn, Refusal>
@@ -298,7 +296,7 @@ impl<K: Tracks, T: TermLike + Drop> Board<K, T> {
         self.draw(Ask::Forced, None, Writing::NoFrame, now)
     }
 
-    /// Draws the bars as they were laid out, by force: what was set since without a draw, as a style, isn't shown by this.
+    /// Forces a draw of the bars as they were last laid out: what was set since without a draw, such as a style, isn't shown.
     ///
     /// Refused: `NoColumns`, `TooWide`, `Terminal` or `Memory`, as `Board` says.
     pub fn redraw(&mut self, now: Moment) -> Result<Drawn, Refusal>
@@ -312,9 +310,9 @@ impl<K: Tracks, T: TermLike + Drop> Board<K, T> {
         self.draw(Ask::Forced, None, Writing::Frame, now)
     }
 
-    /// Takes the bars' rows back, calls `f` once, which may write to the terminal's place by other ways, and draws the bars again
-    /// by force, at the same moment. Answers what `f` gave, and what the draw answered; where the clear was refused, `f` is
-    /// called all the same, no draw is made, and the answer is that refusal.
+    /// Clears the bars' rows, calls `f` once, which may write to the same terminal, and forces a draw, at the same moment. It returns what
+    /// `f` returned, and the answer of the draw. If the clear was refused, `f` is still called, no draw is made, and the answer is that
+    /// refusal.
     pub fn suspend<F: FnOnce() -> A, A>(&mut self, now: Moment, f: F) -> (A, Result<Drawn, Refusal>)
         requires { F.pre f }
         ensures value { F.post f result.0 }
@@ -360,7 +358,8 @@ impl<K: Tracks, T: TermLike + Drop> Board<K, T> {
         Ok(at)
     }
 
-    /// Lays a bar out anew, if one is named, and writes, if asked, where the target isn't hidden and has columns and its limiter allows it.
+    /// Lays a bar out again, if one is named, and draws, if the call asks for it, the target isn't hidden and has columns, and its limiter
+    /// allows it.
     fn draw(
         &mut self,
         ask: Ask,
@@ -405,18 +404,18 @@ impl<K: Tracks, T: Resize + Drop> Board<K, T> {
     ghost use Rattle.indicatif_term.specs.Resizes.{SizeTakes};
     ghost use Rattle.indicatif_board.specs.Multi.{IsIn, RecordsStay, board_sizing, known, mark_of, moves_of, slots_of, terminal_of};
 
-    /// The terminal gets `rows` rows and `cols` columns, and what stands there is cut anew: each row by itself, never joined with
-    /// another. Nothing is written now; the next draw takes back the bars' rows as they are then. On a hidden target this does nothing.
-    /// What `set_move_cursor` was told last stays.
+    /// Tells the board that the terminal has `rows` rows and `cols` columns now, and how its rows are wrapped then: each by itself, never
+    /// joined with another. It writes nothing; the next draw erases the bars' rows as they are then. On a hidden target this does nothing.
+    /// The setting of `set_move_cursor` stays.
     ///
     /// ```
     /// board.println("hello", now)?;
     /// board.resize(4, 3)?; // it stands on two rows from now on: `hel`, `lo`
     /// ```
     ///
-    /// Refused: `ZeroSize` where `rows` or `cols` is 0, also on a hidden target; `Memory`, never there, nor at the size that the terminal
-    /// has. All is unchanged then. On a terminal that takes no memory for a size, such as a `Term`, it comes only where kept rows or rows of
-    /// the bars stand: not before the first draw, nor behind a clear or a failure. A terminal in memory may be refused it at any other size.
+    /// Refused: `ZeroSize` if `rows` or `cols` is 0, also on a hidden target; `Memory`, never there, nor at the size that the terminal has.
+    /// Then nothing has changed. On a terminal that takes no memory for a size, such as a `Term`, it comes only if kept rows or rows of the
+    /// bars stand: not before the first draw, nor after a clear or a failure. A terminal in memory may be refused it at any other size.
     pub fn resize(&mut self, rows: u16, cols: u16) -> Result<(), Refusal>
         ensures plays { (mark : ℕ) (s : BoardState (BarRecord K)) → IsIn mark self.old s →
             let machine = board (board_bars K.means) mark in

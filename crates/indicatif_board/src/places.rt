@@ -1,20 +1,20 @@
-//! Where bars were found last.
+//! The places where bars were last found.
 use std::alloc::Global;
 
-/// Where bars stood when they were taken in or named last, so that the usual call finds its bar at once.
+/// Where bars stood when they were last inserted or named, so that the usual call finds its bar at once.
 ///
-/// A place is kept for each of the last bits that numbers end in, and bars may have come or gone in the midst since. So whoever asks
-/// compares: nothing is promised of what is kept here.
+/// One place is kept for each value of the numbers' last bits, and bars in between may have come or gone since. So the caller compares: the
+/// contract promises nothing about a kept place.
 #[derive(Drop)]
 pub struct Places {
-    /// As many as a power of two, or none; each with `gone` added, so that none has to move where bars come or go at the head.
+    /// A power of two of them, or none; each with `gone` added, so that none changes if bars come or go at the head.
     places: Vec<usize>,
-    /// How many bars went at the head, less those that came there, modulo 2^64.
+    /// How many bars left at the head, less those that came there, modulo 2^64.
     gone: usize,
 }
 
 impl Places {
-    /// None. Takes no memory.
+    /// No places. Takes no memory.
     pub fn new(alloc: Global) -> Places {
         Places {
             places: Vec::new(alloc),
@@ -30,7 +30,7 @@ impl Places {
         }
     }
 
-    /// Keeps a bar's place, where there is room for it.
+    /// Keeps a bar's place, if there is room for it.
     pub fn note(&mut self, number: u64, at: usize) {
         let key = self.key(number);
         if let Some(noted) = self.places.get_mut(key) {
@@ -38,7 +38,7 @@ impl Places {
         }
     }
 
-    /// Makes room for the places of one bar more, of so many then, if there is memory for it.
+    /// Makes room for the places of `bars` bars, if there is memory for it.
     pub fn fit(&mut self, bars: usize) {
         let size = self.places.len();
         if size < bars {
@@ -48,7 +48,7 @@ impl Places {
         }
     }
 
-    /// A bar was taken in at a place, which is kept.
+    /// A bar was inserted at a place, which is kept.
     pub fn inserted(&mut self, number: u64, at: usize) {
         if at == 0 {
             self.gone = self.gone.wrapping_sub(1);
@@ -56,14 +56,14 @@ impl Places {
         self.note(number, at);
     }
 
-    /// The bar at a place was taken out.
+    /// The bar at a place was removed.
     pub fn removed(&mut self, at: usize) {
         if at == 0 {
             self.gone = self.gone.wrapping_add(1);
         }
     }
 
-    /// So many bars at the head were taken out.
+    /// The first `count` bars were removed.
     pub fn removed_first(&mut self, count: usize) {
         self.gone = self.gone.wrapping_add(count);
     }

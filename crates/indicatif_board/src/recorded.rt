@@ -21,7 +21,7 @@ use indicatif_text::columns::{Moment, Refusal};
 use std::alloc::Global;
 use std::marker::Model;
 
-/// How large a terminal is.
+/// The size of a terminal.
 ///
 /// ```
 /// let record: Recorded<NoTracker, _> = Recorded::new(alloc, target, 7); // on a terminal of 4 rows and 10 columns
@@ -48,11 +48,11 @@ pub struct Entry<K> {
     pub call: Call<K>,
     /// Its moment.
     pub now: Moment,
-    /// What was answered.
+    /// Its answer.
     pub answer: Answer,
 }
 
-/// What a board began with, its terminal apart. With it a history without calls tells what its calls would be made on.
+/// What a board began with, except its terminal. Even a history without calls says what its calls would be made on.
 ///
 /// ```
 /// let target = ProgressDrawTarget::term_like_with_hz(term, 20, 0)?;
@@ -63,14 +63,14 @@ pub struct Entry<K> {
 pub struct Opening {
     /// Its mark.
     pub mark: u64,
-    /// How often it may be drawn, as the target came; `None` where that has no limit, or is hidden.
+    /// The limiter as it was in the target; `None` if there is no limit, or the target is hidden.
     pub limiter: Option<RateLimiter>,
-    /// How large the terminal is, from then on; `None` where the target is hidden.
+    /// The size of the terminal, for the whole history; `None` if the target is hidden.
     pub size: Option<Size>,
 }
 
-/// A board that keeps what it was asked and what it answered. The calls and answers that it has kept are always those of one run
-/// from its opening on, on a target of one size, and the board is where that run ends: so they are also where it is kept in a lock.
+/// A board that keeps its calls and answers. The kept calls and answers are always those of one run from its opening on, on a target of one
+/// size, and the board is where that run ends: also if it is kept in a lock.
 ///
 /// It grows with each call. Its calls are those of `Board`, as values.
 ///
@@ -111,7 +111,7 @@ impl<K: Tracks, T: Drop> Model for Recorded<K, T> {
 }
 
 impl<K: Tracks, T: TermLike + Drop> Recorded<K, T> {
-    /// A board without bars on this target, of this mark, that has made no call. It takes no memory and writes nothing.
+    /// A board without bars on this target, with this mark, and without calls. It takes no memory and writes nothing.
     pub fn new(alloc: Global, target: ProgressDrawTarget<T>, mark: u64) -> Self
         ensures opening { (result.mark ≡ mark) × (result.limiter ≡ limiter_of target) }
         ensures target { result.target ≡ target_of (option_map T.view (term_of target)) }
@@ -134,12 +134,12 @@ impl<K: Tracks, T: TermLike + Drop> Recorded<K, T> {
         }
     }
 
-    /// Makes a call, and keeps it with its moment and its answer; beside the answer it hands back the bar that was removed, or the
-    /// new one that was turned away.
+    /// Makes a call, and keeps it with its moment and its answer; it also returns the bar that was removed, or the new one that was
+    /// refused.
     ///
-    /// Refused: what the call is refused; and `Memory` where the history finds no room: then the call isn't made, nothing has
-    /// changed and nothing is kept. So it would be where the terminal has another size than at the opening. None has whose calls meet
-    /// `TermLike`, since a board with its history is never given another size.
+    /// Refused: as the call; and `Memory` if the history finds no room: then the call isn't made, nothing has changed and nothing is kept.
+    /// The same would happen if the terminal had another size than at the opening. No terminal that meets `TermLike` has one, since a board
+    /// with its history is never given another size.
     pub fn apply(&mut self, call: Call<K>, now: Moment) -> (Answer, Option<BarState<K>>)
         ensures grows { AddsCall K.means T.view self.old (call_of call) now (answer_of result.0) self.new
             ⊎ ((self.new ≡ self.old) × (result.0 ≡ Answer.Refused Refusal.Memory)) }
@@ -173,7 +173,7 @@ impl<K: Tracks, T: TermLike + Drop> Recorded<K, T> {
         &self.opening
     }
 
-    /// The calls that it has made, with their moments and answers, in their order.
+    /// The calls that it has made, with their moments and answers, in order.
     pub fn entries(&self) -> &[Entry<K>]
         ensures { map step_of result.now ≡ self.now.steps }
     {
@@ -187,7 +187,7 @@ impl<K: Tracks, T: TermLike + Drop> Recorded<K, T> {
         &self.board
     }
 
-    /// What is kept is one run, and the board is where it ends. It does nothing.
+    /// What is kept is one run, and the board is where it ends. Calling it does nothing.
     pub fn replays(&self)
         ensures { IsOneRun K.means self.now }
     {
@@ -195,7 +195,7 @@ impl<K: Tracks, T: TermLike + Drop> Recorded<K, T> {
     }
 }
 
-/// A target as it is, and its limiter once more.
+/// A target, and a copy of its limiter.
 fn with_limiter<T: Drop>(
     target: ProgressDrawTarget<T>,
 ) -> (ProgressDrawTarget<T>, Option<RateLimiter>)
@@ -211,7 +211,7 @@ fn with_limiter<T: Drop>(
     }
 }
 
-/// How large a board's terminal is.
+/// The size of a board's terminal.
 fn size_of<K: Tracks, T: TermLike + Drop>(board: &Board<K, T>) -> Option<Size>
     ensures { target_by result ≡ target_of (known T.view board.now) }
 {
@@ -224,7 +224,7 @@ fn size_of<K: Tracks, T: TermLike + Drop>(board: &Board<K, T>) -> Option<Size>
     }
 }
 
-/// Whether two terminals are as large, or both targets are hidden.
+/// Whether two terminals have the same size, or both targets are hidden.
 fn is_as_large(one: Option<Size>, other: Option<Size>) -> bool
     ensures { IsTrue result → one ≡ other }
 {

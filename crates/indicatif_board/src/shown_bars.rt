@@ -30,14 +30,14 @@ use std::alloc::Global;
 use std::collections::VecDeque;
 use std::mem::replace;
 
-/// Bars in their order, and the lines that were laid out last.
+/// Bars in their order, and their last laid-out lines.
 pub struct ShownBars<K> {
     pub alloc: Global,
-    /// The bars. A queue moves nothing where a bar is taken in at the head, or out there.
+    /// The bars. In a queue, inserting or removing a bar at the head moves nothing.
     pub members: VecDeque<Seated<K>>,
     /// Their numbers and lines, at the same places.
     pub frame: VecDeque<Segment>,
-    /// Room of lines that were laid out before.
+    /// Memory of lines that were laid out before.
     pub spare: SpareLines,
     /// The same numbers with their slots.
     pub table: MultiState,
@@ -78,8 +78,8 @@ impl<K: Tracks> ShownBars<K> {
         }
     }
 
-    /// Takes a bar in where so many bars stand before it, and answers its number. The bar comes back where it finds no room or
-    /// no number; the others stay as they are then.
+    /// Inserts a bar after the first `at` bars, and returns its number. The bar comes back if there is no memory or no number left; then
+    /// the others are unchanged.
     pub fn take_in(&mut self, at: usize, bar: BarState<K>) -> Result<u64, BarState<K>>
         requires within { at ≤ deque_len self.old.members }
         ensures taken { (s : BoardState (BarRecord K)) (spot : Location) → AreShownAs self.old s → at ≡ index_of spot s.members →
@@ -109,7 +109,7 @@ impl<K: Tracks> ShownBars<K> {
         Ok(number)
     }
 
-    /// Takes the bar at a place out.
+    /// Removes the bar at a place.
     pub fn take_out(&mut self, at: usize) -> BarState<K>
         requires within { at < deque_len self.old.members }
         ensures out { (s : BoardState (BarRecord K)) (number : ℕ) → AreShownAs self.old s → at ≡ place_of number s.members →
@@ -139,7 +139,7 @@ impl<K: Tracks> ShownBars<K> {
         }
     }
 
-    /// A bar's place; past the last one where it isn't there.
+    /// A bar's place; past the last one if it isn't there.
     pub fn place(&self, number: u64) -> usize
         ensures seat { result ≡ seat_of number self.now.table.order }
         ensures most { result ≤ deque_len self.now.members }
@@ -147,7 +147,7 @@ impl<K: Tracks> ShownBars<K> {
         self.table.place(number)
     }
 
-    /// Keeps where this bar stands, if one is named: it is looked for there first.
+    /// Keeps the place of this bar, if one is named: it is looked for there first.
     pub fn note_place(&mut self, bar: Option<usize>)
         requires placed { IfSome bar (λ at. at < deque_len self.old.members) }
         ensures { self.new ≡ self.old }
@@ -157,7 +157,7 @@ impl<K: Tracks> ShownBars<K> {
         }
     }
 
-    /// A bar has no owner from now on, if it is there.
+    /// Marks a bar as ownerless, if it is there.
     pub fn set_ownerless(&mut self, number: u64)
         ensures ownerless { (s : BoardState (BarRecord K)) → AreShownAs self.old s → AreShownAs self.new (ownerless_on number s) }
         ensures slots { self.new.table ≡ self.old.table }
@@ -170,7 +170,7 @@ impl<K: Tracks> ShownBars<K> {
         }
     }
 
-    /// Lays a bar's lines out and stores them, if one is named, in the room of those before.
+    /// Lays a bar's lines out and stores them, if one is named, in the memory of the old ones.
     pub fn lay_out(&mut self, bar: Option<usize>, width: u16, now: Moment) -> Result<(), Refusal>
         requires placed { IfSome bar (λ at. at < deque_len self.old.members) }
         ensures memory { IfErr result (λ e. (e ≡ Refusal.Memory) × ((s : BoardState (BarRecord K)) (number : Option ℕ) →
@@ -191,7 +191,7 @@ impl<K: Tracks> ShownBars<K> {
         }
     }
 
-    /// Writes on a terminal with columns; the dropped bars at the head leave.
+    /// Draws on a terminal with columns; the dropped bars at the head leave.
     pub fn write<T: TermLike + Drop>(
         &mut self,
         engine: &mut Engine<T>,
@@ -227,7 +227,7 @@ impl<K: Tracks> ShownBars<K> {
     }
 }
 
-/// Puts a bar's lines in the place of those that were stored, whose room is the next spare one.
+/// Replaces a bar's stored lines, whose memory becomes the next spare one.
 fn relay<K: Tracks>(
     bar: &BarState<K>,
     stored: &mut Vec<LineType>,

@@ -11,9 +11,9 @@ use std::marker::Model;
 
 /// The order of a board's bars by their numbers, and a slot for each.
 ///
-/// Numbers are counted from 0 as bars are taken in, and never used again. Slots are: the one that was freed last is used first,
-/// and a new one only where none is free, so that there are never more than there were bars at a time. Each slot that was ever
-/// used has one bar or is free. By the documentation of the Rust crate `indicatif` 0.18.6.
+/// Numbers are counted from 0 in the order of insertion, and never used again. Slots are used again: the one that was freed last first, and
+/// a new one only if none is free, so there are never more than there were bars at a time. Each slot that was ever used has one bar or is
+/// free. The rule is that of the documentation of the Rust crate `indicatif` 0.18.6.
 ///
 /// ```
 /// let mut state = MultiState::new(alloc);
@@ -24,11 +24,11 @@ use std::marker::Model;
 /// ```
 pub struct MultiState {
     order: Vec<u64>,
-    /// A queue moves nothing where a bar is taken in at the head, or out there.
+    /// In a queue, inserting or removing a bar at the head moves nothing.
     slots: VecDeque<usize>,
     /// With room for all slots, so that none is lost.
     free: Vec<usize>,
-    /// The number of the next bar; none where numbers ran out.
+    /// The number of the next bar; none if there is no number left.
     next: Option<u64>,
     /// Where bars are looked for first.
     places: Places,
@@ -46,7 +46,7 @@ impl Drop for MultiState {
     }
 }
 
-/// Contracts see the bars' numbers in their order, their slots, the free slots, and how many bars were ever taken in.
+/// Contracts see the bars' numbers in their order, their slots, the free slots, and how many bars were ever inserted.
 impl Model for MultiState {
     ghost use Rattle.std.specs.Prelude.{◌≤◌, ◌+◌, vec_len, vec_capacity};
     ghost use Rattle.indicatif_board.specs.Slots.{SlotTable, IsSeated, made_by};
@@ -84,7 +84,7 @@ impl MultiState {
         &self.order
     }
 
-    /// A bar's place in the order; past its end where it isn't there. It is looked for first where it stood last.
+    /// A bar's place in the order; past its end if it isn't there. It is looked for first at its last known place.
     pub(crate) fn place(&self, number: u64) -> usize
         ensures { result ≡ seat_of number self.now.order }
     {
@@ -95,14 +95,14 @@ impl MultiState {
         place_of_bar(&self.order, number)
     }
 
-    /// Keeps a bar's place, where it is looked for first from now on.
+    /// Keeps a bar's place, where it is looked for first.
     pub(crate) fn note_place(&mut self, number: u64, at: usize)
         ensures { self.new ≡ self.old }
     {
         self.places.note(number, at);
     }
 
-    /// A bar's slot; `None` where it isn't in the order.
+    /// A bar's slot; `None` if it isn't in the order.
     pub fn slot(&self, number: u64) -> Option<usize>
         ensures { result ≡ slot_of number self.now }
     {
@@ -114,9 +114,9 @@ impl MultiState {
         None
     }
 
-    /// Takes a bar in where so many stand before it, or behind all others where there are fewer. Answers its number.
+    /// Inserts a bar after the first `at` bars, or after all others if there are fewer. Returns its number.
     ///
-    /// Refused: `Memory`, also where numbers ran out past 2^64 - 1; nothing has changed then.
+    /// Refused: `Memory`, also if there is no number left below 2^64; then nothing has changed.
     pub fn insert(&mut self, at: usize) -> Result<u64, Refusal>
         ensures number { IfOk result (λ n. n ≡ self.old.made) }
         ensures fits { IfOk result (λ n. n < 2 ^ 64) }
@@ -131,7 +131,7 @@ impl MultiState {
         }
     }
 
-    /// The same, by the number.
+    /// As `insert`, with this number.
     fn insert_as(&mut self, number: u64, at: usize) -> Result<u64, Refusal>
         requires next { number ≡ self.old.made }
         ensures number { IfOk result (λ n. n ≡ self.old.made) }
@@ -153,7 +153,7 @@ impl MultiState {
         Ok(number)
     }
 
-    /// Takes the bar at a place out, if there is one. Its slot is the next that is used. Takes no memory.
+    /// Removes the bar at a place, if there is one. Its slot is used next. Takes no memory.
     pub fn remove(&mut self, at: usize)
         ensures removed { self.new ≡ unseated at self.old }
         ensures seated { IsSeated self.old }
@@ -165,7 +165,7 @@ impl MultiState {
         }
     }
 
-    /// Takes so many bars at the head out, or all where there are fewer. Takes no memory.
+    /// Removes the first `count` bars, or all if there are fewer. Takes no memory.
     pub fn remove_first(&mut self, count: usize)
         ensures removed { self.new ≡ head_unseated count self.old }
         ensures seated { IsSeated self.old }

@@ -1,4 +1,4 @@
-//! The rule of the word that workers share, and what each step on it tells.
+//! The invariant of the word that workers share, and what each step on it gives.
 //!
 //! There are two kinds of step on the word: an add and a load. A split and a join load it too.
 use crate::done::Account;

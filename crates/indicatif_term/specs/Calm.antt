@@ -1,4 +1,4 @@
--- Calm bytes: all that may be written where lines are plain.
+-- Calm bytes: all that draws of plain lines write.
 use Rattle.std.specs.Prelude.{◌≡◌, ℕ, ◌==◌, ◌&&◌, ◌||◌, not, nat_le, Bool, true, false, IsTrue, IsFalse, is_some, List, [], ◌∷◌, ◌++◌, flat_map, decimal, encode_utf8, if◌then◌else◌}
 use Rattle.std.specs.List.{list_all}
 use Rattle.std.specs.Int.{is_in_range}
@@ -32,13 +32,13 @@ is_calm Feed = true
 is_calm (Move letter n) = is_in_range 0x41 0x44 letter
 is_calm Empty = true
 
--- a calm text: the bytes of such strokes, one behind another
+-- a calm text: the bytes of such strokes, one after another
 pub record IsCalm (text : List ℕ) : Type 0 where
   pub strokes : List Stroke
   pub calm : IsTrue (list_all is_calm strokes)
   pub text_is : text ≡ flat_map stroke_bytes strokes
 
--- what one drawing writes: a calm text, behind CR LF where the terminal had failed before; where it fails, a beginning of that
+-- what one draw writes: a calm text, after CR LF if the terminal had failed before; if it fails, a prefix of that
 pub record DrawsCalmly (failed : Bool) (bytes : List ℕ) (fails : Bool) : Type 0 where
   pub text : List ℕ
   pub calm : IsCalm text
@@ -46,29 +46,29 @@ pub record DrawsCalmly (failed : Bool) (bytes : List ℕ) (fails : Bool) : Type 
   pub whole : bytes ++ rest ≡ (if failed then 0x0D ∷ 0x0A ∷ [] else []) ++ text
   pub all : IsFalse fails → rest ≡ []
 
--- the same of drawings, one behind another; with none nothing changes
+-- what draws write, one after another; nothing without a draw
 abbrev pub AreCalm : Bool → List (List ℕ) → Bool → Type 0
 AreCalm failed [] fails = fails ≡ failed
 AreCalm failed (bytes ∷ drawings) fails = (next : Bool) × DrawsCalmly failed bytes next × AreCalm next drawings fails
 
--- bytes that drawings wrote
+-- bytes that draws wrote
 pub record Calmly (failed : Bool) (bytes : List ℕ) (fails : Bool) : Type 0 where
   pub drawings : List (List ℕ)
   pub each : AreCalm failed drawings fails
   pub bytes_are : bytes ≡ flat_map (λ drawing. drawing) drawings
 
--- ---- what a terminal finds in them
+-- ---- what they hold
 
 -- a byte of no ASCII control character
 abbrev pub is_plain_byte : ℕ → Bool
 is_plain_byte b = nat_le 0x20 b && not (b == 0x7F)
 
--- whether these bytes may stand behind ESC: `[`; or none, or the CR of the next drawing, where the terminal broke off
+-- whether these bytes may follow ESC: `[`; or none, or the CR of the next draw, if the terminal broke off
 abbrev pub may_follow : List ℕ → Bool
 may_follow [] = true
 may_follow (b ∷ bytes) = (b == 0x5B) || (b == 0x0D)
 
--- no ASCII control character but CR, LF, and ESC where these may follow
+-- no ASCII control character but CR, LF, and ESC if these may follow
 abbrev pub is_quiet : List ℕ → Bool
 is_quiet [] = true
 is_quiet (b ∷ bytes) = (is_plain_byte b || (b == 0x0D) || (b == 0x0A) || ((b == 0x1B) && may_follow bytes)) && is_quiet bytes

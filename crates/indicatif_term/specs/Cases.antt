@@ -32,8 +32,7 @@ LogAbove = let shown = drawn 5 3 false 0 (bar 0 (codes "x") ∷ []) opening_list
     let l = logged 5 3 false (codes "l" ∷ []) (bar 0 (codes "x") ∷ []) shown in
     (l.above ≡ drawn_rows 5 (codes "l" ∷ [])) × (all_rows 5 l ≡ drawn_rows 5 (codes "l" ∷ codes "x" ∷ []))
 
--- bars at the bottom: a bar that is taken away leaves a blank row above; a bar that is dropped passes on with it, and a log
--- takes both back
+-- bars at the bottom: a removed bar leaves a blank row above; a dropped bar leaves with it, and a log erases both
 abbrev pub AtTheBottom : Type 0
 AtTheBottom = let three = drawn 9 6 true 0 (bar 1 (codes "m1") ∷ bar 2 (codes "m2") ∷ bar 3 (codes "m3") ∷ []) opening_lists in
     let two = drawn 9 6 true 0 (bar 1 (codes "m1") ∷ bar 3 (codes "m3") ∷ []) three in
@@ -42,7 +41,7 @@ AtTheBottom = let three = drawn 9 6 true 0 (bar 1 (codes "m1") ∷ bar 2 (codes 
     × (kept.kept ≡ drawn_rows 9 ([] ∷ codes "m1" ∷ []))
     × (all_rows 9 (logged 9 6 true (codes "L" ∷ []) (bar 3 (codes "m3") ∷ []) kept) ≡ drawn_rows 9 (codes "L" ∷ [] ∷ codes "m3" ∷ []))
 
--- 2 rows: a kept row that has scrolled away is above, and a log leaves it
+-- 2 rows: a kept row that has scrolled away is above, and a log doesn't change it
 abbrev pub KeptScrollsAway : Type 0
 KeptScrollsAway = let two = drawn 9 2 false 0 (bar 1 (codes "k") ∷ bar 2 (codes "x") ∷ []) opening_lists in
     let kept = kept_of 9 1 two in
@@ -50,24 +49,23 @@ KeptScrollsAway = let two = drawn 9 2 false 0 (bar 1 (codes "k") ∷ bar 2 (code
     (next.above ≡ drawn_rows 9 (codes "k" ∷ [])) × (next.kept ≡ [])
     × (all_rows 9 (logged 9 2 false (codes "l" ∷ []) (bar 2 (codes "x") ∷ bar 3 (codes "y") ∷ []) next) ≡ drawn_rows 9 (codes "k" ∷ codes "l" ∷ codes "x" ∷ codes "y" ∷ []))
 
--- after a clear no row is left but those above
+-- after a clear only the rows above are left
 abbrev pub ClearLeavesAbove : Type 0
 ClearLeavesAbove = let shown = logged 5 3 false (codes "l" ∷ []) (bar 0 (codes "x") ∷ []) opening_lists in
     all_rows 5 (cleared shown) ≡ drawn_rows 5 (codes "l" ∷ [])
 
--- of two bars that are shown the first stands first, the second later, and a third has no row; where the first is dropped its row
--- is no live one, and the second stands first
+-- of two shown bars the first one's rows are first, the second one's later, and a third bar has none; if the first is dropped its row isn't live, and the second one's are first
 abbrev pub FatesOfBars : Type 0
 FatesOfBars = let two = drawn 9 4 false 0 (bar 1 (codes "a") ∷ bar 2 (codes "b") ∷ []) opening_lists in
     (fate 1 two ≡ Passed) × (fate 2 two ≡ Behind) × (fate 3 two ≡ Absent) × (fate 1 opening_lists ≡ Absent)
     × (kept_of 9 2 two ≡ two) × (kept_of 9 3 two ≡ two)
     × (fate 1 (kept_of 9 1 two) ≡ Absent) × (fate 2 (kept_of 9 1 two) ≡ Passed)
 
--- a terminal of 3 rows with the cursor on the last one, below two rows that were there before
+-- a terminal of 3 rows with the cursor on the last one, below two older rows
 abbrev pub below_two : Terminal
 below_two = after (blank_terminal 3 5) (codes "u1\r\nu2\r\n")
 
--- a bar is drawn there, and a text is logged above it: the first row scrolls away, and all below the two are those of the lists
+-- a bar is drawn there, and a text is logged above it: the first row scrolls away, and below the two stand the rows of the lists
 abbrev pub LogScrolls : Type 0
 LogScrolls = let x = bar 0 (codes "x") ∷ [] in
     let first = drawn 5 3 false 0 x opening_lists in

@@ -16,7 +16,7 @@ picture_after rows columns bytes = picture_text (after (blank_terminal rows colu
 abbrev pub cursor_after : ℕ → ℕ → List ℕ → ℕ × ℕ
 cursor_after rows columns bytes = let s = (after (blank_terminal rows columns) bytes).screen in (s.row - top s, s.column)
 
--- a move by more than the greatest size is one by that size, on a terminal that is no larger
+-- a move by more than the maximum size equals one by that size, on a terminal that is no larger
 pub record FarMovesAgree (s : Screen) (n : ℕ) : Type 0 where
   pub up : performed (Up n) s ≡ performed (Up (min n GREATEST)) s
   pub down : performed (Down n) s ≡ performed (Down (min n GREATEST)) s

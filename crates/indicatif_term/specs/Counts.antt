@@ -8,7 +8,7 @@ use Rattle.indicatif_term.specs.declared.counts.Counts.{Counts}
 abbrev pub row_count : BarRows → RowCount
 row_count s = record { bar = s.bar; rows = length s.rows }
 
--- the counts of these lists; segments that passed to kept may stand before those of live
+-- the counts of these lists; segments that were kept may precede those of live
 pub record CountsOf (c : Counts) (l : Lists) : Type 0 where
   pub kept_is : c.kept ≡ length l.kept
   pub blanks_are : c.blanks ≡ l.live.blanks

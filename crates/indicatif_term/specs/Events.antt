@@ -12,13 +12,13 @@ pub data Event : Type 0 where
   Given : (bytes : List ℕ) → Event
   Sized : (columns rows : ℕ) → Event
 
--- the terminal after these
+-- the terminal after these events
 abbrev pub terminal_after : Terminal → List Event → Terminal
 terminal_after t [] = t
 terminal_after t (Given bytes ∷ events) = terminal_after (after t bytes) events
 terminal_after t (Sized w h ∷ events) = terminal_after (resized_terminal w h t) events
 
--- what it tells after them
+-- what can be read of it after these events
 abbrev pub told_after : Told → List Event → Told
 told_after told [] = told
 told_after told (Given bytes ∷ events) = told_after (led_on told bytes) events
@@ -26,17 +26,15 @@ told_after told (Sized w h ∷ events) = told_after (told_resized w h told) even
 
 -- ---- rows that last
 
--- how many of the first n rows stand above whatever is written next: those above the cursor's, and its own where the cursor
--- waits at its end
+-- how many of the first n rows stand above whatever is written next: those above the cursor's, and the cursor's own if it waits at its end
 abbrev pub rows_that_stand : ℕ → Screen → ℕ
 rows_that_stand n s = min n (if s.column == s.columns then s.row + 1 else s.row)
 
--- what the first n rows of a screen become as it gets w columns and h rows: those that stand above are cut; a size that it has
--- changes nothing
+-- the first n rows of a screen after it gets w columns and h rows: those that stand above are wrapped; its own size changes nothing
 abbrev pub rows_then : ℕ → ℕ → ℕ → Screen → List (List Cell)
 rows_then w h n s = if (s.columns == w) && (s.height == h) then take n s.rows else recut_all w (take (rows_that_stand n s) s.rows)
 
--- the first n rows last while these reach a terminal: after each byte they are as they were, and a size cuts them, each by itself
+-- the first n rows last during these events: after each byte they are unchanged, and a size wraps each by itself
 abbrev pub RowsLastThrough : ℕ → Terminal → List Event → Type 0
 RowsLastThrough n t [] = Unit {0}
 RowsLastThrough n t (Given bytes ∷ events) = RowsStay n t bytes × RowsLastThrough n (after t bytes) events

@@ -1,4 +1,4 @@
--- What a drawing is asked to show: the lines of bars, and a text that is logged; and why they are not written.
+-- What a draw shows: the lines of bars, and a logged text; and why they are refused.
 use Rattle.std.specs.Prelude.{◌≡◌, ℕ, ◌<◌, Bool, IsTrue, IsFalse, List, [], ◌∷◌, map, flat_map, chars, string_bytes, true, false}
 use Rattle.std.specs.List.{list_any, list_all}
 use Rattle.std.specs.Str.Lines.{lines}
@@ -22,11 +22,11 @@ line_text Empty = []
 abbrev pub bar_lines : Segment → BarLines
 bar_lines s = record { bar = s.bar; lines = map (λ line. chars (line_text line)) s.lines.items }
 
--- the lines of all bars, in their order
+-- the lines of all bars, in order
 abbrev pub all_lines : List BarLines → List (List ℕ)
 all_lines frame = flat_map (λ (s : BarLines). s.lines) frame
 
--- ---- a text that is logged
+-- ---- a logged text
 
 -- its lines, ended by LF or CR LF; an empty text is one empty line
 abbrev pub logged_lines : List ℕ → List (List ℕ)
@@ -49,7 +49,7 @@ are_plain lines = list_all is_plain lines
 
 -- ---- refusals
 
--- whether a refusal is right where these lines are to be written on a terminal of w columns
+-- whether a refusal is right for these lines on a terminal of w columns
 abbrev pub RefusesLines : ℕ → List (List ℕ) → Refusal → Type 0
 RefusesLines w lines NoColumns = w ≡ 0
 RefusesLines w lines TooWide = (0 < w) × IsTrue (some_wide w lines)

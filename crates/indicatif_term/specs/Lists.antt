@@ -1,5 +1,4 @@
--- The three lists of rows: those above, which never change again; those kept, of bars that are gone; and the live ones, of
--- the last frame. Rows are lists of cells.
+-- The three lists of rows: those above, which never change; those kept, of bars that are gone; and the live ones, of the last frame. Rows are lists of cells.
 use Rattle.std.specs.Prelude.{ℕ, zero, suc, ◌+◌, ◌-◌, max, Bool, true, false, ◌&&◌, ◌==◌, nat_le, nat_lt, List, [], ◌∷◌, ◌++◌, map, length, replicate, take, drop, sum_by, fold, flat_map, if◌then◌else◌}
 use Rattle.std.specs.List.{list_any}
 use Rattle.indicatif_text.specs.Columns.{Cell, blank_row, rows_of}
@@ -16,18 +15,18 @@ pub record Live : Type 0 where
   pub blanks : ℕ
   pub segments : List BarRows
 
--- the three lists, and what they need to know of the cursor
+-- the three lists, and the state of the cursor that they depend on
 pub record Lists : Type 0 where
   pub above : List (List Cell)
   pub kept : List (List Cell)
   pub live : Live
-  -- the rows that the cursor ever reached, counted from the first of the lists
+  -- how many rows the cursor ever reached, from the first of the lists
   pub reach : ℕ
-  -- whether the cursor rests at the front of the row after the lists, and not on their last row
+  -- whether the cursor rests at the front of the row after the lists, instead of on their last row
   pub below : Bool
-  -- whether the terminal has failed since the last drawing that was made
+  -- whether the terminal has failed since the last draw that was made
   pub failed : Bool
-  -- whether anything may stand in the rows that weren't reached, since it has failed and not all of its window was reached then
+  -- whether anything may stand in the rows that weren't reached, because it failed before all of its window was reached
   pub under : Bool
 
 -- no live row
@@ -38,7 +37,7 @@ no_live = record { blanks = 0; segments = [] }
 abbrev pub opening_lists : Lists
 opening_lists = record { above = []; kept = []; live = no_live; reach = 1; below = true; failed = false; under = false }
 
--- the same after a failure of the terminal: the rows are forgotten, and anything may stand below
+-- after a failure of the terminal: the rows are forgotten, and anything may stand below
 abbrev pub forgotten_lists : Lists
 forgotten_lists = record opening_lists { failed = true; under = true }
 
@@ -77,7 +76,7 @@ settled h l =
       under = l.under && nat_lt reach (length l.above + h);
     }
 
--- at the end of a draw, a log or a clear the cursor rests below the lists where nothing is live and that row was reached
+-- at the end of a draw, a log or a clear the cursor rests below the lists if nothing is live and that row was reached
 abbrev pub rested : Lists → Lists
 rested l = record l { below = (live_height l.live == 0) && nat_lt (lists_height l) l.reach; failed = false }
 
@@ -92,12 +91,12 @@ pub record BarLines : Type 0 where
 unfoldable pub lines_of : ℕ → List BarLines → List BarRows
 lines_of w frame = flat_map (λ (s : BarLines). map (λ line. record { bar = s.bar; rows = rows_of w line }) s.lines) frame
 
--- as many from the front as have at most h rows together
+-- as many from the front as take at most h rows together
 unfoldable pub fitting : ℕ → List BarRows → List BarRows
 fitting h [] = []
 fitting h (s ∷ ss) = if nat_le (length s.rows) h then s ∷ fitting (h - length s.rows) ss else []
 
--- after these segments one more, or its rows onto the last one where that is of the same bar
+-- one more segment after these, or its rows added to the last one if that is of the same bar
 abbrev pub onto_segments : List BarRows → BarRows → List BarRows
 onto_segments [] s = s ∷ []
 onto_segments (t ∷ []) s = if t.bar == s.bar then record t { rows = t.rows ++ s.rows } ∷ [] else t ∷ s ∷ []
@@ -111,17 +110,17 @@ grouped segments = fold onto_segments [] segments
 unfoldable pub shown_rows : ℕ → ℕ → List BarLines → List BarRows
 shown_rows w h frame = grouped (fitting h (lines_of w frame))
 
--- the blank rows of a bottom alignment: where bars show, as many as the rows taken back exceed those written
+-- the blank rows of a bottom alignment: if bars show, as many as the erased rows exceed those written
 abbrev pub blanks_for : Bool → ℕ → ℕ → ℕ → ℕ
 blanks_for bottom taken text bars = if bottom && nat_lt 0 bars then taken - (text + bars) else 0
 
--- the live rows of a frame, where so many rows are taken back and so many rows of text are written
+-- the live rows of a frame, if this many rows are erased and this many rows of text are written
 abbrev pub live_of_frame : ℕ → ℕ → Bool → ℕ → ℕ → List BarLines → Live
 live_of_frame w h bottom taken text frame =
     let segments = shown_rows w h frame in
     record { blanks = blanks_for bottom taken text (segments_height segments); segments = segments }
 
--- the blanks and the first n segments pass from live to kept; nothing where n is 0
+-- the blanks and the first n segments pass from live to kept; nothing does if n is 0
 abbrev pub passed : ℕ → ℕ → Lists → Lists
 passed w zero l = l
 passed w (suc n) l = record l {
@@ -129,7 +128,7 @@ passed w (suc n) l = record l {
   live = record { blanks = 0; segments = drop (suc n) l.live.segments };
 }
 
--- a draw of this frame, of which the first `pass` members are dropped
+-- a draw of this frame, with the first `pass` members dropped
 unfoldable pub drawn : ℕ → ℕ → Bool → ℕ → List BarLines → Lists → Lists
 drawn w h bottom pass frame l =
     let live = live_of_frame w h bottom (live_height l.live) 0 frame in
@@ -150,7 +149,7 @@ logged w h bottom text frame l =
 unfoldable pub cleared : Lists → Lists
 cleared l = rested (record l { kept = []; live = no_live })
 
--- ---- a bar that is dropped
+-- ---- a dropped bar
 
 -- whether a bar has a row among these
 abbrev pub has_rows : ℕ → List BarRows → Bool
@@ -161,13 +160,13 @@ abbrev pub is_first : ℕ → List BarRows → Bool
 is_first bar [] = false
 is_first bar (s ∷ ss) = s.bar == bar
 
--- what becomes of the rows of a bar that is dropped
+-- whether the rows of a dropped bar are kept
 unfoldable pub fate : ℕ → Lists → Keep
 fate bar l =
     if is_first bar l.live.segments then Passed
     else if has_rows bar l.live.segments then Behind
     else Absent
 
--- the lists after it: its rows pass to kept where live's first segment is its own
+-- the lists after it: its rows pass to kept if live's first segment is its own
 unfoldable pub kept_of : ℕ → ℕ → Lists → Lists
 kept_of w bar l = if is_first bar l.live.segments then passed w 1 l else l

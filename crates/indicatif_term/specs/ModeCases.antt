@@ -1,4 +1,4 @@
--- What a blank terminal shows after bytes whose wrap can be turned off.
+-- What a blank terminal whose wrap can be turned off shows after bytes.
 use Rattle.std.specs.Prelude.{ℕ, ◌-◌, Bool, true, List, ◌∷◌, ◌++◌, codes}
 use Rattle.indicatif_term.specs.Screen.{blank_screen, top}
 use Rattle.indicatif_term.specs.Modes.{ModeTerminal, mode_resting, mode_after}

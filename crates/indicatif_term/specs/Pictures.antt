@@ -4,18 +4,18 @@ use Rattle.std.specs.List.{list_any, list_all, join_with_byte}
 use Rattle.indicatif_text.specs.Columns.{Cell, Blank, Written, Continued}
 use Rattle.indicatif_term.specs.Screen.{Screen, top}
 
--- the characters of a cell: a blank one for an empty cell
+-- the characters of a cell: a space for an empty cell
 abbrev pub cell_text : Cell → List ℕ
 cell_text Blank = 0x20 ∷ []
 cell_text (Written g) = g.base ∷ g.marks
 cell_text Continued = []
 
--- whether nothing stands in a list
+-- whether a list is empty
 abbrev pub is_empty : List ℕ → Bool
 is_empty [] = true
 is_empty (c ∷ cs) = false
 
--- an empty cell, or a space that nothing joined
+-- an empty cell, or a space without marks
 abbrev pub is_blank : Cell → Bool
 is_blank Blank = true
 is_blank (Written g) = (g.base == 0x20) && is_empty g.marks
@@ -34,7 +34,7 @@ row_text row = encode_utf8_all (flat_map cell_text (trimmed row))
 abbrev pub picture_text : Screen → List (List ℕ)
 picture_text s = map row_text s.rows
 
--- a cell that was written and not emptied since
+-- a cell that was written, and not emptied since
 abbrev pub is_written : Cell → Bool
 is_written Blank = false
 is_written (Written g) = true

@@ -8,7 +8,7 @@ use Rattle.indicatif_term.specs.declared.counts.Counts.{Counts}
 use Rattle.indicatif_term.specs.declared.remembered.Remembered.{Remembered}
 use Rattle.indicatif_term.specs.declared.remembered.StandingLine.{StandingLine}
 
--- the lines that are remembered of kept rows, and those of the live ones
+-- the remembered lines of kept rows, and those of the live ones
 abbrev pub kept_lines : Remembered → List StandingLine
 kept_lines r = take r.kept r.lines
 
@@ -21,12 +21,11 @@ pub record AreStanding (w : ℕ) (r : Remembered) (l : Lists) : Type 0 where
   pub above_is : front ++ standing_rows w (kept_lines r) ≡ l.above ++ l.kept
   pub live_is : standing_rows w (live_lines r) ≡ live_rows w l.live
 
--- where lines are remembered, they stand
+-- remembered lines stand
 abbrev pub AreRemembered : Remembered → Lists → Type 0
 AreRemembered r l = 0 < r.width → AreStanding r.width r l
 
--- rows are as many, of the same bars, as those of the lists; after a failure of the terminal there are none; and the lines that are
--- remembered are those of their last rows
+-- rows are as many, of the same bars, as those of the lists; after a failure of the terminal there are none; and the remembered lines are those of their last rows
 pub record Suits (counts : Counts) (failed : Bool) (shown : Remembered) (l : Lists) : Type 0 where
   pub counted : CountsOf counts l
   pub failed_is : failed ≡ l.failed

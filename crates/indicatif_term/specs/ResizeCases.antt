@@ -7,11 +7,11 @@ use Rattle.indicatif_term.specs.Lists.{Lists, opening_lists, all_rows, drawn, lo
 use Rattle.indicatif_term.specs.Resizes.{resized_terminal, resized_lists}
 use Rattle.indicatif_term.specs.Cases.{bar, drawn_rows}
 
--- a terminal of so many rows and columns that was fed with bytes
+-- a terminal with this many rows and columns, after bytes
 abbrev pub fed : ℕ → ℕ → List ℕ → Terminal
 fed rows columns bytes = after (blank_terminal rows columns) bytes
 
--- its rows' texts where it gets so many rows and columns
+-- its rows' texts after it gets this many rows and columns
 abbrev pub picture_at : ℕ → ℕ → Terminal → List (List ℕ)
 picture_at rows columns t = picture_text (resized_terminal columns rows t).screen
 
@@ -29,26 +29,26 @@ NotJoined = let narrow = resized_lists 10 4 5 4 two_rows in
     (all_rows 5 narrow ≡ drawn_rows 5 (codes "progr" ∷ codes "ess b" ∷ codes "ars" ∷ [])) × (narrow.reach ≡ 3)
     × (all_rows 20 (resized_lists 5 4 20 4 narrow) ≡ drawn_rows 20 (codes "progr" ∷ codes "ess b" ∷ codes "ars" ∷ []))
 
--- on 2 rows the first of the three has scrolled away: it is one of those above, and a draw leaves it
+-- on 2 rows the first of the three has scrolled away: it is one of those above, and a draw doesn't change it
 abbrev pub LiveRowsScrollAway : Type 0
 LiveRowsScrollAway = let narrow = resized_lists 10 2 5 2 (drawn 10 2 false 0 (bar 0 (codes "progress bars") ∷ []) opening_lists) in
     let next = drawn 5 2 false 0 (bar 0 (codes "ok") ∷ []) narrow in
     (narrow.above ≡ drawn_rows 5 (codes "progr" ∷ [])) × (narrow.live.segments ≡ record { bar = 0; rows = drawn_rows 5 (codes "ess b" ∷ codes "ars" ∷ []) } ∷ [])
     × (all_rows 5 next ≡ drawn_rows 5 (codes "progr" ∷ codes "ok" ∷ []))
 
--- a text that was logged is cut too, and stays above
+-- a logged text is wrapped too, and stays above
 abbrev pub LogIsCut : Type 0
 LogIsCut = let wide = drawn 10 4 false 0 (bar 0 (codes "abcdef") ∷ []) opening_lists in
     let narrow = resized_lists 10 4 3 4 (logged 10 4 false (codes "hello" ∷ []) (bar 0 (codes "abcdef") ∷ []) wide) in
     (narrow.above ≡ drawn_rows 3 (codes "hel" ∷ codes "lo" ∷ [])) × (all_rows 3 narrow ≡ drawn_rows 3 (codes "hel" ∷ codes "lo" ∷ codes "abc" ∷ codes "def" ∷ []))
 
--- four rows were reached, and one is left: the rows below it are dropped, so that one was reached
+-- four rows were reached, and one is left: the rows below it are dropped, so one was reached
 abbrev pub RowsBelowDropped : Type 0
 RowsBelowDropped = let four = drawn 10 4 false 0 (bar 0 (codes "a") ∷ bar 1 (codes "b") ∷ bar 2 (codes "c") ∷ bar 3 (codes "d") ∷ []) opening_lists in
     let one = drawn 10 4 false 0 (bar 0 (codes "a") ∷ []) four in
     (one.reach ≡ 4) × ((resized_lists 10 4 10 2 one).reach ≡ 1) × (all_rows 10 (resized_lists 10 4 10 2 one) ≡ drawn_rows 10 (codes "a" ∷ []))
 
--- where the cursor rests below the lists, its row was reached too
+-- if the cursor rests below the lists, its row was reached too
 abbrev pub ReachedBelow : Type 0
 ReachedBelow = let none = cleared two_rows in (none.below ≡ true) × (none.reach ≡ 2) × ((resized_lists 10 4 5 4 none).reach ≡ 1) × ((resized_lists 10 4 5 4 none).below ≡ true)
 

@@ -1,4 +1,4 @@
--- A terminal that changes its size, and the lists that it shows: each row is cut anew. Rows aren't joined again.
+-- A terminal that changes its size, and the lists that it shows: each row is wrapped again. Rows aren't joined.
 use Rattle.std.specs.Prelude.{◌≡◌, ◌⊎◌, ℕ, ◌+◌, ◌-◌, ◌<◌, min, max, Bool, ◌&&◌, ◌==◌, nat_le, IsTrue, List, [], ◌∷◌, ◌++◌, map, filter, flat_map, length, take, drop, replicate, if◌then◌else◌}
 use Rattle.std.specs.Int.{is_in_range}
 use Rattle.std.specs.List.{list_all}
@@ -25,12 +25,11 @@ glyphs_in row = flat_map glyph_at (trimmed row)
 abbrev pub has_place : ℕ → Glyph → Bool
 has_place w g = is_in_range 1 w (glyph_width g)
 
--- the rows that a row becomes at w columns: its glyphs in pieces of at most w columns, each as long as can be. A glyph that is
--- wider is left out; a blank row stays one
+-- the rows that a row becomes at w columns: its glyphs in pieces of at most w columns, each as long as possible. A wider glyph is left out; a blank row stays one
 unfoldable pub recut : ℕ → List Cell → List (List Cell)
 recut w row = map (row_of w) (pieces_of w (filter (has_place w) (glyphs_in row)))
 
--- what rows become
+-- all rows at w columns
 abbrev pub recut_all : ℕ → List (List Cell) → List (List Cell)
 recut_all w rows = flat_map (recut w) rows
 
@@ -45,13 +44,13 @@ used_rows (r ∷ rs) = if list_all (list_all is_blank) (r ∷ rs) then [] else r
 abbrev pub lasting_rows : Screen → List (List Cell)
 lasting_rows s = take (s.row + 1) s.rows ++ used_rows (drop (s.row + 1) s.rows)
 
--- the row that the cursor goes to: the first that its row becomes, or the last where it waits at the row's end
+-- the row that the cursor goes to: the first that its row becomes, or the last if it waits at the row's end
 abbrev pub row_then : ℕ → Screen → ℕ
 row_then w s =
     let before = length (recut_all w (take s.row s.rows)) in
     if s.column == s.columns then before + length (recut w (cursor_row s)) - 1 else before
 
--- its column stays, but is at most w; a cursor that waits goes on waiting
+-- its column stays, but is at most w; a waiting cursor goes on waiting
 abbrev pub column_then : ℕ → Screen → ℕ
 column_then w s = if s.column == s.columns then w else min s.column w
 
@@ -67,21 +66,21 @@ recut_screen w h s =
       column = column_then w s;
     }
 
--- a screen that gets w columns and h rows; where it has them, nothing changes
+-- a screen that gets w columns and h rows; its own size changes nothing
 unfoldable pub resized : ℕ → ℕ → Screen → Screen
 resized w h s = if (s.columns == w) && (s.height == h) then s else recut_screen w h s
 
--- the same of a terminal: what it has read of a character and of a sequence stays
+-- a terminal that gets w columns and h rows: what it has read of a character and of a sequence stays
 abbrev pub resized_terminal : ℕ → ℕ → Terminal → Terminal
 resized_terminal w h t = record t { screen = resized w h t.screen }
 
 -- ---- the lists
 
--- what a bar's rows become
+-- a bar's rows at w columns
 abbrev pub recut_bar : ℕ → BarRows → BarRows
 recut_bar w s = record s { rows = recut_all w s.rows }
 
--- what the three lists become. Rows below the cursor's are dropped, so nothing further down was reached
+-- the three lists at w columns. Rows below the cursor's are dropped, so nothing further down was reached
 abbrev pub recut_lists : ℕ → Lists → Lists
 recut_lists w l =
     let cut : Lists = record l {
@@ -104,7 +103,7 @@ rows_passed w n l = record l {
   live = record { blanks = l.live.blanks - n; segments = segments_after (n - l.live.blanks) l.live.segments };
 }
 
--- kept and live rows that have scrolled away on a terminal of w columns and h rows join those above; what is below is known no better
+-- kept and live rows that have scrolled away on a terminal of w columns and h rows join those above; nothing more is known of the rows below
 abbrev pub settled_whole : ℕ → ℕ → Lists → Lists
 settled_whole w h l = record (settled h (rows_passed w ((l.reach - h) - (length l.above + length l.kept)) l)) { under = l.under }
 
@@ -112,17 +111,17 @@ settled_whole w h l = record (settled h (rows_passed w ((l.reach - h) - (length 
 unfoldable pub resized_lists : ℕ → ℕ → ℕ → ℕ → Lists → Lists
 resized_lists w h w' h' l = if (w == w') && (h == h') then l else settled_whole w' h' (recut_lists w' l)
 
--- where a size may take memory: the terminal itself takes some, or a kept or a live row stands there, which is cut
+-- when a size may take memory: the terminal itself takes some, or a kept or a live row stands, which is wrapped
 abbrev pub SizeTakes : Bool → Lists → Type 0
 SizeTakes own l = IsTrue own ⊎ (0 < length l.kept + live_height l.live)
 
--- ---- what is known of a terminal
+-- ---- what contracts see of a terminal
 
 -- whether it has w columns and h rows
 abbrev pub has_size : ℕ → ℕ → TermView → Bool
 has_size w h v = (v.columns == w) && (v.rows == h)
 
--- what a terminal tells when it gets w columns and h rows: bytes that it was given stay
+-- what can be read of a terminal after it gets w columns and h rows: the bytes that it got stay
 abbrev pub told_resized : ℕ → ℕ → Told → Told
 told_resized w h (State t) = State (resized_terminal w h t)
 told_resized w h (Bytes bytes) = Bytes bytes

@@ -1,4 +1,4 @@
--- A terminal of cells. A cursor in the column after the last one waits.
+-- A terminal of cells. A cursor at the end of a full row waits: its column is the one after the last.
 use Rattle.std.specs.Prelude.{◌≡◌, ℕ, ◌+◌, ◌-◌, ◌<◌, ◌≤◌, min, max, Bool, true, false, ◌==◌, nat_le, nat_lt, List, [], ◌∷◌, ◌++◌, reverse, length, take, drop, replicate, slice_set, slice_index_or, Option, Some, None, if◌then◌else◌}
 use Rattle.unicode_width.specs.Width.{char_width}
 use Rattle.indicatif_text.specs.Columns.{Cell, Blank, Written, Continued, Glyph, glyph_cells, blank_row}
@@ -7,7 +7,7 @@ use Rattle.indicatif_text.specs.Columns.{Cell, Blank, Written, Continued, Glyph,
 pub record Screen : Type 0 where
   pub columns : ℕ
   pub height : ℕ
-  -- those scrolled away, then those of the window, which are the last `height` rows
+  -- the rows that scrolled away, then those of the window, which are the last `height` rows
   pub rows : List (List Cell)
   -- the cursor's row, counted from the first of the rows
   pub row : ℕ
@@ -42,13 +42,13 @@ abbrev pub is_continued : Cell → Bool
 is_continued Continued = true
 is_continued _ = false
 
--- blanks in the place of the continued cells at the front
+-- the continued cells at the front, emptied
 abbrev pub emptied_front : List Cell → List Cell
 emptied_front [] = []
 emptied_front (Continued ∷ cs) = Blank ∷ emptied_front cs
 emptied_front (c ∷ cs) = c ∷ cs
 
--- the same and in the place of the glyph after them
+-- the continued cells at the front and the glyph after them, emptied
 abbrev pub emptied_glyph : List Cell → List Cell
 emptied_glyph [] = []
 emptied_glyph (Continued ∷ cs) = Blank ∷ emptied_glyph cs
@@ -79,9 +79,9 @@ joined_back c cells = cells
 abbrev pub joined_at : ℕ → ℕ → List Cell → List Cell
 joined_at n c row = reverse (joined_back c (reverse (take n row))) ++ drop n row
 
--- ---- what a terminal does
+-- ---- the operations of a terminal
 
--- what a terminal is asked to do
+-- an operation of a terminal
 pub data Op : Type 0 where
   Put : (c : ℕ) → Op
   Return : Op
@@ -92,7 +92,7 @@ pub data Op : Type 0 where
   Left : (n : ℕ) → Op
   EmptyRow : Op
 
--- the screen with this row in the place of the cursor's
+-- the screen with this row in place of the cursor's
 abbrev pub with_row : Screen → List Cell → Screen
 with_row s r = record s { rows = slice_set s.rows s.row r }
 
@@ -123,7 +123,7 @@ abbrev pub put_sized : ℕ → Option ℕ → Screen → Screen
 put_sized c None s = s
 put_sized c (Some w) s = if w == 0 then put_mark c s else put_wide c w s
 
--- the screen after what was asked
+-- the screen after an operation
 abbrev pub performed : Op → Screen → Screen
 performed (Put c) s = put_sized c (char_width false c) s
 performed Return s = record s { column = 0 }

@@ -7,7 +7,7 @@ use Rattle.indicatif_term.specs.Inside.Edits.{AreSingle}
 use Rattle.indicatif_term.specs.Inside.Parting.{change_of, waits_of, IsReady}
 use Rattle.indicatif_term.specs.declared.remembered.StandingLine.{StandingLine}
 
--- the lines as they are written, and their bytes
+-- a line as it is written, and its bytes
 abbrev pub placed_of : StandingLine → PlacedLine
 placed_of l = record {
   line = string_bytes l.text;
@@ -27,7 +27,7 @@ texts ls = map (λ (l : StandingLine). string_bytes l.text) ls
 abbrev pub standing_rows : ℕ → List StandingLine → List (List Cell)
 standing_rows w ls = flat_map (λ line. rows_of w (chars line)) (texts ls)
 
--- a line is as it is measured there
+-- a line agrees with its measures there
 pub record IsLine (w : ℕ) (l : StandingLine) : Type 0 where
   pub rows_are : l.rows ≡ length (rows_of w (chars (string_bytes l.text)))
   pub last_is : l.last ≡ last_columns w (chars (string_bytes l.text))
@@ -37,6 +37,6 @@ pub record IsLine (w : ℕ) (l : StandingLine) : Type 0 where
 abbrev pub AreLines : ℕ → List StandingLine → Type 0
 AreLines w ls = AllByRecursion (IsLine w) ls
 
--- what becomes of each line can be written
+-- the change of each line can be written
 abbrev pub AreReady : List StandingLine → Type 0
 AreReady ls = AllByRecursion (λ (l : StandingLine). IsReady l.step (string_bytes l.before) (string_bytes l.text)) ls

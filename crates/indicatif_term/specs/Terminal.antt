@@ -1,4 +1,4 @@
--- A terminal as it reads bytes: UTF-8 first, escape sequences next. What can't be understood changes nothing.
+-- A terminal as it reads bytes: UTF-8 first, escape sequences next. Unknown sequences and invalid bytes change nothing.
 use Rattle.std.specs.Prelude.{ℕ, ◌+◌, ◌-◌, ◌*◌, min, Bool, ◌&&◌, ◌||◌, ◌==◌, nat_le, nat_lt, List, [], ◌∷◌, ◌++◌, length, chars, Option, Some, None, if◌then◌else◌, slice_index}
 use Rattle.std.specs.Option.{option_map_or}
 use Rattle.std.specs.Str.{is_utf8}
@@ -7,7 +7,7 @@ use Rattle.indicatif_term.specs.Screen.{Screen, Op, Put, Return, LineFeed, Up, D
 
 -- ---- characters
 
--- where in an escape sequence the next character stands
+-- the place of the next character in an escape sequence
 pub data SequencePlace : Type 0 where
   OutsideSequence : SequencePlace
   -- after ESC
@@ -19,7 +19,7 @@ pub data SequencePlace : Type 0 where
 abbrev pub is_digit : ℕ → Bool
 is_digit c = nat_le 0x30 c && nat_le c 0x39
 
--- the greatest size of a terminal: a greater number counts as this one
+-- the maximum size of a terminal: a greater number counts as this one
 abbrev pub GREATEST : ℕ
 GREATEST = 65535
 
@@ -28,7 +28,7 @@ abbrev pub number_with : Option ℕ → ℕ → Option ℕ
 number_with None c = None
 number_with (Some n) c = if is_digit c then Some (min (10 * n + (c - 0x30)) GREATEST) else None
 
--- what the sequence with this number and this last character asks for, if anything; in a move a missing number or 0 counts as 1
+-- the operation of the sequence with this number and this last character, if it has one; in a move a missing number or 0 counts as 1
 abbrev pub sequence_op : Option ℕ → ℕ → Option Op
 sequence_op None c = None
 sequence_op (Some n) c =
@@ -39,14 +39,14 @@ sequence_op (Some n) c =
     else if c == 0x44 then Some (Left count)
     else if (c == 0x4B) && (n == 2) then Some EmptyRow else None
 
--- a character outside a sequence: what it asks for, if anything, and where the next one stands
+-- a character outside a sequence: its operation, if it has one, and the place of the next one
 abbrev pub plain_step : ℕ → Option Op × SequencePlace
 plain_step c =
     if c == 0x1B then (None, Escaped)
     else if c == 0x0D then (Some Return, OutsideSequence)
     else if c == 0x0A then (Some LineFeed, OutsideSequence) else (Some (Put c), OutsideSequence)
 
--- the same of a character at any place
+-- a character at any place: its operation, if it has one, and the place of the next one
 abbrev pub char_step : SequencePlace → ℕ → Option Op × SequencePlace
 char_step OutsideSequence c = plain_step c
 char_step Escaped c = if c == 0x5B then (None, Sequence (Some 0)) else plain_step c
@@ -54,10 +54,10 @@ char_step (Sequence number) c = if is_parameter c then (None, Sequence (number_w
 
 -- ---- bytes
 
--- where a terminal is in the bytes that it reads
+-- the state of a terminal in the bytes that it reads
 pub record Reader : Type 0 where
   pub place : SequencePlace
-  -- the bytes of a character that isn't whole: those since the last one that can begin a character
+  -- the bytes of an incomplete character: those since the last one that can begin a character
   pub spelling : List ℕ
 
 -- between two characters, outside a sequence
@@ -68,7 +68,7 @@ idle = record { place = OutsideSequence; spelling = [] }
 abbrev pub is_leading : ℕ → Bool
 is_leading b = nat_lt b 0x80 || nat_le 0xC0 b
 
--- the bytes with one more; one that can begin a character begins anew
+-- the bytes with one more; one that can begin a character starts over
 abbrev pub spelling_with : List ℕ → ℕ → List ℕ
 spelling_with spelling b = (if is_leading b then [] else spelling) ++ b ∷ []
 
@@ -76,8 +76,7 @@ spelling_with spelling b = (if is_leading b then [] else spelling) ++ b ∷ []
 abbrev pub first_char : List ℕ → ℕ
 first_char bytes = slice_index (chars bytes) 0
 
--- a byte: what it asks for, if anything, and the reader after it; bytes that spell no character ask for nothing, and nothing is left
--- of them once they are four, as many as a character has
+-- a byte: its operation, if it has one, and the reader after it; bytes that are no character have none, and they are dropped once they are four, the most that a character has
 abbrev pub byte_step : Reader → ℕ → Option Op × Reader
 byte_step r b =
     let bytes = spelling_with r.spelling b in
@@ -87,12 +86,12 @@ byte_step r b =
 
 -- ---- a terminal
 
--- a screen, and where in the bytes it is
+-- a screen, and the state of its reader
 pub record Terminal : Type 0 where
   pub screen : Screen
   pub reader : Reader
 
--- the terminal after these bytes: what each asks for is performed
+-- the terminal after these bytes: the operation of each is performed
 unfoldable pub after : Terminal → List ℕ → Terminal
 after t [] = t
 after t (b ∷ bytes) =

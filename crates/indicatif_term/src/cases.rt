@@ -29,7 +29,7 @@ pub fn bytes_of_calls()
         ≡ 0x1B ∷ 0x5B ∷ 0x32 ∷ 0x41 ∷ 0x0D ∷ 0x1B ∷ 0x5B ∷ 0x32 ∷ 0x4B ∷ 0x61 ∷ 0x62 ∷ 0x63 ∷ 0x0D ∷ 0x0A ∷ [] }
 {}
 
-/// Strokes of a calm text, and what is none: BEL, ESC, DEL and a move of another letter; and bytes that aren't quiet, as ESC `c`.
+/// Strokes of a calm text, and what isn't one: BEL, ESC, DEL and a move with another letter; and bytes that aren't quiet, such as ESC `c`.
 pub fn calm_texts()
     ensures text { flat_map stroke_bytes (Move UP 2 ∷ Return ∷ Empty ∷ Colours (codes "1;31") ∷ Character 0x2588 ∷ Colours [] ∷ Return ∷ Feed ∷ [])
         ≡ 0x1B ∷ (codes "[2A\r") ++ (0x1B ∷ codes "[2K") ++ (0x1B ∷ codes "[1;31m") ++ (0xE2 ∷ 0x96 ∷ 0x88 ∷ 0x1B ∷ codes "[m\r\n") }
@@ -46,7 +46,7 @@ pub fn calm_texts()
     ensures renames { is_quiet (0x1B ∷ codes "]0;a") ≡ false }
 {}
 
-/// How cells look: a written space is as an empty cell, but not where a zero-width character is joined to it.
+/// How cells look: a written space looks like an empty cell, unless a zero-width character is joined to it.
 pub fn looks_of_cells()
     ensures space { look (cell 0x20) ≡ Blank }
     ensures empty { look Blank ≡ Blank }
@@ -81,7 +81,7 @@ pub fn drawings()
     ensures log_scrolls { LogScrolls }
 {}
 
-/// How often a limiter allows.
+/// What a limiter allows.
 pub fn limiters()
     ensures twenty_at_once { TwentyAtOnce }
     ensures whole_milliseconds { WholeMilliseconds }
@@ -89,7 +89,7 @@ pub fn limiters()
     ensures none_before { NoneBefore }
 {}
 
-/// Kinds of terminals without moves.
+/// Kinds of terminals without cursor moves.
 pub fn kinds_of_terminals()
     ensures unset { is_dumb None ≡ true }
     ensures dumb { is_dumb (Some (codes "dumb")) ≡ true }
@@ -105,15 +105,15 @@ pub fn long_lines()
     ensures cursor { cursor_after 10 5 (codes "A\r\nB\r\nLonger than cols\r\n") ≡ (6, 0) }
 {}
 
-/// A cursor in the column after the last one waits: a move right leaves it there, a move left takes it back.
+/// A cursor at the end of a full row waits: a move right leaves it there, a move left takes it back.
 pub fn waiting()
     ensures waits { cursor_after 2 2 (codes "ab") ≡ (0, 2) }
     ensures right { contents_after 2 2 (codes "ab" ++ ESC ++ codes "[5Cc") ≡ codes "ab\nc" }
     ensures left { contents_after 2 2 (codes "ab" ++ ESC ++ codes "[1Dc") ≡ codes "ac" }
 {}
 
-/// What scrolls away stays in the picture; the contents are the window's. Spaces at a row's end are blanks, but a row
-/// with a written space is a row.
+/// Rows that scroll away stay in the picture; the contents are the window's. Spaces at a row's end are blanks, but a row with a written
+/// space is a row.
 pub fn scrolled()
     ensures picture { picture_after 2 3 (codes "a\r\nb\r\nc") ≡ codes "a" ∷ codes "b" ∷ codes "c" ∷ [] }
     ensures contents { contents_after 2 3 (codes "a\r\nb\r\nc") ≡ codes "b\nc" }
@@ -121,8 +121,8 @@ pub fn scrolled()
     ensures blank { contents_after 3 3 (codes "a\r\n") ≡ codes "a" }
 {}
 
-/// A narrower terminal: rows are cut, and a wider one joins none again. A space within a row is a glyph, also where no character
-/// was written; those at its end aren't. A character that is too wide is left out.
+/// A narrower terminal: rows are wrapped, and a wider one doesn't join them. A space within a row is a glyph, even if it was never written;
+/// spaces at its end aren't. A character that is too wide is left out.
 pub fn cut_rows()
     ensures narrower { picture_at 4 5 (fed 4 10 (codes "progress bars")) ≡ codes "progr" ∷ codes "ess b" ∷ codes "ars" ∷ [] ∷ [] }
     ensures not_joined { picture_at 4 20 (resized_terminal 5 4 (fed 4 10 (codes "progress bars")))
@@ -133,7 +133,7 @@ pub fn cut_rows()
     ensures marked { picture_at 2 1 (fed 2 4 (codes "a" ++ 0xCC ∷ 0x88 ∷ codes "b")) ≡ (codes "a" ++ 0xCC ∷ 0x88 ∷ []) ∷ codes "b" ∷ [] }
 {}
 
-/// Rows that scroll away and come back, and those below the cursor's that are dropped, but not where the size stays.
+/// Rows that scroll away and come back, and those below the cursor's that are dropped, unless the size stays the same.
 pub fn cut_windows()
     ensures scrolled { picture_at 2 5 (fed 2 10 (codes "progress bars")) ≡ codes "progr" ∷ codes "ess b" ∷ codes "ars" ∷ [] }
     ensures back { cursor_at 3 4 (fed 2 4 (codes "a\r\nb\r\nc")) ≡ (2, 1) }
@@ -142,8 +142,8 @@ pub fn cut_windows()
     ensures same { resized_terminal 4 4 (fed 4 4 (codes "a")) ≡ fed 4 4 (codes "a") }
 {}
 
-/// Where the cursor goes: at a row's front to the front of the first row that this became; within it, to that row, and its column
-/// stays as far as it can; waiting at its end, to the end of the last. One above the window goes to its first row.
+/// Where the cursor goes: from a row's front to the front of the first row that it became; from within a row to that row, with its column
+/// as far as possible; waiting at its end, to the end of the last. A cursor above the window goes to its first row.
 pub fn cut_cursors()
     ensures front { cursor_at 4 5 (fed 4 10 (codes "progress\r")) ≡ (0, 0) }
     ensures within { cursor_at 4 5 (fed 4 10 (codes "progress" ++ ESC ++ codes "[5D")) ≡ (0, 3) }
@@ -154,7 +154,7 @@ pub fn cut_cursors()
     ensures half_read { picture_at 1 4 (after (resized_terminal 5 1 (fed 1 4 (0xE5 ∷ 0x9B ∷ []))) (0xBD ∷ [])) ≡ (0xE5 ∷ 0x9B ∷ 0xBD ∷ []) ∷ [] }
 {}
 
-/// Lists that get another size.
+/// Lists on a terminal that gets another size.
 pub fn cut_lists()
     ensures not_joined { NotJoined }
     ensures live_rows_scroll_away { LiveRowsScrollAway }
@@ -164,7 +164,7 @@ pub fn cut_lists()
     ensures kept_rows_scroll_away { KeptRowsScrollAway }
 {}
 
-/// The lines of one row that the rows of a line become, by their texts; and counts of rows that were cut.
+/// The lines of one row that the rows of a line become, by their texts; and the counts of wrapped rows.
 fn cut_lines()
     ensures each_row { texts_then 10 5 (codes "progress bars") ≡ (codes "progr" ∷ codes "ess b" ∷ []) ∷ (codes "ars" ∷ []) ∷ [] }
     ensures not_joined { texts_then 3 9 (codes "abcd") ≡ (codes "abc" ∷ []) ∷ (codes "d" ∷ []) ∷ [] }
@@ -177,7 +177,7 @@ fn cut_lines()
     ensures scrolled { counts_after 4 (record { bar = 8; rows = 3 } ∷ record { bar = 9; rows = 3 } ∷ []) ≡ record { bar = 9; rows = 2 } ∷ [] }
 {}
 
-/// Sequences that are no moves, and bytes that spell no character.
+/// Sequences that are no moves, and bytes that are no character.
 pub fn odd_sequences()
     ensures no_bracket { contents_after 1 4 (ESC ++ codes "Ma") ≡ codes "Ma" }
     ensures twice { contents_after 1 4 (codes "ab\r" ++ ESC ++ ESC ++ codes "[2Kc") ≡ codes "c" }
@@ -189,7 +189,8 @@ pub fn odd_sequences()
     ensures stray { contents_after 1 4 (codes "a" ++ 0x80 ∷ 0x80 ∷ 0x80 ∷ 0x80 ∷ 0x80 ∷ codes "b") ≡ codes "ab" }
 {}
 
-/// A terminal whose wrap is off: what has no room on a row is written over its end, and the cursor never waits. Turned on again it wraps.
+/// A terminal whose wrap is off: what doesn't fit on a row is written over its end, and the cursor never waits. With its wrap on again it
+/// wraps.
 pub fn unwrapped()
     ensures on { mode_picture 2 3 (codes "abcd") ≡ codes "abc" ∷ codes "d" ∷ [] }
     ensures off { mode_picture 2 3 (OFF ++ codes "abcd") ≡ codes "abd" ∷ [] ∷ [] }
@@ -201,7 +202,7 @@ pub fn unwrapped()
     ensures next_row { mode_picture 2 3 (OFF ++ codes "abcd\r\ne") ≡ codes "abd" ∷ codes "e" ∷ [] }
 {}
 
-/// Private sequences: those of other modes change nothing, nor do several at once. The end of a row is emptied from the cursor on.
+/// Private sequences: those of other modes change nothing, nor do several modes at once. The end of a row is emptied from the cursor on.
 pub fn private_sequences()
     ensures updates { mode_picture 1 3 (ESC ++ codes "[?2026ha" ++ ESC ++ codes "[?2026lb") ≡ codes "ab" ∷ [] }
     ensures others { wraps_then 1 3 (ESC ++ codes "[?25l") ≡ true }
@@ -230,7 +231,7 @@ pub fn marks()
     ensures after_empty { contents_after 1 4 (ESC ++ codes "[1C" ++ 0xCC ∷ 0x88 ∷ codes "a") ≡ codes " a" }
 {}
 
-/// The calls as text: what stands between quotation marks is escaped as in Rust's own text of a string.
+/// The calls as text: the text between quotation marks is escaped as Rust escapes a string.
 pub fn calls_as_text()
     ensures up { move_text (codes "Up") 2 ≡ codes "Up(2)\n" }
     ensures down { move_text (codes "Down") 10 ≡ codes "Down(10)\n" }

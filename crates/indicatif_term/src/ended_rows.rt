@@ -1,4 +1,4 @@
-//! Rows that the program cuts and ends by itself.
+//! Rows that the program wraps and ends by itself.
 ghost use Rattle.std.specs.Prelude.{◌≡◌, ◌-◌, ◌≤◌, ◌⊎◌, ◌↔◌, Bool, Option, None, List, [], ◌∷◌, true, false, is_some, chars, nat_lt, nat_le, ◌&&◌, Err, IsTrue, IsFalse, IfErr, OnOk, OnErr};
 ghost use Rattle.unicode_width.specs.Width.{char_width};
 ghost use Rattle.indicatif_text.specs.Columns.{visible, is_plain};
@@ -16,24 +16,24 @@ use crate::term_like::{Resize, TermLike};
 use indicatif_text::columns::{Piece, Refusal, columns, pieces, width};
 use std::io;
 
-/// A terminal whose rows are cut here; all of it, or one row of several.
+/// A terminal whose rows are wrapped here; all of it, or one row of several.
 #[derive(Drop)]
 pub struct EndedRows<T> {
     term: T,
     row: Option<OwnRow>,
     shown: Shown,
     place: Place,
-    /// The cursor's column on a terminal of the told width: that width, where it waits behind a full row.
+    /// The cursor's column on a terminal of the given width: that width, if it waits at the end of a full row.
     column: usize,
-    /// The terminal's faults when a drawing began.
+    /// The terminal's faults at the start of a draw.
     faults: u64,
-    /// The bytes of texts since the wrap was on.
+    /// The bytes of texts that were written since the wrap was on.
     sent: usize,
-    /// Whether characters were written on the cursor's row, since it came there or a drawing began.
+    /// Whether characters were written on the cursor's row, since it came there or a draw began.
     written: bool,
 }
 
-/// How a drawing is shown.
+/// How a draw is shown.
 #[derive(Clone, Copy, Drop, PartialEq, Eq)]
 pub enum Shown {
     /// As a synchronized update.
@@ -45,18 +45,18 @@ pub enum Shown {
 /// Where the cursor is.
 #[derive(Clone, Copy, Drop, PartialEq, Eq)]
 enum Place {
-    /// Within a drawing, at its column; the wrap is off.
+    /// Within a draw, at its column; the wrap is off.
     Drawing,
-    /// Within one, but not at its column: at the right edge, or behind the told columns; the wrap is off.
+    /// Within a draw, but not at its column: at the right edge, or past the given columns; the wrap is off.
     Edge,
-    /// Between two drawings, at its column.
+    /// Between two draws, at its column.
     Resting,
-    /// Between two drawings, at the right edge.
+    /// Between two draws, at the right edge.
     Waiting,
 }
 
 impl Place {
-    /// Whether the cursor is between two drawings: the wrap is on then.
+    /// Whether the cursor is between two draws: then the wrap is on.
     fn is_between(self) -> bool
         ensures { result ≡ is_between self }
     {
@@ -66,7 +66,7 @@ impl Place {
         }
     }
 
-    /// Where it is when a drawing has begun.
+    /// Its place after the start of a draw.
     fn drawn(self) -> Place
         ensures { result ≡ drawn_place self }
     {
@@ -80,11 +80,11 @@ impl Place {
 /// More columns than any terminal has.
 const EDGE: usize = 9_999;
 
-/// So many bytes of texts are written at most before the wrap is on again, but for the text that passes them. Linux takes two thousand
-/// bytes of a terminal's program at once, and looks for a signal only then.
+/// The most bytes of texts that are written before the wrap is turned on, apart from the text that exceeds them. Linux takes two thousand
+/// bytes from a terminal's program at once, and looks for a signal only then.
 const BREATH: usize = 1_024;
 
-/// Where the cursor waits before the first drawing.
+/// Where the cursor waits before the first draw.
 fn first_place(row: Option<OwnRow>) -> Place
     ensures { result ≡ first_place row }
 {
@@ -111,7 +111,7 @@ impl<T> EndedRows<T> {
         }
     }
 
-    /// The same, whose drawings are shown so.
+    /// The terminal with its draws shown in this way.
     pub fn shown(self, shown: Shown) -> EndedRows<T>
         ensures { result ≡ record self { shown = shown } }
     {
@@ -125,7 +125,7 @@ impl<T> EndedRows<T> {
         &self.term
     }
 
-    /// What is written where a drawing begins.
+    /// What is written at the start of a draw.
     fn opening(&self) -> &'static str
         ensures { result.now ≡ opening_bytes self.now.shown }
     {
@@ -135,7 +135,7 @@ impl<T> EndedRows<T> {
         }
     }
 
-    /// What is written where a drawing has ended.
+    /// What is written at the end of a draw.
     fn closing(&self) -> &'static str
         ensures { result.now ≡ closing_bytes self.now.shown }
     {
@@ -145,7 +145,7 @@ impl<T> EndedRows<T> {
         }
     }
 
-    /// How many rows of others stand below.
+    /// How many rows of other programs are below.
     fn below(&self) -> usize
         ensures { self.now.row ≡ None → result ≡ 0 }
     {
@@ -155,7 +155,7 @@ impl<T> EndedRows<T> {
         }
     }
 
-    /// The cursor is at this column of the row, where a drawing is made.
+    /// Notes that the cursor is at this column of the row, during a draw.
     fn is_at(&mut self, column: usize)
         ensures { self.new ≡ record self.old { column = column; place = moved_place self.old.place } }
     {
@@ -167,7 +167,7 @@ impl<T> EndedRows<T> {
 }
 
 impl<T: TermLike> EndedRows<T> {
-    /// Turns the wrap off, and goes to the row, where a drawing begins.
+    /// Turns the wrap off, and goes to the row, if a draw begins.
     fn begin(&mut self) -> io::Result<()>
         ensures { Falls T.view (Together T.view) (Within T.view) (λ s. s) self.old self.new result }
     {
@@ -178,7 +178,7 @@ impl<T: TermLike> EndedRows<T> {
         self.breathe()
     }
 
-    /// The same where a drawing does begin.
+    /// Begins a draw: turns the wrap off, and goes to the row.
     fn begin_drawing(&mut self) -> io::Result<()>
         ensures { Falls T.view (Between T.view) (Within T.view) (λ s. s) self.old self.new result }
     {
@@ -189,7 +189,7 @@ impl<T: TermLike> EndedRows<T> {
         self.go_up(self.below())
     }
 
-    /// Where a call has failed nobody knows where the cursor is: the next drawing begins there.
+    /// After a failed call the cursor's place is unknown: the next draw begins there.
     fn forget_failed(&mut self)
         ensures { self.new ≡ unfailed T.view self.old }
     {
@@ -201,7 +201,8 @@ impl<T: TermLike> EndedRows<T> {
         }
     }
 
-    /// Hands on what was written, with the wrap on, where that is much. So a program that is killed in a long drawing mostly leaves it on.
+    /// Flushes what was written, with the wrap on, if it is much. So a program that is killed during a long draw usually leaves the wrap
+    /// on.
     fn breathe(&mut self) -> io::Result<()>
         ensures { Falls T.view (Within T.view) (Within T.view) (λ s. s) self.old self.new result }
     {
@@ -214,7 +215,7 @@ impl<T: TermLike> EndedRows<T> {
         self.send("\u{1b}[?7l")
     }
 
-    /// Where a drawing ends.
+    /// Ends a draw, if there is one.
     fn end(&mut self) -> io::Result<()>
         ensures { Falls T.view (Together T.view) (Together T.view) (λ s. s) self.old self.new result }
     {
@@ -224,7 +225,7 @@ impl<T: TermLike> EndedRows<T> {
         self.end_drawing()
     }
 
-    /// Turns the wrap on, and lets the cursor rest or wait.
+    /// Ends a draw: turns the wrap on, and lets the cursor rest or wait.
     fn end_drawing(&mut self) -> io::Result<()>
         ensures { Falls T.view (Within T.view) (Together T.view) (λ s. s) self.old self.new result }
     {
@@ -233,7 +234,7 @@ impl<T: TermLike> EndedRows<T> {
         self.send(self.closing())
     }
 
-    /// Lets the cursor wait at the right edge. On a terminal of its own it rests at the front of a row.
+    /// Lets the cursor wait at the right edge. On a whole terminal it rests at the front of a row.
     fn leave(&mut self) -> io::Result<()>
         ensures { Falls T.view (Held T.view true) (Ended T.view) (λ s. s) self.old self.new result }
     {
@@ -256,7 +257,7 @@ impl<T: TermLike> EndedRows<T> {
         Ok(())
     }
 
-    /// To the right edge of the last of all rows, behind a blank there.
+    /// Goes to the right edge of the last of all rows, after a blank there.
     fn go_to_edge(&mut self) -> io::Result<()>
         ensures { Falls T.view (Held T.view true) (Meets T.view true false) (λ s. s) self.old self.new result }
     {
@@ -274,7 +275,7 @@ impl<T: TermLike> EndedRows<T> {
         self.term.write_str(text)
     }
 
-    /// Up `n` rows; none is no move.
+    /// Goes up `n` rows; 0 is no move.
     fn go_up(&mut self, n: usize) -> io::Result<()>
         ensures { Carries T.view (Within T.view) (Within T.view) (rows_moved UP n) self.old self.new result }
     {
@@ -285,7 +286,7 @@ impl<T: TermLike> EndedRows<T> {
         self.term.move_cursor_up(n)
     }
 
-    /// Down `n` rows; none is no move.
+    /// Goes down `n` rows; 0 is no move.
     fn go_down(&mut self, n: usize) -> io::Result<()>
         ensures { (wraps : Bool) → Falls T.view (Held T.view wraps) (Held T.view wraps) (rows_moved DOWN n) self.old self.new result }
     {
@@ -296,8 +297,8 @@ impl<T: TermLike> EndedRows<T> {
         self.term.move_cursor_down(n)
     }
 
-    /// Empties the row from the told columns on, where characters were written on it. A terminal that hasn't more columns empties its last
-    /// one: there each character stood that it had no room for, one in the place of the other.
+    /// Empties the row from the given columns on, if characters were written on it. A terminal that has no more columns empties its last
+    /// one: characters that didn't fit were written there, one over the other.
     fn leave_row(&mut self) -> io::Result<()>
         ensures { (wraps : Bool) → Falls T.view (Held T.view wraps) (Held T.view wraps) (λ s. s) self.old self.new result }
     {
@@ -312,7 +313,7 @@ impl<T: TermLike> EndedRows<T> {
         self.send("\u{1b}[K")
     }
 
-    /// To the right by `n` columns.
+    /// Goes right by `n` columns.
     fn go_right(&mut self, n: usize) -> io::Result<()>
         ensures writes { Writes (move_bytes RIGHT n) (T.view self.old.term) (T.view self.new.term) result }
         ensures same { self.new ≡ record self.old { term = self.new.term } }
@@ -320,7 +321,7 @@ impl<T: TermLike> EndedRows<T> {
         self.term.move_cursor_right(n)
     }
 
-    /// To a column of the row.
+    /// Goes to a column of the row.
     fn go_to(&mut self, column: usize) -> io::Result<()>
         ensures { Falls T.view (WithinTo T.view column) (Within T.view) (at_column column) self.old self.new result }
     {
@@ -329,7 +330,7 @@ impl<T: TermLike> EndedRows<T> {
         self.go_right(column)
     }
 
-    /// To the front of the row.
+    /// Goes to the front of the row.
     fn go_to_front(&mut self) -> io::Result<()>
         ensures { Falls T.view (Within T.view) (Within T.view) (at_column 0) self.old self.new result }
     {
@@ -337,7 +338,7 @@ impl<T: TermLike> EndedRows<T> {
         self.send("\r")
     }
 
-    /// To the front of the next row.
+    /// Goes to the front of the next row.
     fn go_to_next_row(&mut self) -> io::Result<()>
         ensures { Falls T.view (Within T.view) (Within T.view) next_front self.old self.new result }
     {
@@ -354,7 +355,7 @@ impl<T: TermLike> EndedRows<T> {
         self.term.clear_line()
     }
 
-    /// Hands on what is held back.
+    /// Flushes the terminal.
     fn hand_on(&mut self) -> io::Result<()>
         ensures writes { Writes [] (T.view self.old.term) (T.view self.new.term) result }
         ensures same { self.new ≡ record self.old { term = self.new.term } }
@@ -362,7 +363,7 @@ impl<T: TermLike> EndedRows<T> {
         self.term.flush()
     }
 
-    /// Back to the column at which the last drawing ended, or from which the cursor left a row.
+    /// Goes back to the column at which the last draw ended, or from which the cursor left a row.
     fn leave_edge(&mut self) -> io::Result<()>
         ensures { Falls T.view (Within T.view) (Within T.view) (λ s. s) self.old self.new result }
     {
@@ -372,7 +373,7 @@ impl<T: TermLike> EndedRows<T> {
         self.go_to(self.column)
     }
 
-    /// Writes a text piece by piece, cut into rows.
+    /// Writes a text piece by piece, wrapped into rows.
     fn put(&mut self, text: &str) -> io::Result<()>
         ensures { Falls T.view (WithinIf T.view (AreShown (visible (chars text.now)))) (Within T.view) (all_put (visible (chars text.now))) self.old self.new result }
     {
@@ -405,7 +406,7 @@ impl<T: TermLike> EndedRows<T> {
         self.send(text)
     }
 
-    /// Writes visible characters, at once where the row has room for all.
+    /// Writes visible characters, together if the row has room for all.
     fn put_run(&mut self, text: &str) -> io::Result<()>
         ensures { Falls T.view (WithinIf T.view (AreShown (chars text.now))) (Within T.view) (all_put (chars text.now)) self.old self.new result }
     {
@@ -428,7 +429,7 @@ impl<T: TermLike> EndedRows<T> {
         Ok(())
     }
 
-    /// Writes a character, on the next row where this one has no room for it, and nowhere where no row has.
+    /// Writes a character, on the next row if this one has no room for it, and not at all if no row has.
     fn put_char(&mut self, c: char) -> io::Result<()>
         ensures { Falls T.view (WithinIf T.view (is_some (char_width false c) ≡ true)) (Within T.view) (performed (Put c)) self.old self.new result }
     {
@@ -444,7 +445,7 @@ impl<T: TermLike> EndedRows<T> {
         self.send(text)
     }
 
-    /// To the next row, where this one hasn't so many columns left.
+    /// Goes to the next row, if this one hasn't `wide` columns left.
     fn make_room(&mut self, wide: usize) -> io::Result<()>
         ensures { Falls T.view (Within T.view) (WithinRoom T.view wide) (with_room wide) self.old self.new result }
     {
@@ -454,21 +455,21 @@ impl<T: TermLike> EndedRows<T> {
         Ok(())
     }
 
-    /// How many columns are left of the row.
+    /// How many columns of the row are left.
     fn room(&self) -> usize
         ensures { result ≡ (T.view self.now.term).columns - self.now.column }
     {
         (self.term.width() as usize).saturating_sub(self.column)
     }
 
-    /// Whether the cursor waits behind a full row.
+    /// Whether the cursor waits at the end of a full row.
     fn waits(&self) -> bool
         ensures { result ≡ nat_lt 0 self.now.column && nat_le (T.view self.now.term).columns self.now.column }
     {
         0 < self.column && self.term.width() as usize <= self.column
     }
 
-    /// The column after a move to the right: the last one at most. A cursor that waits behind a full row stays.
+    /// The column after a move to the right: at most the last one. A cursor that waits at the end of a full row stays.
     fn right_of(&self, n: usize) -> usize
         ensures { result ≡ right_column (T.view self.now.term).columns self.now.column n }
     {
@@ -480,7 +481,7 @@ impl<T: TermLike> EndedRows<T> {
     }
 }
 
-/// Of its bytes it tells nothing.
+/// Its bytes can't be read.
 impl<T: TermLike> TermLike for EndedRows<T> {
     ghost view = { λ own. quiet (T.view own.term) };
 

@@ -1,19 +1,19 @@
-//! A terminal in memory: the cells that bytes lead to.
+//! A terminal in memory: the cells after its bytes.
 //!
 //! - `feeding`: the terminal as a machine over bytes, `Cells`.
 //! - `whole_char`: whole characters at the front of bytes, which most bytes are.
-//! - `scanner`: what bytes ask for: characters first, escape sequences next.
-//! - `spelling`: the bytes of a character that isn't whole.
-//! - `grid`: the rows and the cursor, what each operation does to them, and what another size does.
-//! - `row`: a row of cells, and what writing into it does to its wide characters.
-//! - `run`: characters of one column, which are written into a row at once.
+//! - `scanner`: the operations of bytes: characters first, escape sequences next.
+//! - `spelling`: the bytes of an incomplete character.
+//! - `grid`: the rows and the cursor, and how each operation and another size change them.
+//! - `row`: a row of cells, and how writing into it changes its wide characters.
+//! - `run`: characters of one column, which are written into a row together.
 //! - `cell`: a cell of a row.
-//! - `glyph`: a character and its marks, as they are taken out of a row.
+//! - `glyph`: a character and its marks, as they are read from a row.
 //! - `marks`: the marks of a row: zero-width characters, which are joined to its characters.
 //! - `known_width`: the columns of a character, remembered while it comes again.
 //! - `call_log`: the calls as text.
 //!
-//! `InMemoryTerm` is that terminal as a bar's target.
+//! `InMemoryTerm` is this terminal as a bar's target.
 ghost use Rattle.std.specs.Prelude.{◌≡◌, true, ◌-◌, ◌++◌, ◌==◌, ◌⊎◌, ◌↔◌, [], if◌then◌else◌, map, codes, Err, IfOk, IsOk, IsOkAnd, IfErr, IsTrue, IsFalse, OnOk, OnErr, string_bytes};
 ghost use Rattle.std.specs.IoError.{error_kind};
 ghost use Rattle.indicatif_term.specs.Screen.{top};
@@ -47,8 +47,7 @@ use std::io::ErrorKind;
 use std::marker::Model;
 use std::{io, mem};
 
-/// A terminal in memory, on which bars can be drawn. It tells its state, and keeps the calls that it was given as
-/// text. Rows that scroll away are kept.
+/// A terminal in memory, on which bars can draw. Its state can be read, and it keeps its calls as text. Rows that scroll away are kept.
 ///
 /// ```
 /// let mut term = InMemoryTerm::new(rt.alloc(), 3, 10)?;
@@ -58,14 +57,14 @@ use std::{io, mem};
 /// // moves_since_last_check: "Str(\"one\")\nNewLine\nStr(\"two \")\n"
 /// ```
 ///
-/// Memory is taken for the cells of a row up to the last one that was written, and for each row some 60 bytes: a
-/// terminal of 65,535 rows and columns is made at once and takes 4 MB.
+/// It takes memory for the cells of a row up to the last one that was written, and some 60 bytes for each row: a terminal of 65,535 rows
+/// and columns is made at once and takes 4 MB.
 ///
-/// A call that finds no memory fails with an error of kind `OutOfMemory`, counts it in `faults`, and has read a
-/// beginning of its bytes. The memory for the text of a call is taken before the cells change, so a call that fails has
-/// left the text as it was, or with this call at its end.
+/// A call that gets no memory fails with an error of kind `OutOfMemory`, counts it in `faults`, and has read a prefix of its bytes. The
+/// memory for the text of a call is taken before the cells change, so a call that fails leaves the text unchanged, or with this call at its
+/// end.
 ///
-/// That text grows with all that is written, until `moves_since_last_check` hands it out or `reset` empties it.
+/// That text grows with all that is written, until `moves_since_last_check` returns it or `reset` empties it.
 #[derive(Debug)]
 pub struct InMemoryTerm {
     alloc: Global,
@@ -99,7 +98,7 @@ impl InMemoryTerm {
     /// A terminal of `rows` rows and `cols` columns, all blank, the cursor at the front of the first row, no faults and
     /// no calls.
     ///
-    /// Refused: `ZeroSize` where `rows` or `cols` is 0, with nothing made; `Memory`.
+    /// Refused: `ZeroSize` if `rows` or `cols` is 0; `Memory`. Nothing is made.
     ///
     /// ```
     /// let term = InMemoryTerm::new(rt.alloc(), 24, 80)?;
@@ -119,7 +118,7 @@ impl InMemoryTerm {
         })
     }
 
-    /// As made anew; `faults` stays. No memory is taken.
+    /// Resets it to a new terminal, except `faults`. Takes no memory.
     ///
     /// ```
     /// term.write_str("abc")?;
@@ -136,13 +135,11 @@ impl InMemoryTerm {
         self.moves.clear();
     }
 
-    /// The window's rows as text, up to the last one with a written cell, each without the blanks at its end (empty
-    /// cells and spaces), joined by line feeds. A space that was written is a written cell. Refused: `Memory`, never where
-    /// the window has no written cell.
+    /// The window's rows as text, up to the last one with a written cell, each without the blanks at its end (empty cells and spaces),
+    /// joined by line feeds. A space that was written is a written cell. Refused: `Memory`, never if the window has no written cell.
     ///
-    /// It doesn't say which of a row's last cells are empty and which are spaces, how many rows without a written cell
-    /// follow, what scrolled away, where the cursor is, nor which colours were asked for: a terminal in memory has none,
-    /// and shows the characters of a colour sequence after ESC `[` and its numbers nowhere.
+    /// It doesn't show which of a row's last cells are empty and which are spaces, how many rows without a written cell follow, what
+    /// scrolled away, the cursor, or colours: a terminal in memory has none, and the characters of a colour sequence are shown nowhere.
     ///
     /// ```
     /// term.write_str("a  \r\n\r\n ")?;
@@ -155,8 +152,8 @@ impl InMemoryTerm {
         self.cells.contents()
     }
 
-    /// The cursor's row, counted from the first of the window, and its column. In the column after the last one it
-    /// waits.
+    /// The cursor's row, counted from the first of the window, and its column. At the end of a full row the column is the one after the
+    /// last.
     ///
     /// ```
     /// let mut term = InMemoryTerm::new(rt.alloc(), 2, 2)?;
@@ -186,9 +183,9 @@ impl InMemoryTerm {
         self.cells.picture()
     }
 
-    /// The calls since the last check, one a line: `Up(n)`, `Down(n)`, `Left(n)`, `Right(n)`, `Str("..")`, `NewLine`,
-    /// `Clear`, `Flush`. `write_line` is `Str` and `NewLine`; a move by 0 is none. What stands between quotation marks is
-    /// escaped as by Rust's `{:?}`. No memory is taken.
+    /// The calls since the last check, one a line: `Up(n)`, `Down(n)`, `Left(n)`, `Right(n)`, `Str("..")`, `NewLine`, `Clear`, `Flush`.
+    /// `write_line` is `Str` and `NewLine`; a move by 0 isn't listed. The text between quotation marks is escaped as by Rust's `{:?}`.
+    /// Takes no memory.
     ///
     /// ```
     /// term.move_cursor_up(2)?;
@@ -219,7 +216,7 @@ impl InMemoryTerm {
         }
     }
 
-    /// The same, without the count of faults.
+    /// As `play`, without the count of faults.
     fn try_play(
         &mut self,
         line: Result<String, Refusal>,
@@ -239,7 +236,7 @@ impl InMemoryTerm {
         self.read(end)
     }
 
-    /// Reads bytes, and forgets how many where memory is refused.
+    /// Reads bytes, without their number if memory is refused.
     fn read(&mut self, bytes: &[u8]) -> Result<(), Refusal>
         ensures read { OnOk result (self.new.terminal ≡ after self.old.terminal bytes.now) }
         ensures stopped { OnErr result (ReadsBeginning bytes.now self.old.terminal self.new.terminal) }
@@ -357,7 +354,7 @@ impl TermLike for InMemoryTerm {
     }
 }
 
-/// Memory for all its rows is taken at each other size, also where nothing stands on them.
+/// Each other size takes memory for all its rows, even if they are blank.
 impl Resize for InMemoryTerm {
     ghost takes_memory = { true };
 

@@ -1,11 +1,11 @@
-//! How often a target may be drawn.
+//! How often a target may draw.
 ghost use Rattle.std.specs.Prelude.{◌≡◌, ◌<◌, ◌↔◌, IfOk, IfErr};
 ghost use Rattle.indicatif_term.specs.Limiters.{Limiter, allow, burst, default_rate, draw_limiter};
 
 use indicatif_text::columns::{Moment, Refusal};
 use std::marker::Model;
 
-/// How often in a second a target of `stdout` or `stderr` may be drawn, by the documentation of the Rust crate `indicatif` 0.18.6.
+/// How often a target of `stdout` or `stderr` draws a second, by the documentation of the Rust crate `indicatif` 0.18.6.
 ///
 /// ```
 /// let mut limiter = RateLimiter::new(DEFAULT_RATE, 0)?; // as that of `ProgressDrawTarget::stderr` at the moment 0
@@ -15,11 +15,10 @@ pub const DEFAULT_RATE: u8 = 20;
 /// How many draws may come at once.
 const BURST: u64 = 20;
 
-/// How often a target may be drawn: 20 draws may come at once, and one more with each interval after that, of which no
-/// more than 20 are ever in hand. By the documentation of the Rust crate `indicatif` 0.18.6.
+/// How often a target may draw: 20 draws may come at once, and one more for each interval after that, never with more than 20 in hand. The
+/// rule is that of the documentation of the Rust crate `indicatif` 0.18.6.
 ///
-/// Of any moments, in any order, those that it allows are at most 20, and one for each interval from its making to the last
-/// one allowed.
+/// Of any moments, in any order, it allows at most 20, and one for each interval from its making to the last one allowed.
 ///
 /// ```
 /// let mut limiter = RateLimiter::new(DEFAULT_RATE, 0)?;
@@ -45,9 +44,9 @@ impl Model for RateLimiter {
 }
 
 impl RateLimiter {
-    /// A limiter of `rate` draws a second, made at this moment. Its interval is `1000 / rate` whole milliseconds.
+    /// A limiter for `rate` draws a second, made at this moment. Its interval is `1000 / rate` whole milliseconds.
     ///
-    /// Refused: `ZeroRate`, exactly where `rate` is 0.
+    /// Refused: `ZeroRate`, exactly if `rate` is 0.
     pub fn new(rate: u8, now: Moment) -> Result<Self, Refusal>
         ensures limiter { IfOk result (λ l. l ≡ draw_limiter rate now) }
         ensures zero { (result ≡ Err Refusal.ZeroRate) ↔ (rate ≡ 0) }
@@ -66,7 +65,7 @@ impl RateLimiter {
         RateLimiter::spaced(1000 / u64::from(DEFAULT_RATE) * 1_000_000, now)
     }
 
-    /// A limiter of this interval, made at this moment.
+    /// A limiter with this interval, made at this moment.
     fn spaced(interval: u64, now: Moment) -> Self
         requires { 0 < interval }
         ensures { result ≡ record { interval = interval; most = burst; capacity = burst; prev = now } }
@@ -78,8 +77,8 @@ impl RateLimiter {
         }
     }
 
-    /// Whether a draw is allowed at this moment; if so, it is counted. None is allowed at a moment before the one from which
-    /// it counts, and nothing changes then.
+    /// Whether a draw is allowed at this moment; if so, it is counted. None is allowed at a moment before the one from which it counts;
+    /// then nothing changes.
     pub fn allow(&mut self, now: Moment) -> bool
         ensures answer { result ≡ (allow self.old now).0 }
         ensures next { self.new ≡ (allow self.old now).1 }
@@ -97,7 +96,7 @@ impl RateLimiter {
         true
     }
 
-    /// Another limiter, equal to this one: what either allows from now on is not counted by the other.
+    /// A copy of the limiter. The two count separately.
     ///
     /// ```
     /// let before = limiter.same();

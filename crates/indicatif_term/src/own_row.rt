@@ -14,7 +14,7 @@ pub struct OwnRow {
 }
 
 impl OwnRow {
-    /// The row of this number. None where there is no such row.
+    /// The row with this number. `None` if there is no such row.
     pub fn new(number: u16, of: u16) -> Option<OwnRow>
         ensures { IfSome result (λ row. (row.number ≡ number) × (row.of ≡ of)) }
     {

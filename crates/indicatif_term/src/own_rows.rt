@@ -1,4 +1,4 @@
-//! A terminal whose rows are cut by the program, or left to the terminal.
+//! A terminal whose rows are ended by the program, or by the terminal.
 ghost use Rattle.std.specs.Prelude.{◌≡◌, List, [], ◌∷◌, chars, Err, IsTrue, IsFalse, None, Some, OnOk, OnErr, IfErr, ◌⊎◌, ◌↔◌};
 ghost use Rattle.indicatif_text.specs.Columns.{is_plain};
 ghost use Rattle.indicatif_term.specs.EndedRows.{OwnDraws, OwnKeeps};
@@ -13,25 +13,25 @@ use indicatif_text::columns::Refusal;
 use std::fmt::{self, Debug, Formatter};
 use std::io;
 
-/// A terminal of which nobody knows how wide it is: no drawing on it erases a row that isn't the bars' own, whatever was told.
+/// A terminal of unknown width: no draw on it erases a row that isn't the bars' own, whatever width it was given.
 ///
-/// Each row is cut here, at the columns that were told, and ended by CR LF. The terminal's own wrap is off while a drawing is made
-/// (DEC's private mode 7: ESC `[?7l` before it, ESC `[?7h` behind it). So a row that was told is one row of the terminal. On a
-/// narrower one the right end of each row is lost, of a logged line too, and the last column is blank; on a wider one the rest is free.
+/// Each row is wrapped here, at the given columns, and ended by CR LF. The terminal's own wrap is off during a draw (DEC's private mode 7:
+/// ESC `[?7l` before it, ESC `[?7h` after it). So each row is one row of the terminal. On a narrower terminal the right end of each row is
+/// lost, also of a logged line, and the last column is blank; on a wider one the rest is free.
 ///
-/// A row on which characters were written is emptied from the told columns on (ESC `[K`), before the cursor leaves it for another one. So a
-/// narrower terminal doesn't show on its last column what was written there last.
+/// A row on which characters were written is emptied from the given columns on (ESC `[K`), before the cursor leaves it. So a narrower
+/// terminal doesn't show the last character written on its last column.
 ///
-/// Behind a drawing the cursor waits at the terminal's right edge, behind a blank on the last column, so that what anybody writes next
-/// begins on a row of its own. So tell it one column less than the terminal may have.
+/// After a draw the cursor waits at the terminal's right edge, after a blank on the last column, so that the next text, whoever writes it,
+/// begins on a new row. So give it one column less than the terminal may have.
 ///
-/// A drawing is a synchronized update (DEC's private mode 2026: ESC `[?2026h` before it, ESC `[?2026l` behind it). Terminals that know
-/// this mode show a whole drawing at once, and the others ignore it. `unsynchronized` leaves it away.
+/// A draw is a synchronized update (DEC's private mode 2026: ESC `[?2026h` before it, ESC `[?2026l` after it). Terminals that know this
+/// mode show a whole draw at once, and the others ignore it. `unsynchronized` omits it.
 ///
-/// A character wider than the told columns is left out. As a terminal it tells its size and its faults, and nothing of its bytes. Clause
-/// `draws` of each call says, of plain texts, that at any true width the rows above the cursor's stand after each byte, and that the
-/// cursor is on the row on which a terminal of the told columns has it. Laws `where_own_rows_begin` and `what_own_rows_draw` lead from
-/// a new one over any calls. Where rows are left to the terminal it tells all that it does.
+/// A character wider than the given columns is left out. As a terminal it gives its size and its faults; its bytes can't be read. For plain
+/// texts, the clause `draws` of each call says that at any true width the rows above the cursor's stand after each byte, and that the
+/// cursor is on the row on which a terminal of the given columns has it. The laws `where_own_rows_begin` and `what_own_rows_draw` lead from
+/// a new one over any calls. If the terminal ends rows, contracts see all of the terminal.
 ///
 /// ```
 /// let term = OwnRows::new(Term::new(writer, 24, 79)); // for a terminal of 80 columns, or of any other number
@@ -42,7 +42,7 @@ pub struct OwnRows<T> {
     rows: Rows<T>,
 }
 
-/// Who cuts rows.
+/// Who ends rows.
 #[derive(Drop)]
 enum Rows<T> {
     /// The terminal.
@@ -51,7 +51,7 @@ enum Rows<T> {
     Ended(EndedRows<T>),
 }
 
-/// Programmers are shown the terminal.
+/// Shows the terminal.
 impl<T: Debug> Debug for OwnRows<T> {
     fn fmt<W: fmt::Write>(&self, f: &mut Formatter<W>) -> fmt::Result {
         f.debug_struct("OwnRows")
@@ -71,10 +71,9 @@ impl<T> OwnRows<T> {
     }
 
     /// One row of this terminal, where other programs draw on those above and below it. The cursor stands on the last of these rows. Each
-    /// drawing goes up to its own row and back, and is one write behind a `BufWriter`. So no program waits for another.
+    /// draw goes up to its own row and back, and is one write behind a `BufWriter`. So no program waits for another.
     ///
-    /// A drawing is to have one line, so tell the terminal one row. What others write while bars stand begins on a row of its own, below
-    /// the last row.
+    /// A draw must have one line, so give the terminal one row. What others write while bars stand begins on a new row, below the last row.
     ///
     /// ```
     /// let term = OwnRows::on_row(Term::new(writer, 1, 79), row); // for the second of three rows
@@ -87,7 +86,7 @@ impl<T> OwnRows<T> {
         }
     }
 
-    /// This terminal, of which the width is known: it wraps rows by itself, and nothing but what it is asked for is written.
+    /// This terminal, with a known width: it wraps rows by itself, and only the calls' own bytes are written.
     ///
     /// ```
     /// let term = OwnRows::left_to_terminal(Term::new(writer, 24, 80)); // writes what the `Term` does
@@ -100,8 +99,8 @@ impl<T> OwnRows<T> {
         }
     }
 
-    /// The same without synchronized updates: for a terminal that shows DEC's private mode 2026 as text. Where rows are left to the
-    /// terminal there are none.
+    /// The terminal without synchronized updates: for one that shows DEC's private mode 2026 as text. If the terminal ends rows there are
+    /// none.
     ///
     /// ```
     /// let term = OwnRows::new(Term::new(writer, 24, 79)).unsynchronized();
@@ -237,12 +236,12 @@ impl<T: TermLike> TermLike for OwnRows<T> {
     }
 }
 
-/// The terminal behind it gets the size, and nothing is written. Rows that are cut here are cut at the new columns from then on: tell it
-/// one column less than there are now, as at first.
+/// Sets the size of the inner terminal, and writes nothing. If the program ends rows, they are wrapped at the new columns from then on:
+/// give it one column less than there are now, as at first.
 ///
-/// What stands is then counted as rows that these columns cut. A terminal that cut it at others, or not at all, may have fewer: the
-/// next drawing takes back rows above then. Where it has as many, clause `together` says that `draws` goes on. A new target
-/// (`machine::sized_target`) behind a clear counts what was drawn.
+/// The rows that stand then count as wrapped at these columns. A terminal that wrapped them otherwise, or not at all, may have fewer: then
+/// the next draw erases rows above. If it has as many, the clause `together` says that `draws` goes on. A new target
+/// (`machine::sized_target`) after a clear counts what was drawn.
 ///
 /// ```
 /// own.resize(50, 131)?; // for a terminal that has 132 columns now

@@ -11,10 +11,10 @@ use std::io;
 use std::io::{ErrorKind, Write};
 use std::marker::Model;
 
-/// A terminal whose calls write their bytes to a writer. Its size is what it was made with, or what `resize` told it since.
+/// A terminal whose calls write their bytes to a writer. Its size is the one that it was made with, or the last one set by `resize`.
 ///
-/// A call that fails has written a beginning of its bytes, adds 1 modulo 2^64 to `faults`, and answers with the writer's own kind. A move by 0 writes nothing and
-/// never fails.
+/// A call that fails has written a prefix of its bytes, adds 1 modulo 2^64 to `faults`, and fails with the writer's kind. A move by 0
+/// writes nothing and never fails.
 ///
 /// ```
 /// let mut term = Term::new(BufWriter::new(alloc, rt.stderr())?, 24, 80);
@@ -38,7 +38,7 @@ impl<W: Write> Model for Term<W> {
 }
 
 impl<W: Write> Term<W> {
-    /// A terminal of `rows` rows and `cols` columns behind `w`, of which no call has failed.
+    /// A terminal of `rows` rows and `cols` columns behind `w`, without faults.
     pub fn new(w: W, rows: u16, cols: u16) -> Term<W>
         ensures { result ≡ record { writer = w; columns = cols; rows = rows; faults = 0; kind = ErrorKind.Other } }
     {
@@ -68,7 +68,7 @@ impl<W: Write> Term<W> {
         }
     }
 
-    /// Writes what moves the cursor by `n`, where `letter` says which way.
+    /// Writes a cursor move by `n`, in the direction of `letter`.
     fn send_move(&mut self, letter: u8, n: usize) -> io::Result<()>
         ensures writes { Writes (move_bytes letter n) (view_behind W.contents self.old) (view_behind W.contents self.new) result }
         ensures none { n ≡ 0 → IsOk result × (self.new ≡ self.old) }
@@ -79,7 +79,7 @@ impl<W: Write> Term<W> {
         self.send(MoveBytes::new(letter, n).as_slice())
     }
 
-    /// Hands on what became of a call; counts a failure, and remembers its kind.
+    /// Passes on the result of a call; counts a failure, and keeps its kind.
     fn counted(&mut self, done: io::Result<()>) -> io::Result<()>
         ensures same { result ≡ done }
         ensures counts { self.new ≡ counted_as done self.old }
@@ -173,13 +173,13 @@ impl<W: Write> Resize for Term<W> {
     }
 }
 
-/// Writes all of these bytes, or a beginning of them where the writer fails or takes no more. An interrupted call is made again.
+/// Writes all of these bytes, or a prefix of them if the writer fails or takes no more. An interrupted call is repeated.
 ///
 /// ```
 /// write_whole(&mut writer, b"ab")?; // both bytes, where `writer.write(b"ab")` may take one
 /// ```
 ///
-/// Failed: as the writer is, with `WriteZero` where it takes no more, and with `TimedOut` after 2^64 - 1 calls of it.
+/// Fails: as the writer does, with `WriteZero` if it takes no more, and with `TimedOut` after 2^64 - 1 calls of it.
 pub fn write_whole<W: Write>(writer: &mut W, bytes: &[u8]) -> io::Result<()>
     ensures { AppendsAllOrFront (W.contents writer.old) (W.contents writer.new) bytes.now result }
 {

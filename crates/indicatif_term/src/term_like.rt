@@ -1,4 +1,4 @@
-//! What a terminal has to offer: its size, its faults, and eight calls, each by the bytes that it writes. And what changes its size.
+//! What a terminal has to offer: its size, its faults, and eight calls, each with the bytes that it writes. And changes of its size.
 ghost use Rattle.std.specs.Prelude.{◌≡◌, ◌^◌, ◌<◌, ◌⊎◌, ◌↔◌, [], Bool, Err, IfErr, IsTrue, IsFalse, OnOk, OnErr};
 ghost use Rattle.indicatif_term.specs.Calls.{TermView, Writes, move_bytes, line_bytes, clear_bytes, UP, DOWN, RIGHT, LEFT};
 ghost use Rattle.indicatif_term.specs.Resizes.{Resized, has_size};
@@ -9,13 +9,12 @@ pub use crate::term::{Term, write_whole};
 use indicatif_text::columns::Refusal;
 use std::io;
 
-/// A terminal that bars can be drawn on.
+/// A terminal that bars can draw on.
 ///
-/// Each call that answers an `io::Result` writes the bytes of ECMA-48 that stand beside it. One that succeeds leads the
-/// terminal on by exactly these bytes and changes nothing else, the size included. One that fails has written a
-/// beginning of them, and adds 1 modulo 2^64 to `faults`; no other call changes it. Contracts know the kind of the last failure,
-/// so that a drawing that fails answers with the kind of the call that failed. Of the bytes of a terminal that tells nothing,
-/// nothing is claimed.
+/// Each call that returns an `io::Result` writes the ECMA-48 bytes that are given with it. A call that succeeds leads the terminal on by
+/// exactly these bytes and changes nothing else, not even the size. A call that fails has written a prefix of them, and adds 1 modulo 2^64
+/// to `faults`; no other call changes it. Contracts see the kind of the last failure, so a draw that fails returns the kind of the call
+/// that failed. Nothing is stated about the bytes of a terminal that can't be read.
 ///
 /// ```
 /// term.write_line("ab")?;
@@ -23,8 +22,7 @@ use std::io;
 /// term.clear_line()?; // the row of `ab` is empty again
 /// ```
 pub trait TermLike {
-    /// What contracts see of it: what it tells of itself, its size, how often a call has failed, and of what kind the last failure
-    /// was.
+    /// What contracts see of it: what can be read of it, its size, how often a call has failed, and the kind of the last failure.
     ghost view: { Self → TermView };
 
     /// Columns.
@@ -39,19 +37,19 @@ pub trait TermLike {
     fn faults(&self) -> u64
         ensures { result ≡ (view self.now).faults };
 
-    /// Up `n` rows: ESC `[` n `A`, and nothing where `n` is 0.
+    /// Up `n` rows: ESC `[` n `A`, and nothing if `n` is 0.
     fn move_cursor_up(&mut self, n: usize) -> io::Result<()>
         ensures { Writes (move_bytes UP n) (view self.old) (view self.new) result };
 
-    /// Down `n` rows: ESC `[` n `B`, and nothing where `n` is 0.
+    /// Down `n` rows: ESC `[` n `B`, and nothing if `n` is 0.
     fn move_cursor_down(&mut self, n: usize) -> io::Result<()>
         ensures { Writes (move_bytes DOWN n) (view self.old) (view self.new) result };
 
-    /// Right `n` columns: ESC `[` n `C`, and nothing where `n` is 0.
+    /// Right `n` columns: ESC `[` n `C`, and nothing if `n` is 0.
     fn move_cursor_right(&mut self, n: usize) -> io::Result<()>
         ensures { Writes (move_bytes RIGHT n) (view self.old) (view self.new) result };
 
-    /// Left `n` columns: ESC `[` n `D`, and nothing where `n` is 0.
+    /// Left `n` columns: ESC `[` n `D`, and nothing if `n` is 0.
     fn move_cursor_left(&mut self, n: usize) -> io::Result<()>
         ensures { Writes (move_bytes LEFT n) (view self.old) (view self.new) result };
 
@@ -67,12 +65,12 @@ pub trait TermLike {
     fn clear_line(&mut self) -> io::Result<()>
         ensures { Writes clear_bytes (view self.old) (view self.new) result };
 
-    /// Hands on what is held back; no bytes of its own.
+    /// Flushes what is buffered; it has no bytes of its own.
     fn flush(&mut self) -> io::Result<()>
         ensures { Writes [] (view self.old) (view self.new) result };
 }
 
-/// A boxed terminal is the terminal in the box. The box is made by the caller.
+/// A boxed terminal is the terminal in the box. The caller makes the box.
 impl TermLike for Box<dyn TermLike + Drop> {
     ghost view = { λ b. (TermLike-box b).view b.value };
 
@@ -123,14 +121,14 @@ impl TermLike for Box<dyn TermLike + Drop> {
 
 /// A terminal whose size can be changed between its calls.
 ///
-/// A `Term` takes the new size for the drawings to come, and nothing else: what stands on the screen behind its writer is that
-/// screen's own. An engine has its terminal for itself: `Engine::resize` gives both the new size.
+/// A `Term` takes the new size for later draws, and nothing else: its screen is behind the writer, and wraps its own rows. An engine owns
+/// its terminal: `Engine::resize` gives both the new size.
 pub trait Resize: TermLike {
     /// Whether its `resize` may take memory: a `Term` takes none.
     ghost takes_memory: { Bool };
 
-    /// Gets `rows` rows and `cols` columns; no byte is written, and no failure counted. A terminal that tells its state has cut
-    /// each of its rows anew then. One that tells its bytes tells the same ones.
+    /// Sets the size to `rows` rows and `cols` columns; no byte is written, and no failure counted. A terminal whose state can be read has
+    /// wrapped each of its rows. The bytes that can be read stay.
     ///
     /// ```
     /// let mut term = InMemoryTerm::new(rt.alloc(), 4, 10)?;
@@ -139,8 +137,8 @@ pub trait Resize: TermLike {
     /// // contents: "progr\ness", cursor: (0, 5)
     /// ```
     ///
-    /// Refused: `ZeroSize` where `rows` or `cols` is 0; `Memory`, never at the size that it has, nor of a terminal that takes none for
-    /// this. All is unchanged then.
+    /// Refused: `ZeroSize` if `rows` or `cols` is 0; `Memory`, never for its own size, nor on a terminal that takes none for this. Then
+    /// nothing has changed.
     fn resize(&mut self, rows: u16, cols: u16) -> Result<(), Refusal>
         ensures resized { OnOk result (Resized cols rows (Self.view self.old) (Self.view self.new)) }
         ensures unchanged { OnErr result (self.new ≡ self.old) }

@@ -10,13 +10,13 @@ use Rattle.unicode_width.specs.Width.{char_width}
 abbrev pub is_parameter : ℕ → Bool
 is_parameter c = is_in_range 0x30 0x39 c || (c == 0x3B)
 
--- how many characters go up to the `m` that ends the parameters at the front
+-- the length of the parameters at the front, with the `m` that ends them
 abbrev pub parameters_length : List ℕ → Option ℕ
 parameters_length [] = None
 parameters_length (c ∷ cs) =
     if c == 0x6D then Some 1 else if is_parameter c then option_map (λ n. n + 1) (parameters_length cs) else None
 
--- the length of the colour sequence at the front, if one stands there
+-- the length of the colour sequence at the front, if there is one
 abbrev pub colour_length : List ℕ → Option ℕ
 colour_length [] = None
 colour_length (c ∷ []) = None
@@ -35,7 +35,7 @@ visible = visible_from 0
 
 -- ---- columns
 
--- the columns of a character; one without a width counts none
+-- the columns of a character; 0 for one without a width
 abbrev pub width_of : ℕ → ℕ
 width_of c = unwrap_or (char_width false c) 0
 
@@ -45,7 +45,7 @@ columns_of text = sum_by width_of (visible text)
 
 -- ---- rows
 
--- a character that takes columns, with the zero-width characters that follow it: those that take none, as combining marks and joiners
+-- a character with columns, and the zero-width characters that follow it, such as combining marks and joiners
 pub record Glyph : Type 0 where
   pub base : ℕ
   pub marks : List ℕ
@@ -54,7 +54,7 @@ pub record Glyph : Type 0 where
 abbrev pub glyph_width : Glyph → ℕ
 glyph_width g = width_of g.base
 
--- visible characters as glyphs; zero-width ones before any other are left out
+-- visible characters as glyphs; zero-width ones at the front are left out
 abbrev pub glyphs_of : List ℕ → List Glyph
 glyphs_of [] = []
 glyphs_of (c ∷ cs) =
@@ -67,10 +67,10 @@ pub data Cell : Type 0 where
   Blank : Cell
   -- the first cell of a glyph
   Written : (glyph : Glyph) → Cell
-  -- a further cell of the wide glyph at its left
+  -- a further cell of the wide glyph on its left
   Continued : Cell
 
--- a glyph as cells: its first one, and a continued one for each further column
+-- a glyph as cells: a first one, and a continued one for each further column
 abbrev pub glyph_cells : Glyph → List Cell
 glyph_cells g = Written g ∷ replicate (glyph_width g - 1) Continued
 
@@ -78,14 +78,14 @@ glyph_cells g = Written g ∷ replicate (glyph_width g - 1) Continued
 abbrev pub columns_in : List Glyph → ℕ
 columns_in gs = sum_by glyph_width gs
 
--- pieces of at most w columns, each as long as can be, where `piece` is what the first one has so far
+-- pieces of at most w columns, each as long as possible; the first one begins with `piece`
 abbrev pub pieces_after : ℕ → List Glyph → List Glyph → List (List Glyph)
 pieces_after w piece [] = piece ∷ []
 pieces_after w piece (g ∷ gs) =
     if nat_le (columns_in piece + glyph_width g) w then pieces_after w (piece ++ g ∷ []) gs
     else piece ∷ pieces_after w (g ∷ []) gs
 
--- glyphs cut into pieces of at most w columns, each as long as can be
+-- glyphs cut into pieces of at most w columns, each as long as possible
 abbrev pub pieces_of : ℕ → List Glyph → List (List Glyph)
 pieces_of w gs = pieces_after w [] gs
 

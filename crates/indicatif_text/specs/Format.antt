@@ -3,11 +3,11 @@ use Rattle.std.specs.Prelude.{ℕ, zero, suc, Bool, ◌+◌, ◌-◌, ◌*◌, �
 
 -- ---- rounding and numerals
 
--- a quotient is rounded up from the number below it: its rest is above a half, or just a half above an odd number
+-- whether a quotient is rounded up: its remainder is above a half, or exactly a half with an odd number below
 abbrev pub rounds_up : Bool → ℕ → ℕ → Bool
 rounds_up odd rest b = nat_lt b (2 * rest) || ((2 * rest == b) && odd)
 
--- the whole number nearest to a / b, the even one of two
+-- the whole number nearest to a / b, the even one of a tie
 unfoldable pub round : ℕ → ℕ → ℕ
 round a b = let below = a / b in if rounds_up (below % 2 == 1) (a % b) b then below + 1 else below
 
@@ -16,7 +16,7 @@ abbrev pub last_digits : ℕ → ℕ → List ℕ
 last_digits zero n = []
 last_digits (suc k) n = last_digits k (n / 10) ++ (48 + n % 10) ∷ []
 
--- digits with a comma before each one that begins a whole number of threes, except at the front
+-- digits with a comma before each group of three from the right, except at the front
 abbrev pub with_commas : List ℕ → List ℕ
 with_commas [] = []
 with_commas (d ∷ ds) =
@@ -44,7 +44,7 @@ pub record Quotient : Type 0 where
   pub num : ℕ
   pub den : ℕ
 
--- `HumanFloatCount` of num / den, rounded at so many decimals
+-- `HumanFloatCount` of num / den, rounded to the given number of decimals
 unfoldable pub human_float_count : ℕ → ℕ → ℕ → List ℕ
 human_float_count num den places =
     let scaled = round (num * 10 ^ places) den in
@@ -67,7 +67,7 @@ prefix_exponent base (suc k) n = if nat_le (base ^ (k + 1)) n then k + 1 else pr
 abbrev pub prefix_letter : ℕ → List ℕ → List ℕ
 prefix_letter k letters = take 1 (drop (k - 1) letters)
 
--- a number of bytes, by the letters of the prefixes and what follows the letter: the prefix is chosen before rounding
+-- a number of bytes, by the letters of the prefixes and the rest of the unit: the prefix is chosen before rounding
 unfoldable pub bytes_text : ℕ → List ℕ → List ℕ → ℕ → List ℕ
 bytes_text base letters tail n =
     if nat_lt n base then decimal n ++ codes " B"
@@ -128,18 +128,17 @@ second = record { nanos = nanos_per_second; name = codes "second" }
 abbrev pub rounded_half_up : ℕ → ℕ → ℕ
 rounded_half_up nanos unit = (2 * nanos + unit) / (2 * unit)
 
--- a duration reaches a unit: with half of the next smaller one it is at least one and a half of it
+-- a duration reaches a unit: with half of the next smaller unit added, it is at least one and a half units
 abbrev pub reaches : ℕ → TimeSpan → TimeSpan → Bool
 reaches nanos unit next = nat_le (unit.nanos + unit.nanos / 2) (nanos + next.nanos / 2)
 
--- the count and the unit that a duration is told in, of this unit and the smaller ones: the first that it reaches, and
--- then at least 2, or else the last
+-- the count and the unit of a duration, from this unit and the smaller ones: the first unit that it reaches, with a count of at least 2; otherwise the last
 abbrev pub count_and_unit_in : ℕ → TimeSpan → List TimeSpan → ℕ × TimeSpan
 count_and_unit_in nanos unit [] = (rounded_half_up nanos unit.nanos, unit)
 count_and_unit_in nanos unit (next ∷ units) =
     if reaches nanos unit next then (max 2 (rounded_half_up nanos unit.nanos), unit) else count_and_unit_in nanos next units
 
--- the same of all units
+-- the count and the unit of a duration, from all units
 unfoldable pub count_and_unit : ℕ → ℕ × TimeSpan
 count_and_unit nanos = count_and_unit_in nanos year (week ∷ day ∷ hour ∷ minute ∷ second ∷ [])
 

@@ -1,4 +1,4 @@
--- What the formatters' texts say, apart from how the definitions make them.
+-- Laws of the formatters' texts, independent of their definitions.
 use Rattle.std.specs.Prelude.{◌≡◌, ◌≢◌, ℕ, ◌+◌, ◌-◌, ◌*◌, ◌/◌, ◌%◌, ◌^◌, ◌<◌, ◌≤◌, ◌⊎◌, ◌==◌, not, List, [], ◌∷◌, ◌++◌, length, take, drop, replicate, filter, slice_get, Some, IsTrue, decimal, codes}
 use Rattle.std.specs.Prelude.{All}
 use Rattle.std.specs.Int.{IsInRange}
@@ -13,19 +13,19 @@ use Rattle.indicatif_text.specs.Format.{round, last_digits, without_trailing_zer
 abbrev pub digits_in : List ℕ → List ℕ
 digits_in text = filter is_ascii_digit text
 
--- what stands before the point; all where there is none
+-- the part before the point; all of it if there is none
 abbrev pub whole_in : List ℕ → List ℕ
 whole_in text = before_first (λ c. c == 0x2E) text
 
--- what stands behind the point; nothing where there is none
+-- the part after the point; nothing if there is none
 abbrev pub decimals_in : List ℕ → List ℕ
 decimals_in text = after_first (λ c. c == 0x2E) text
 
--- what stands before the first space
+-- the part before the first space
 abbrev pub number_in : List ℕ → List ℕ
 number_in text = before_first (λ c. c == 0x20) text
 
--- what stands behind it
+-- the part after the first space
 abbrev pub unit_in : List ℕ → List ℕ
 unit_in text = after_first (λ c. c == 0x20) text
 
@@ -35,41 +35,39 @@ unit_in text = after_first (λ c. c == 0x20) text
 abbrev pub RoundsByHalf : Type 0
 RoundsByHalf = (a b : ℕ) → 0 < b → (2 * (round a b * b) ≤ 2 * a + b) × (2 * a ≤ 2 * (round a b * b) + b)
 
--- and even where it is just half a unit away
+-- and even if it is exactly half a unit away
 abbrev pub TiesToEven : Type 0
 TiesToEven = (a b : ℕ) → 0 < b → (2 * (round a b * b) ≡ 2 * a + b) ⊎ (2 * a ≡ 2 * (round a b * b) + b) → round a b % 2 ≡ 0
 
--- a count of a unit of time is at most half a unit from the true one, and just half a unit goes up
+-- a count of a unit of time is at most half a unit from the true one, and exactly half a unit rounds up
 abbrev pub RoundsHalfUp : Type 0
 RoundsHalfUp = (nanos unit : ℕ) → 0 < unit
     → (2 * (rounded_half_up nanos unit * unit) ≤ 2 * nanos + unit) × (2 * nanos < 2 * (rounded_half_up nanos unit * unit) + unit)
 
 -- ---- numerals
 
--- the last digits are the number's rest by that power of ten, with as many digits
+-- the last digits are the number's remainder by that power of ten, with as many digits
 abbrev pub LastDigitsAreRest : Type 0
 LastDigitsAreRest = (k n : ℕ) → (length (last_digits k n) ≡ k) × (digits_value 10 (last_digits k n) ≡ n % 10 ^ k)
 
--- a count without its commas is the number's decimal numeral. `decimal` gives the last 64 digits, so these laws are of numbers
--- with at most 64, as all of 128 bits are
+-- a count without its commas is the number's decimal numeral. `decimal` gives the last 64 digits, so these laws hold for numbers with at most 64, as all of 128 bits have
 abbrev pub CommasAside : Type 0
 CommasAside = (n : ℕ) → n < 10 ^ 64 → filter (λ d. not (d == 0x2C)) (human_count n) ≡ decimal n
 
--- which spells the number
+-- and that numeral spells the number
 abbrev pub NumeralSpells : Type 0
 NumeralSpells = (n : ℕ) → n < 10 ^ 64 → digits_value 10 (decimal n) ≡ n
 
--- a count of up to three digits has no comma; a greater one is that of its thousands, a comma and the last three digits
+-- a count of up to three digits has no comma; a greater one is the count of its thousands, a comma and the last three digits
 abbrev pub CommasByThousands : Type 0
 CommasByThousands = (n : ℕ) → n < 10 ^ 64
     → (n < 1000 → human_count n ≡ decimal n) × (1000 ≤ n → human_count n ≡ human_count (n / 1000) ++ (0x2C ∷ last_digits 3 n))
 
--- the digits before and behind the point, read as one numeral, are the rounded quotient in units of the last place: with as
--- many decimals as one likes, where the whole part has at most 64 digits
+-- the digits before and after the point, read as one numeral, are the rounded quotient in units of the last place: with any number of decimals, if the whole part has at most 64 digits
 abbrev pub DigitsSpell : Type 0
 DigitsSpell = (k n : ℕ) → n / 10 ^ k < 10 ^ 64 → digits_value 10 (decimal (n / 10 ^ k) ++ last_digits k n) ≡ n
 
--- dropping zeros drops zeros at the end alone, and all of them
+-- dropping zeros drops only zeros at the end, and all of them
 abbrev pub OnlyZerosDropped : Type 0
 OnlyZerosDropped = (ds : List ℕ) → (k : ℕ) × (without_trailing_zeros ds ++ replicate k 48 ≡ ds)
 
@@ -79,20 +77,19 @@ NoZeroLeft = (ds es : List ℕ) → without_trailing_zeros ds ≢ es ++ (48 ∷ 
 
 -- ---- counts with decimals
 
--- the digits of a quotient's text, with zeros up to the decimals that were asked, spell the rounded quotient in units of the
--- last place
+-- the digits of a quotient's text, filled with zeros to the requested decimals, spell the rounded quotient in units of the last place
 abbrev pub FloatCountSpells : Type 0
 FloatCountSpells = (num den places : ℕ) → num < 2 ^ 128 →
     let text = human_float_count num den places in
     (length (decimals_in text) ≤ places)
     × (digits_value 10 (digits_in text) * 10 ^ (places - length (decimals_in text)) ≡ round (num * 10 ^ places) den)
 
--- before its point stands a count
+-- a count stands before its point
 abbrev pub FloatCountCounts : Type 0
 FloatCountCounts = (num den places : ℕ) → num < 2 ^ 128
     → whole_in (human_float_count num den places) ≡ human_count (round (num * 10 ^ places) den / 10 ^ places)
 
--- and its end is no zero behind the point, and no point
+-- and it ends neither in a zero after the point, nor in a point
 abbrev pub FloatCountEnds : Type 0
 FloatCountEnds = (num den places : ℕ) (front : List ℕ) → num < 2 ^ 128 →
     let text = human_float_count num den places in
@@ -114,8 +111,7 @@ binary_units = codes "B" ∷ codes "KiB" ∷ codes "MiB" ∷ codes "GiB" ∷ cod
 abbrev pub decimal_units : List (List ℕ)
 decimal_units = codes "B" ∷ codes "kB" ∷ codes "MB" ∷ codes "GB" ∷ codes "TB" ∷ codes "PB" ∷ codes "EB" ∷ []
 
--- the text tells n bytes in the k-th of these units, the greatest that leaves at least 1: below the base by their numeral,
--- and else rounded to hundredths, with two decimals
+-- the text gives n bytes in the k-th of these units, the greatest that leaves at least 1: below the base by their numeral, otherwise rounded to hundredths, with two decimals
 pub record TellsBytes (base : ℕ) (units : List (List ℕ)) (n k : ℕ) (text : List ℕ) : Type 0 where
   pub reached : 0 < k → base ^ k ≤ n
   pub greatest : (j : ℕ) → j ≤ 6 → base ^ j ≤ n → j ≤ k
@@ -134,7 +130,7 @@ DecimalBytesTell = (n : ℕ) → n < 2 ^ 64 → (k : ℕ) × TellsBytes 1000 dec
 
 -- ---- durations
 
--- the seconds that a text tells: `HH:MM:SS` at its end, and before that whole days and `d `
+-- the seconds of a text: `HH:MM:SS` at its end, after whole days and `d `
 abbrev pub seconds_told : List ℕ → ℕ
 seconds_told text =
     let front = length text - 8 in
@@ -146,33 +142,32 @@ seconds_told text =
 abbrev pub TellsSeconds : Type 0
 TellsSeconds = (n : ℕ) → n < 2 ^ 64 → seconds_told (formatted_duration n) ≡ n / nanos_per_second
 
--- a unit that a duration reaches is no longer than the one that it is told in
+-- a unit that a duration reaches is no longer than the unit of its text
 abbrev pub IsNotPast : ℕ → TimeSpan → TimeSpan → Type 0
 IsNotPast n unit next = IsTrue (reaches n unit next) → unit.nanos ≤ (count_and_unit n).1.nanos
 
--- no unit that a duration reaches is longer than the one that it is told in
+-- no unit that a duration reaches is longer than the unit of its text
 abbrev pub NoLongerUnit : Type 0
 NoLongerUnit = (n : ℕ)
     → IsNotPast n year week × IsNotPast n week day × IsNotPast n day hour × IsNotPast n hour minute × IsNotPast n minute second
 
--- a duration is told in a unit that it reaches
+-- a duration reaches the unit of its text
 abbrev pub IsReached : ℕ → TimeSpan → TimeSpan → Type 0
 IsReached n unit next = ((count_and_unit n).1 ≡ unit) × IsTrue (reaches n unit next)
 
--- or else in seconds
+-- or the unit is seconds
 abbrev pub ReachesUnit : Type 0
 ReachesUnit = (n : ℕ)
     → IsReached n year week ⊎ (IsReached n week day ⊎ (IsReached n day hour ⊎ (IsReached n hour minute ⊎ (IsReached n minute second ⊎ ((count_and_unit n).1 ≡ second)))))
 
--- before the space of a duration in words stands the count's numeral, and behind it the unit, with an `s` unless the count
--- is 1
+-- before the space of a duration in words stands the count's numeral, and after it the unit, with an `s` unless the count is 1
 abbrev pub WordsTell : Type 0
 WordsTell = (n : ℕ) → n < 2 ^ 64 →
     let text = human_duration n in
     (digits_value 10 (number_in text) ≡ (count_and_unit n).0) × (number_in text ≡ decimal (count_and_unit n).0)
     × ((count_and_unit n).0 ≡ 1 → unit_in text ≡ (count_and_unit n).1.name) × ((count_and_unit n).0 ≢ 1 → unit_in text ≡ (count_and_unit n).1.name ++ codes "s")
 
--- the short form is the count and the first letter of what stands behind the space
+-- the short form is the count and the first letter after the space
 abbrev pub ShortIsWords : Type 0
 ShortIsWords = (n : ℕ) → n < 2 ^ 64 →
     let text = human_duration n in short_duration n ≡ number_in text ++ take 1 (unit_in text)
@@ -183,7 +178,7 @@ ShortIsWords = (n : ℕ) → n < 2 ^ 64 →
 abbrev pub IsPrinted : List ℕ → Type 0
 IsPrinted text = All (IsInRange 0x20 0x7E) text
 
--- what is written of numbers is such a text
+-- the texts of numbers are such texts
 pub record FormattedIsPrinted : Type 0 where
   pub numerals : (n : ℕ) → IsPrinted (decimal n)
   pub counts : (n : ℕ) → IsPrinted (human_count n)

@@ -1,4 +1,4 @@
--- What holds of the pieces of every text.
+-- Laws of the pieces of every text.
 use Rattle.std.specs.Prelude.{◌≡◌, ℕ, ⊤, List, [], ◌∷◌, drop, flat_map, Some, None, All, length}
 use Rattle.indicatif_text.specs.Columns.{colour_length, visible}
 use Rattle.indicatif_text.specs.Pieces.{TextPiece, Colour, Run, pieces_of_text}
@@ -17,11 +17,11 @@ run_text (Run text) = text
 abbrev pub PiecesJoin : Type 0
 PiecesJoin = (text : List ℕ) → flat_map piece_text (pieces_of_text text) ≡ text
 
--- the runs are what is visible
+-- the runs are the visible characters
 abbrev pub RunsAreVisible : Type 0
 RunsAreVisible = (text : List ℕ) → flat_map run_text (pieces_of_text text) ≡ visible text
 
--- a colour sequence from end to end, or a run at no place of which one begins
+-- a colour sequence from end to end, or a run in which none begins
 abbrev pub IsExact : TextPiece → Type 0
 IsExact (Colour sequence) = colour_length sequence ≡ Some (length sequence)
 IsExact (Run text) = (place : ℕ) → colour_length (drop place text) ≡ None

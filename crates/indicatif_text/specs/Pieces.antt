@@ -1,4 +1,4 @@
--- A text as colour sequences and what stands between them. Texts are lists of characters.
+-- A text as colour sequences and the runs between them. Texts are lists of characters.
 use Rattle.std.specs.Prelude.{ℕ, zero, suc, ◌-◌, List, [], ◌∷◌, take, Some, None, chars, if◌then◌else◌}
 use Rattle.indicatif_text.specs.declared.pieces.Piece.{Piece}
 use Rattle.indicatif_text.specs.Columns.{colour_length}
@@ -10,7 +10,7 @@ pub data TextPiece : Type 0 where
   -- a longest run without one
   Run : (text : List ℕ) → TextPiece
 
--- the pieces with a character before them that begins no colour sequence: it joins the run at their front, or is one
+-- the pieces after a character that begins no colour sequence: it joins the run at their front, or is one
 abbrev pub joined_to : ℕ → List TextPiece → List TextPiece
 joined_to c [] = Run (c ∷ []) ∷ []
 joined_to c (Run text ∷ ps) = Run (c ∷ text) ∷ ps
@@ -27,6 +27,6 @@ pieces_from zero (c ∷ cs) =
 unfoldable pub pieces_of_text : List ℕ → List TextPiece
 pieces_of_text = pieces_from 0
 
--- a piece of the program as one of a text
+-- a piece of the code as a piece of a text
 abbrev pub shown : Piece → TextPiece
 shown p = if p.colour then Colour (chars p.text.now) else Run (chars p.text.now)

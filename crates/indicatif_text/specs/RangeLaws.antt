@@ -26,7 +26,7 @@ sequences_of text = flat_map sequence_in (pieces_of_text text)
 abbrev pub SequencesStay : Type 0
 SequencesStay = (text : List ℕ) (start end : ℕ) → sequences_of (ansi_range text start end) ≡ sequences_of text
 
--- a range has no characters but those of its text: what all of these are, all of it are
+-- a range has only characters of its text: what holds of all of these holds of all of it
 abbrev pub NoCharacterIsAdded : Type 0
 NoCharacterIsAdded = (is_such : ℕ → Bool) (text : List ℕ) (start end : ℕ) → IsTrue (list_all is_such text) → IsTrue (list_all is_such (ansi_range text start end))
 

@@ -1,4 +1,4 @@
--- The refusals by their numbers.
+-- The numbers of the refusals.
 use Rattle.std.specs.Prelude.{ℕ}
 use Rattle.indicatif_text.specs.declared.refusal.Refusal.{Refusal}
 use Rattle.indicatif_text.specs.declared.refusal.Refusal.TheVariants.{ZeroRate, FewTicks, FewProgressChars, UnequalWidths, ZeroWidthChars, Template, WidthTooLarge, ForeignBar, NotMember, ElapsedBeyondClock, NoColumns, TooWide, Terminal, Memory, ZeroSize, ZeroPieces, RecordedTarget}

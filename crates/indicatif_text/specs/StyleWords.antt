@@ -1,4 +1,4 @@
--- Styles of text: the colours and attributes that a dotted text names, and what they write. Texts are lists of characters.
+-- Styles of text: the colours and attributes named by a dotted text, and what they write. Texts are lists of characters.
 use Rattle.std.specs.Prelude.{ℕ, ◌+◌, Bool, true, false, ◌==◌, List, [], ◌∷◌, ◌++◌, map, Option, None, if◌then◌else◌, codes, decimal, flat_map, filter_map, option_map, option_to_list, position, bytes_eq}
 use Rattle.std.specs.List.{slice_split, last_or, list_any}
 use Rattle.indicatif_text.specs.declared.style_words.BasicColour.{BasicColour}
@@ -9,7 +9,7 @@ use Rattle.indicatif_text.specs.declared.style_words.Style.{Style}
 abbrev pub colour_words : List (List ℕ)
 colour_words = codes "black" ∷ codes "red" ∷ codes "green" ∷ codes "yellow" ∷ codes "blue" ∷ codes "magenta" ∷ codes "cyan" ∷ codes "white" ∷ []
 
--- the words of the attributes with their numbers, rising
+-- the words of the attributes with their numbers, sorted
 abbrev pub attribute_words : List (List ℕ × ℕ)
 attribute_words = (codes "bold", 1) ∷ (codes "dim", 2) ∷ (codes "underlined", 4) ∷ (codes "blink", 5) ∷ (codes "reverse", 7) ∷ (codes "hidden", 8) ∷ []
 
@@ -29,7 +29,7 @@ style_words = slice_split (λ c. c == 0x2E)
 abbrev pub has_word : List (List ℕ) → List ℕ → Bool
 has_word words word = list_any (λ w. bytes_eq w word) words
 
--- a number that is written where a test holds
+-- a number that is written if a test holds
 abbrev pub number_if : Bool → ℕ → List ℕ
 number_if test number = if test then number ∷ [] else []
 
@@ -47,7 +47,7 @@ style_of text =
 abbrev pub sequence_of : ℕ → List ℕ
 sequence_of number = (0x1B ∷ 0x5B ∷ []) ++ decimal number ++ codes "m"
 
--- what is written for a text in a style: with colours on, the sequences stand before it, and one that ends them behind it
+-- a text in a style: with colours on, the sequences stand before it, and a reset after it
 abbrev pub styled : Bool → List ℕ → List ℕ → List ℕ
 styled colours [] text = text
 styled false (number ∷ numbers) text = text

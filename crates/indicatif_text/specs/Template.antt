@@ -1,5 +1,4 @@
--- The grammar of templates. A text is read from the front, a whole piece at a time; texts are lists of characters, and a style
--- is the list of numbers that it writes.
+-- The grammar of templates. A text is read from the front, one piece at a time; texts are lists of characters, and a style is the list of numbers that it writes.
 use Rattle.std.specs.Prelude.{◌≡◌, ℕ, Bool, true, false, not, ◌||◌, ◌==◌, nat_lt, List, [], ◌∷◌, ◌++◌, length, drop, take_while, filter, Option, Some, None, option_map, codes, if◌then◌else◌}
 use Rattle.std.specs.List.{list_any, prefix_len}
 use Rattle.std.specs.Char.{is_ascii_digit, is_ascii_whitespace}
@@ -21,7 +20,7 @@ use Rattle.indicatif_text.specs.StyleWords.{style_of, numbers_of}
 
 -- ---- parts
 
--- how the text of a placeholder's key is laid out
+-- how a placeholder's text is laid out
 pub record Layout : Type 0 where
   pub align : Alignment
   pub width : Option ℕ
@@ -35,7 +34,7 @@ pub data TemplatePart : Type 0 where
   LineBreak : TemplatePart
   KeyText : (key : List ℕ) → (layout : Layout) → TemplatePart
 
--- what a part of a template is
+-- a part of a template, as its definition
 unfoldable pub part_of : Part → TemplatePart
 part_of (Literal text) = LiteralText (chars text.now)
 part_of NewLine = LineBreak
@@ -44,13 +43,13 @@ part_of (Placeholder key align width truncate style alternative) =
 
 -- ---- pieces
 
--- what stands whole at the front of a text
+-- a piece at the front of a text
 pub data TemplatePiece : Type 0 where
   -- a literal character, also of a doubled or a last brace
   Char : (c : ℕ) → TemplatePiece
   -- a newline
   Break : TemplatePiece
-  -- a brace, key characters and a white space, which stay as they are
+  -- a brace, key characters and a white space, which are literal
   SpacedBrace : (text : List ℕ) → TemplatePiece
   -- a placeholder
   Keyed : (key : List ℕ) → (layout : Layout) → TemplatePiece
@@ -59,7 +58,7 @@ pub data TemplatePiece : Type 0 where
   -- an opening brace and key characters at the end of the text
   LastKey : TemplatePiece
 
--- what stands in front of a text: something and the text that is left after it, or an error and the text from its place on
+-- the front of a text: something and the text after it, or an error and the text from its place on
 pub data Front (A : Type 0) : Type 0 where
   Takes : (rest : List ℕ) → (what : A) → Front A
   Stops : (place : List ℕ) → (error : TemplateError) → Front A
@@ -97,7 +96,7 @@ style_named (c ∷ cs) = Some (style_of (c ∷ cs))
 abbrev pub is_alternative_char : ℕ → Bool
 is_alternative_char c = not (c == 0x7D)
 
--- what stands behind an alternative style: its closing brace, or the end of the text
+-- the end of an alternative style: a closing brace, or the end of the text
 abbrev pub alternative_ends : Layout → List ℕ → List ℕ → Front Layout
 alternative_ends layout text [] = Takes [] layout
 alternative_ends layout text (c ∷ cs) = Takes cs (record layout { alternative = style_named text })
@@ -107,11 +106,11 @@ unfoldable pub with_alternative : Layout → List ℕ → Front Layout
 with_alternative layout text =
     alternative_ends layout (take_while is_alternative_char text) (after_run is_alternative_char text)
 
--- the style goes up to a closing brace, or to a slash and the alternative; it counts only where one of them stands
+-- the style goes up to a closing brace, or to a slash and the alternative; it counts only if there is one
 abbrev pub is_style_char : ℕ → Bool
 is_style_char c = not (c == 0x2F || (c == 0x7D))
 
--- what stands behind a style: a closing brace, a slash and the alternative, or the end of the text
+-- the end of a style: a closing brace, a slash and the alternative, or the end of the text
 abbrev pub style_ends : Layout → List ℕ → List ℕ → Front Layout
 style_ends layout text [] = Takes [] layout
 style_ends layout text (c ∷ cs) =
@@ -122,11 +121,11 @@ style_ends layout text (c ∷ cs) =
 unfoldable pub with_style : Layout → List ℕ → Front Layout
 with_style layout text = style_ends layout (take_while is_style_char text) (after_run is_style_char text)
 
--- digits and exclamation marks go up to a closing brace, or to a dot and the style; the number counts only where one of them stands
+-- digits and exclamation marks go up to a closing brace, or to a dot and the style; the number counts only if there is one
 abbrev pub is_width_char : ℕ → Bool
 is_width_char c = is_ascii_digit c || (c == 0x21)
 
--- what stands behind a width: a closing brace, a dot and the style, the end of the text, or a character that is refused
+-- the end of a width: a closing brace, a dot and the style, the end of the text, or a character that is refused
 abbrev pub width_ends : Layout → Option ℕ → TemplateState → List ℕ → Front Layout
 width_ends layout width state [] = Takes [] layout
 width_ends layout width state (c ∷ cs) =
@@ -135,7 +134,7 @@ width_ends layout width state (c ∷ cs) =
     else if c == 0x2E then (if is_too_wide width then Stops (c ∷ cs) WidthTooLarge else with_style sized cs)
     else Stops (c ∷ cs) (Unexpected c state)
 
--- where neither a digit nor an exclamation mark has come, another character is met in the state given
+-- before any digit or exclamation mark, another character is met in the given state
 abbrev pub state_after : TemplateState → List ℕ → TemplateState
 state_after state [] = state
 state_after state (c ∷ cs) = Width
@@ -162,7 +161,7 @@ with_options (c ∷ cs) = aligned c cs (alignment_of c)
 abbrev pub is_key_char : ℕ → Bool
 is_key_char c = not (c == 0x3A || (c == 0x7D) || is_ascii_whitespace c)
 
--- a placeholder of these options
+-- a placeholder with these options
 abbrev pub keyed : List ℕ → Front Layout → Front TemplatePiece
 keyed key (Takes rest layout) = Takes rest (Keyed key layout)
 keyed key (Stops place error) = Stops place error
@@ -172,7 +171,7 @@ abbrev pub unfinished : List ℕ → TemplatePiece
 unfinished [] = LastBrace
 unfinished (k ∷ key) = LastKey
 
--- what ends a key: the end of the text, a white space, a closing brace, or a colon and the options; a key has a character
+-- the end of a key: the end of the text, a white space, a closing brace, or a colon and the options; a key isn't empty
 abbrev pub key_ends : List ℕ → List ℕ → Front TemplatePiece
 key_ends key [] = Takes [] (unfinished key)
 key_ends key (c ∷ cs) =
@@ -181,19 +180,19 @@ key_ends key (c ∷ cs) =
     else if c == 0x7D then Takes cs (Keyed key plain_layout)
     else keyed key (with_options cs)
 
--- what an opening brace begins, before these characters
+-- what an opening brace begins, by the characters after it
 abbrev pub opened : List ℕ → Front TemplatePiece
 opened [] = Takes [] LastBrace
 opened (c ∷ cs) =
     if c == 0x7B then Takes cs (Char 0x7B)
     else key_ends (take_while is_key_char (c ∷ cs)) (after_run is_key_char (c ∷ cs))
 
--- what a closing brace begins, before these characters
+-- what a closing brace begins, by the characters after it
 abbrev pub closed : List ℕ → Front TemplatePiece
 closed [] = Takes [] (Char 0x7D)
 closed (c ∷ cs) = if c == 0x7D then Takes cs (Char 0x7D) else Stops (c ∷ cs) (Unexpected c DoubleClose)
 
--- what stands in front of a character and those after it
+-- the front of a text, by its first character and the others
 unfoldable pub front : ℕ → List ℕ → Front TemplatePiece
 front c cs =
     if c == 0x0A then Takes cs Break else if c == 0x7B then opened cs else if c == 0x7D then closed cs else Takes cs (Char c)
@@ -205,7 +204,7 @@ pub data Reads : List ℕ → List TemplatePiece → Type 0 where
   end : Reads [] []
   piece : {c : ℕ} {cs rest : List ℕ} {p : TemplatePiece} {ps : List TemplatePiece} → front c cs ≡ Takes rest p → Reads rest ps → Reads (c ∷ cs) (p ∷ ps)
 
--- the text cannot be read: the error, and its place, which is the text that is left there
+-- the text can't be read: the error, and its place, given by the rest of the text
 pub data Refuses : List ℕ → List ℕ → TemplateError → Type 0 where
   here : {c : ℕ} {cs place : List ℕ} {error : TemplateError} → front c cs ≡ Stops place error → Refuses (c ∷ cs) place error
   later : {c : ℕ} {cs rest place : List ℕ} {p : TemplatePiece} {error : TemplateError} → front c cs ≡ Takes rest p → Refuses rest place error → Refuses (c ∷ cs) place error
@@ -216,7 +215,7 @@ is_open_run (Char c ∷ ps) = is_open_run ps
 is_open_run (LastBrace ∷ ps) = true
 is_open_run _ = false
 
--- an opening brace at the end takes the literal characters before it away
+-- an opening brace at the end removes the literal characters before it
 abbrev pub without_open_run : List TemplatePiece → List TemplatePiece
 without_open_run [] = []
 without_open_run (p ∷ ps) = if is_open_run (p ∷ ps) then [] else p ∷ without_open_run ps
@@ -226,7 +225,7 @@ abbrev pub onto_literal : List ℕ → List TemplatePart → List TemplatePart
 onto_literal text (LiteralText more ∷ parts) = LiteralText (text ++ more) ∷ parts
 onto_literal text parts = LiteralText text ∷ parts
 
--- the parts of pieces, each for itself; an unfinished key at the end gives none
+-- the parts of pieces, one for each; an unfinished key at the end gives none
 abbrev pub joined_parts : List TemplatePiece → List TemplatePart
 joined_parts [] = []
 joined_parts (Char c ∷ ps) = onto_literal (c ∷ []) (joined_parts ps)
@@ -240,7 +239,7 @@ joined_parts (LastKey ∷ ps) = joined_parts ps
 unfoldable pub parts_of : List TemplatePiece → List TemplatePart
 parts_of ps = joined_parts (without_open_run ps)
 
--- the text is a template of these parts
+-- the text is a template with these parts
 pub record Parses (text : List ℕ) (parts : List TemplatePart) : Type 0 where
   pub pieces : List TemplatePiece
   pub reads : Reads text pieces
@@ -252,7 +251,7 @@ IsRefused text error = (place : List ℕ) × Refuses text place error
 
 -- ---- refusals
 
--- the refusal that a template's error is
+-- the refusal of a template's error
 abbrev pub refusal_of : TemplateError → Refusal
 refusal_of (error.Unexpected next state) = refusal.Template next state
 refusal_of error.WidthTooLarge = refusal.WidthTooLarge
@@ -265,7 +264,7 @@ state_name DoubleClose = codes "DoubleClose"
 state_name Align = codes "Align"
 state_name Width = codes "Width"
 
--- the text of a template's error, with the character in quotes as `{:?}` shows it; nothing is said of one past ASCII
+-- the text of a template's error, with the character in quotes as `{:?}` shows it; no text is defined for one past ASCII
 abbrev pub error_text : TemplateError → Option (List ℕ)
 error_text (error.Unexpected next state) = Some (codes "TemplateError: unexpected character ") ++? debug_char next ++? Some (codes " in state ") ++? Some (state_name state)
 error_text error.WidthTooLarge = Some (codes "TemplateError: width too large")

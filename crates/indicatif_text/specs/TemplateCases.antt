@@ -1,4 +1,4 @@
--- Worked cases of the grammar of templates. The place of a refusal is the text that is left there.
+-- Worked cases of the grammar of templates. The place of a refusal is given by the rest of the text.
 use Rattle.std.specs.Prelude.{true, [], ◌∷◌, ◌++◌, Some, codes}
 use Rattle.indicatif_text.specs.declared.refusal.TemplateState.TheVariants.{MaybeOpen, DoubleClose, Align, Width}
 use Rattle.indicatif_text.specs.declared.template.Alignment.TheVariants.{Center}

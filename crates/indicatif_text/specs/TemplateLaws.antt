@@ -11,10 +11,10 @@ OneOfBoth = (text : List ℕ) → ((parts : List TemplatePart) × Parses text pa
 abbrev pub NeverBoth : Type 0
 NeverBoth = (text : List ℕ) (parts : List TemplatePart) (place : List ℕ) (error : TemplateError) → Parses text parts → ¬ Refuses text place error
 
--- with one list of parts
+-- a template has one list of parts
 abbrev pub OneList : Type 0
 OneList = (text : List ℕ) (parts others : List TemplatePart) → Parses text parts → Parses text others → parts ≡ others
 
--- or one place and error
+-- a refusal has one place and error
 abbrev pub OnePlace : Type 0
 OnePlace = (text : List ℕ) (place other : List ℕ) (error another : TemplateError) → Refuses text place error → Refuses text other another → (place ≡ other) × (error ≡ another)

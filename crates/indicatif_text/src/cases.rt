@@ -1,10 +1,10 @@
-//! The worked cases of the definitions: each is computed when this crate is checked.
+//! The worked cases of the definitions, which the check of this crate computes.
 ghost use Rattle.indicatif_text.specs.ColumnCases.{WideOneGoesDown, EmptyIsOneRow, WholeRows, WideRows, MarkedRows, ColoursTakeNone, RunsAndColours};
 ghost use Rattle.indicatif_text.specs.FormatCases.{DurationCases, ShortDurationCases, FormattedDurationCases, BinaryBytesCases, DecimalBytesCases, CountCases, FloatCountCases};
 ghost use Rattle.indicatif_text.specs.StyleCases.{StyleNumbers, StyledText};
 ghost use Rattle.indicatif_text.specs.TemplateCases.{Templates};
 
-/// Lines with their rows and columns, and a text's pieces, worked out.
+/// Lines with their rows and columns, and the pieces of a text.
 pub fn lines()
     ensures wide { WideOneGoesDown }
     ensures empty { EmptyIsOneRow }

@@ -12,8 +12,7 @@ use crate::runs::{LastWidth, Run, Runs};
 pub use crate::style_words::Style;
 use unicode_width::UnicodeWidthChar;
 
-/// The columns of one character by Unicode's East Asian Width (UAX #11): 0 to 3; one without a width, as a control
-/// character, counts none.
+/// The columns of one character by Unicode's East Asian Width (UAX #11): 0 to 3; 0 for one without a width, such as a control character.
 ///
 /// ```
 /// assert_eq!(width('国'), 2);
@@ -27,7 +26,7 @@ pub fn width(c: char) -> usize
 
 /// The pieces of a text: its colour sequences (ESC `[`, digits and semicolons, `m`), and the longest runs between them.
 ///
-/// They come in order, each is a slice of the text, and joined they are the text. No memory.
+/// They come in order; each is a slice of the text, and joined they are the text. Takes no memory.
 ///
 /// ```
 /// let mut left = pieces("a\u{1b}[1mb");
@@ -44,7 +43,7 @@ pub fn pieces(text: &str) -> Pieces<'_>
 
 /// The columns of a text: the sum of its characters' widths outside colour sequences.
 ///
-/// Widths are those of Unicode's East Asian Width (UAX #11), character by character. One pass, no memory.
+/// Widths are those of Unicode's East Asian Width (UAX #11), character by character. One pass; takes no memory.
 ///
 /// ```
 /// assert_eq!(columns("\u{1b}[31mred\u{1b}[0m"), 3);
@@ -61,7 +60,7 @@ pub fn columns(text: &str) -> usize
     columns
 }
 
-/// How many rows a line takes on a terminal, and how many columns of the last one.
+/// How many rows a line takes on a terminal, and how many columns of the last row.
 ///
 /// ```
 /// let measured = Metrics { height: 3, last_line_width: 1 };
@@ -69,18 +68,19 @@ pub fn columns(text: &str) -> usize
 /// ```
 #[derive(Clone, Copy, Debug, Drop, PartialEq, Eq)]
 pub struct Metrics {
-    /// Rows; at least 1 where `wrapped` gives it.
+    /// Rows; at least 1 if `wrapped` gives it.
     pub height: usize,
     /// Columns of the last row.
     pub last_line_width: usize,
 }
 
-/// How many rows `line` takes on a terminal of `width` columns, and how many columns of the last one.
+/// How many rows `line` takes on a terminal of `width` columns, and how many columns of the last row.
 ///
 /// Colour sequences (ESC `[`, digits and semicolons, `m`) take no columns. A zero-width character (a combining mark, a joiner) takes none
-/// either, and joins the one before it. Widths are those of Unicode's East Asian Width (UAX #11), character by character. One pass, no memory.
+/// either, and joins the one before it. Widths are those of Unicode's East Asian Width (UAX #11), character by character. One pass; takes
+/// no memory.
 ///
-/// Refused: `NoColumns` where `width` is 0, `TooWide` where a visible character is wider than `width`.
+/// Refused: `NoColumns` if `width` is 0, `TooWide` if a visible character is wider than `width`.
 ///
 /// ```
 /// let line = "123456789国123456789";
@@ -105,7 +105,7 @@ pub fn wrapped(line: &str, width: usize) -> Result<Metrics, Refusal>
     }
 }
 
-/// The rows of a line; none where a character is wider than a row.
+/// The rows of a line; none if a character is wider than a row.
 fn measured(line: &str, width: usize) -> Option<Metrics>
     requires { 0 < width }
     ensures none { (result ≡ None) ↔ IsTrue (has_wide width (chars line.now)) }
@@ -130,7 +130,7 @@ fn measured(line: &str, width: usize) -> Option<Metrics>
     })
 }
 
-/// How many characters of so many columns a room has.
+/// How many characters of `columns` columns fit in a room.
 #[inline(always)]
 fn fitting(room: usize, columns: usize) -> usize
     requires { 0 < columns }
@@ -144,7 +144,7 @@ fn fitting(room: usize, columns: usize) -> usize
     }
 }
 
-/// A row of so many columns, and how many of them are taken.
+/// A row of this many columns, and how many of them are taken.
 #[derive(Clone, Copy, Drop)]
 struct RowSoFar {
     width: usize,

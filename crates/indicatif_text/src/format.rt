@@ -1,7 +1,7 @@
 //! Numbers as texts for people: durations, bytes and counts.
 //!
-//! Each value is exact: quotients are of whole numbers and rounded once, to nearest. To print one takes no memory, and is
-//! one write; the options of a hole, as a width, change nothing.
+//! Each value is exact: quotients are of whole numbers and rounded once, to nearest. Printing one takes no memory, and is one write; format
+//! options, such as a width, are ignored.
 ghost use Rattle.std.specs.Prelude.{◌≡◌, ◌<◌, ◌+◌, ◌++◌, ◌↔◌, Some, IfSome, OnOk, OnErr, IfErr, length, string_len, string_capacity};
 ghost use Rattle.std.specs.String.{string_bytes};
 ghost use Rattle.indicatif_text.specs.Format.{formatted_duration, human_duration, short_duration, binary_bytes, decimal_bytes, human_count, Quotient, human_float_count};
@@ -19,8 +19,8 @@ use short_text::ShortText;
 use std::fmt;
 use std::marker::Model;
 
-/// A duration in nanoseconds, as hours, minutes and seconds of two digits, `HH:MM:SS`, after `Dd ` where there are D
-/// whole days. What is less than a second is left out. By the documentation of the Rust crate `indicatif` 0.18.6.
+/// A duration in nanoseconds, as hours, minutes and seconds of two digits, `HH:MM:SS`, after `Dd ` if there are D whole days. Fractions of
+/// a second are left out. The rule is that of the documentation of the Rust crate `indicatif` 0.18.6.
 ///
 /// ```
 /// let text = FormattedDuration(90_061 * 1_000_000_000).to_string(alloc)?;
@@ -29,7 +29,7 @@ use std::marker::Model;
 #[derive(Clone, Copy, Debug, Drop, PartialEq, Eq)]
 pub struct FormattedDuration(pub u64);
 
-/// Days, hours, minutes and seconds, in one write; the options of a hole, as a width in `{:>12}`, are ignored.
+/// Days, hours, minutes and seconds, in one write; format options, such as a width in `{:>12}`, are ignored.
 impl fmt::Display for FormattedDuration {
     ghost output = { λ duration. Some (formatted_duration duration.0) };
 
@@ -40,11 +40,11 @@ impl fmt::Display for FormattedDuration {
     }
 }
 
-/// A duration in nanoseconds, as so many years (of 365 days), weeks, days, hours, minutes or seconds.
+/// A duration in nanoseconds, as a number of years (of 365 days), weeks, days, hours, minutes or seconds.
 ///
-/// The unit is the first of which the duration, with half of the next smaller unit, is at least one and a half; or else
-/// seconds. The count is rounded to nearest, a half up, and is at least 2 but for seconds: `89 seconds`, `2 minutes`.
-/// By the documentation of the Rust crate `indicatif` 0.18.6.
+/// The unit is the first of which the duration, with half of the next smaller unit added, is at least one and a half; otherwise seconds.
+/// The count is rounded to nearest, a half up, and is at least 2 unless the unit is seconds: `89 seconds`, `2 minutes`. The rule is that of
+/// the documentation of the Rust crate `indicatif` 0.18.6.
 ///
 /// ```
 /// assert_eq!(HumanDuration(89_499_000_000).to_string(alloc)?.as_str(), "89 seconds");
@@ -53,7 +53,7 @@ impl fmt::Display for FormattedDuration {
 #[derive(Clone, Copy, Debug, Drop, PartialEq, Eq)]
 pub struct HumanDuration(pub u64);
 
-/// The count and the unit in words, in one write; the options of a hole, as a width in `{:>12}`, are ignored.
+/// The count and the unit in words, in one write; format options, such as a width in `{:>12}`, are ignored.
 impl fmt::Display for HumanDuration {
     ghost output = { λ duration. Some (human_duration duration.0) };
 
@@ -65,9 +65,9 @@ impl fmt::Display for HumanDuration {
 }
 
 impl HumanDuration {
-    /// Appends the short form to `out`: the count and the unit's first letter, as `89s`.
+    /// Appends the short form to `out`: the count and the unit's first letter, such as `89s`.
     ///
-    /// Refused: `Memory`, only where `out` has no room for all of it; `out` is as before then.
+    /// Refused: `Memory`, only if `out` has no room for all of it; then `out` is unchanged.
     ///
     /// ```
     /// HumanDuration(4_000_000_000).write_short(&mut out)?;
@@ -86,8 +86,8 @@ impl HumanDuration {
     }
 }
 
-/// A number of bytes by powers of 1024: below that `n B`, else two decimals and the greatest prefix of `Ki`, `Mi`, `Gi`,
-/// `Ti`, `Pi` and `Ei` that leaves at least 1, chosen before rounding. The quotient is rounded to nearest, ties to even.
+/// A number of bytes by powers of 1024: below 1024 `n B`, otherwise two decimals and the greatest prefix of `Ki`, `Mi`, `Gi`, `Ti`, `Pi`
+/// and `Ei` that leaves at least 1, chosen before rounding. The quotient is rounded to nearest, ties to even.
 ///
 /// ```
 /// assert_eq!(HumanBytes(1_500).to_string(alloc)?.as_str(), "1.46 KiB");
@@ -95,7 +95,7 @@ impl HumanDuration {
 #[derive(Clone, Copy, Debug, Drop, PartialEq, Eq)]
 pub struct HumanBytes(pub u64);
 
-/// The bytes by powers of 1024, in one write; the options of a hole, as a width in `{:>12}`, are ignored.
+/// The bytes by powers of 1024, in one write; format options, such as a width in `{:>12}`, are ignored.
 impl fmt::Display for HumanBytes {
     ghost output = { λ bytes. Some (binary_bytes bytes.0) };
 
@@ -106,8 +106,8 @@ impl fmt::Display for HumanBytes {
     }
 }
 
-/// A number of bytes by powers of 1000: below that `n B`, else two decimals and the greatest prefix of `k`, `M`, `G`, `T`,
-/// `P` and `E` that leaves at least 1, chosen before rounding. The quotient is rounded to nearest, ties to even.
+/// A number of bytes by powers of 1000: below 1000 `n B`, otherwise two decimals and the greatest prefix of `k`, `M`, `G`, `T`, `P` and `E`
+/// that leaves at least 1, chosen before rounding. The quotient is rounded to nearest, ties to even.
 ///
 /// ```
 /// assert_eq!(DecimalBytes(1_500).to_string(alloc)?.as_str(), "1.50 kB");
@@ -115,7 +115,7 @@ impl fmt::Display for HumanBytes {
 #[derive(Clone, Copy, Debug, Drop, PartialEq, Eq)]
 pub struct DecimalBytes(pub u64);
 
-/// The bytes by powers of 1000, in one write; the options of a hole, as a width in `{:>12}`, are ignored.
+/// The bytes by powers of 1000, in one write; format options, such as a width in `{:>12}`, are ignored.
 impl fmt::Display for DecimalBytes {
     ghost output = { λ bytes. Some (decimal_bytes bytes.0) };
 
@@ -134,7 +134,7 @@ impl fmt::Display for DecimalBytes {
 #[derive(Clone, Copy, Debug, Drop, PartialEq, Eq)]
 pub struct BinaryBytes(pub u64);
 
-/// The bytes by powers of 1024, in one write; the options of a hole, as a width in `{:>12}`, are ignored.
+/// The bytes by powers of 1024, in one write; format options, such as a width in `{:>12}`, are ignored.
 impl fmt::Display for BinaryBytes {
     ghost output = { λ bytes. Some (binary_bytes bytes.0) };
 
@@ -145,8 +145,8 @@ impl fmt::Display for BinaryBytes {
     }
 }
 
-/// A count as its decimal numeral, with a comma before every third digit from the right except at the front.
-/// By the documentation of the Rust crate `indicatif` 0.18.6.
+/// A count as its decimal numeral, with a comma before every third digit from the right except at the front. The rule is that of the
+/// documentation of the Rust crate `indicatif` 0.18.6.
 ///
 /// ```
 /// assert_eq!(HumanCount(7_654_321).to_string(alloc)?.as_str(), "7,654,321");
@@ -154,7 +154,7 @@ impl fmt::Display for BinaryBytes {
 #[derive(Clone, Copy, Debug, Drop, PartialEq, Eq)]
 pub struct HumanCount(pub u64);
 
-/// The count with its commas, in one write; the options of a hole, as a width in `{:>12}`, are ignored.
+/// The count with its commas, in one write; format options, such as a width in `{:>12}`, are ignored.
 impl fmt::Display for HumanCount {
     ghost output = { λ count. Some (human_count count.0) };
 
@@ -167,8 +167,8 @@ impl fmt::Display for HumanCount {
     }
 }
 
-/// A quotient of whole numbers, rounded at four decimals: to nearest, ties to even. The whole part has commas as
-/// `HumanCount`; zeros at the end are dropped, and so is the point if nothing follows it.
+/// A quotient of whole numbers, rounded to four decimals: to nearest, ties to even. The whole part has commas as `HumanCount`; zeros at the
+/// end are dropped, and so is the point if nothing follows it.
 ///
 /// ```
 /// let count = HumanFloatCount::new(85, 2).ok_or("a divisor of 0")?;
@@ -180,7 +180,7 @@ pub struct HumanFloatCount {
     den: u64,
 }
 
-/// A count is its quotient.
+/// Contracts see a count as its quotient.
 impl Model for HumanFloatCount {
     ghost Value = { Quotient };
 
@@ -189,7 +189,7 @@ impl Model for HumanFloatCount {
     ghost invariant = { λ count. 0 < count.den };
 }
 
-/// The quotient at four decimals, in one write; the options of a hole, as a width in `{:>12}`, are ignored.
+/// The quotient to four decimals, in one write; format options, such as a width in `{:>12}`, are ignored.
 impl fmt::Display for HumanFloatCount {
     ghost output = { λ count. Some (human_float_count count.num count.den 4) };
 
@@ -216,9 +216,9 @@ impl HumanFloatCount {
         Some(HumanFloatCount { num, den })
     }
 
-    /// Appends the quotient to `out`, rounded at so many decimals in place of four.
+    /// Appends the quotient to `out`, rounded to `decimals` decimals in place of four.
     ///
-    /// Refused: `Memory`, only where `out` has no room for all of it; `out` is as before then.
+    /// Refused: `Memory`, only if `out` has no room for all of it; then `out` is unchanged.
     ///
     /// ```
     /// let eighth = HumanFloatCount::new(1, 8).ok_or("a divisor of 0")?;

@@ -1,12 +1,12 @@
-//! What follows from the definitions, apart from how they are made: each law is the contract of a function that does nothing.
+//! Laws of the definitions: each law is the contract of a function that does nothing.
 ghost use Rattle.indicatif_text.specs.ColumnLaws.{PlainTextsJoin, SpacesAreSeen, NumbersAreUnseen, StylesAreUnseen, StylesAreBytes, OthersAreSeen, PlainTextsHaveWidths, PlainTextsTrim, PrintedIsPlain, OneRow};
 ghost use Rattle.indicatif_text.specs.RangeLaws.{WholeRange, RangesFit, SequencesStay, NoCharacterIsAdded, RangesStayPlain};
 ghost use Rattle.indicatif_text.specs.FormatLaws.{RoundsByHalf, TiesToEven, RoundsHalfUp, LastDigitsAreRest, DigitsSpell, CommasAside, NumeralSpells, CommasByThousands, OnlyZerosDropped, NoZeroLeft, FloatCountSpells, FloatCountCounts, FloatCountEnds, GreatestPrefix, BinaryBytesTell, DecimalBytesTell, TellsSeconds, NoLongerUnit, ReachesUnit, WordsTell, ShortIsWords, FormattedIsPrinted};
 ghost use Rattle.indicatif_text.specs.PieceLaws.{PiecesJoin, RunsAreVisible, PiecesAreExact, NoEmptyPieces, RunsAreLongest};
 ghost use Rattle.indicatif_text.specs.TemplateLaws.{OneOfBoth, NeverBoth, OneList, OnePlace};
 
-/// What holds of the pieces of every text: joined they are the text, and the runs joined are what is visible; each is
-/// exactly one colour sequence, or a run at no place of which one begins; none is empty, and no run follows a run.
+/// The pieces of every text: joined they are the text, and the joined runs are its visible characters; each piece is exactly one colour
+/// sequence, or a run in which none begins; none is empty, and no run follows a run.
 pub fn pieces()
     ensures join { PiecesJoin }
     ensures visible { RunsAreVisible }
@@ -15,7 +15,7 @@ pub fn pieces()
     ensures longest { RunsAreLongest }
 {}
 
-/// A rounded quotient is the nearest whole number, the even one of two.
+/// A rounded quotient is the nearest whole number, the even one of a tie.
 pub fn quotients()
     ensures near { RoundsByHalf }
     ensures even { TiesToEven }
@@ -28,7 +28,7 @@ pub fn counts()
     ensures commas { CommasByThousands }
 {}
 
-/// Decimals are the rest by a power of ten, without zeros at the end.
+/// Decimals are the remainder by a power of ten, without zeros at the end.
 pub fn decimals()
     ensures rest { LastDigitsAreRest }
     ensures spell { DigitsSpell }
@@ -48,31 +48,31 @@ pub fn prefixes()
     ensures { GreatestPrefix }
 {}
 
-/// The text of a number of bytes tells it in the unit that it names.
+/// The text of a number of bytes gives it in the unit that it names.
 pub fn byte_texts()
     ensures binary { BinaryBytesTell }
     ensures decimal { DecimalBytesTell }
 {}
 
-/// A duration by the clock gives back its whole seconds.
+/// A duration in hours, minutes and seconds gives back its whole seconds.
 pub fn clocks()
     ensures { TellsSeconds }
 {}
 
-/// A duration in words is told in the longest unit that it reaches, rounded half up.
+/// A duration in words has the longest unit that it reaches, rounded half up.
 pub fn units()
     ensures longest { NoLongerUnit }
     ensures reached { ReachesUnit }
     ensures near { RoundsHalfUp }
 {}
 
-/// A duration in words is its count and its unit, and the short form is what stands first in them.
+/// A duration in words is its count and its unit, and the short form is the count and the unit's first letter.
 pub fn words()
     ensures words { WordsTell }
     ensures short { ShortIsWords }
 {}
 
-/// What is written of numbers is printable ASCII.
+/// The texts of numbers are printable ASCII.
 pub fn printed()
     ensures { FormattedIsPrinted }
 {}
@@ -85,8 +85,8 @@ pub fn template_or_refused()
     ensures one_place { OnePlace }
 {}
 
-/// What is visible of a text is so of it in longer ones: behind a text of characters with a width and colour sequences, before
-/// spaces, and between what a style writes; a text of no more columns than the terminal takes one row.
+/// The visible characters of a text are visible in longer texts: after a text of characters with a width and colour sequences, before
+/// spaces, and within what a style writes; a text no wider than the terminal takes one row.
 pub fn columns()
     ensures join { PlainTextsJoin }
     ensures spaces { SpacesAreSeen }
@@ -100,8 +100,8 @@ pub fn columns()
     ensures one_row { OneRow }
 {}
 
-/// The range of all columns is the text; a range has no more columns than it is wide, every colour sequence of its text and
-/// no other, and no characters but those of its text; a plain text's are plain.
+/// The range of all columns is the text; a range is no wider than its columns, has every colour sequence of its text and no other, and no
+/// characters but those of its text; a range of a plain text is plain.
 pub fn ranges()
     ensures whole { WholeRange }
     ensures fit { RangesFit }

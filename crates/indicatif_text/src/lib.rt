@@ -1,4 +1,4 @@
-//! Texts measured in the columns of a terminal, and numbers as people read them. The crate draws nothing and asks the machine for nothing,
+//! Texts measured in the columns of a terminal, and numbers as people read them. The crate draws nothing and uses nothing of the machine,
 //! so any program can use it.
 //!
 //! - How wide is a text? `columns::columns` and `columns::width` count columns by Unicode's East Asian Width. `columns::wrapped` says how

@@ -1,14 +1,14 @@
 //! Moments and clocks.
 ghost use Rattle.std.specs.Prelude.{◌≡◌, ◌+◌, ◌-◌, ◌^◌, min};
 
-/// Nanoseconds since a start that the caller fixes.
+/// Nanoseconds since a start of your choice.
 ///
 /// ```
 /// let second: Moment = 1_000_000_000;
 /// ```
 pub type Moment = u64;
 
-/// Tells the moment. This crate never asks the machine for the time: its callers hand a clock in.
+/// Tells the moment. This crate never reads the machine's time: you pass a clock.
 ///
 /// ```
 /// let opened = clock.now();
@@ -19,7 +19,7 @@ pub trait Clock {
     fn now(&mut self) -> Moment;
 }
 
-/// A clock that answers `next` and then goes on by `step` nanoseconds, up to 2^64 - 1.
+/// A clock that returns `next` and then advances by `step` nanoseconds, up to 2^64 - 1.
 ///
 /// ```
 /// let mut clock = StepClock { next: 5, step: 2 };
@@ -28,14 +28,14 @@ pub trait Clock {
 /// ```
 #[derive(Clone, Copy, Debug, Drop)]
 pub struct StepClock {
-    /// The moment that the next reading answers.
+    /// The moment that the next reading returns.
     pub next: Moment,
-    /// How far a reading leads the clock on, in nanoseconds.
+    /// How far a reading advances the clock, in nanoseconds.
     pub step: u64,
 }
 
 impl Clock for StepClock {
-    /// `next`; the clock is `step` later then, at most at 2^64 - 1.
+    /// Returns `next`; then the clock is `step` later, at most at 2^64 - 1.
     fn now(&mut self) -> Moment
         ensures moment { result ≡ self.old.next }
         ensures next { self.new.next ≡ min (self.old.next + self.old.step) (2 ^ 64 - 1) }

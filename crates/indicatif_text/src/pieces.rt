@@ -1,4 +1,4 @@
-//! A text as colour sequences and what stands between them.
+//! A text as colour sequences and the runs between them.
 ghost use Rattle.std.specs.Prelude.{◌≡◌, ◌≤◌, ◌<◌, ◌∷◌, List, take, drop, length, chars, unwrap_or, None};
 ghost use Rattle.std.specs.Str.{IsAscii, IsCharBoundary};
 ghost use Rattle.std.specs.Iterator.{YieldsFirstBy, item_count};
@@ -16,7 +16,7 @@ use std::marker::Model;
 /// ```
 #[derive(Clone, Copy, Debug, PartialEq, Eq)]
 pub struct Piece<'a> {
-    /// What the piece holds, a slice of the text.
+    /// The text of the piece, a slice of the whole text.
     pub text: &'a str,
     /// Whether it is a colour sequence.
     pub colour: bool,
@@ -70,7 +70,7 @@ impl<'a> Iterator for Pieces<'a> {
     }
 }
 
-/// The first piece of a text that is not empty, and what follows it.
+/// The first piece of a text that is not empty, and the rest.
 fn split_piece(text: &str) -> (Piece<'_>, &str)
     requires { 0 < length text.now }
     ensures { pieces_of_text (chars text.now)
@@ -91,7 +91,7 @@ fn split_piece(text: &str) -> (Piece<'_>, &str)
     )
 }
 
-/// How many bytes stand before the first colour sequence of a text.
+/// How many bytes precede the first colour sequence of a text.
 fn run_len(text: &str) -> usize
     ensures boundary { IsCharBoundary text.now result }
     ensures pieces { pieces_of_text (chars text.now)
@@ -122,7 +122,7 @@ pub(crate) fn after_colours(text: &str) -> &str
     rest
 }
 
-/// How many bytes the colour sequence at the front of a text takes; 0 where none stands there.
+/// How many bytes the colour sequence at the front of a text takes; 0 if there is none.
 ///
 /// ```
 /// assert!(colour_len("\u{1b}[31mred") == 5 && colour_len("red") == 0);
@@ -148,7 +148,7 @@ pub fn colour_len(text: &str) -> usize
     count + 1
 }
 
-/// The same as `is_parameter`, of a byte of ASCII; false for any other byte.
+/// As `is_parameter`, for an ASCII byte; false for any other byte.
 ///
 /// ```
 /// assert!(is_parameter_byte(b'7') && !is_parameter_byte(b'm'));
@@ -160,7 +160,7 @@ pub fn is_parameter_byte(byte: u8) -> bool
     byte >= b'0' && byte <= b';' && byte != b':'
 }
 
-/// Whether a character stands in the parameters of an escape sequence: a digit or a semicolon.
+/// Whether a character belongs to the parameters of an escape sequence: a digit or a semicolon.
 ///
 /// ```
 /// assert!(is_parameter('7') && is_parameter(';') && !is_parameter('m'));

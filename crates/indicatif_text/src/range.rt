@@ -8,17 +8,17 @@ use crate::columns;
 use crate::refusal::Refusal;
 use std::alloc::AllocError;
 
-/// Appends what of `text` stands in the columns from `start` up to `end`.
+/// Appends the part of `text` in the columns from `start` up to `end`.
 ///
-/// Each colour sequence (ESC `[`, digits and semicolons, `m`; ECMA-48, SGR) stays, wherever it stands. A character stays
-/// that lies wholly within those columns, where the run between sequences that it belongs to begins before `end`. Columns
-/// are those of Unicode's East Asian Width (UAX #11), counted from 0 over the text without its sequences.
+/// Each colour sequence (ESC `[`, digits and semicolons, `m`; ECMA-48, SGR) stays, wherever it stands. A character stays if it lies wholly
+/// within those columns, and the run between sequences that it belongs to begins before `end`. Columns are those of Unicode's East Asian
+/// Width (UAX #11), counted from 0 over the text without its sequences.
 ///
-/// Refused: `Memory`, only where `out` has no room for all of it; `out` is as before then.
+/// Refused: `Memory`, only if `out` has no room for all of it; then `out` is unchanged.
 ///
 /// # Examples
 ///
-/// Of `abcdef` the range from 1 to 4 is `bcd`.
+/// The range from 1 to 4 of `abcdef` is `bcd`.
 pub fn write_ansi_range(
     text: &str,
     start: usize,
@@ -40,7 +40,7 @@ pub fn write_ansi_range(
     Ok(())
 }
 
-/// The same; where memory is refused, `out` may have grown.
+/// As `write_ansi_range`; if memory is refused, `out` may have grown.
 fn push_range(text: &str, start: usize, end: usize, out: &mut String) -> Result<(), AllocError>
     ensures range { OnOk result (Appends (string_bytes out.old) (string_bytes out.new)
         (ansi_range (chars text.now) start end)) }
@@ -60,7 +60,7 @@ fn push_range(text: &str, start: usize, end: usize, out: &mut String) -> Result<
     Ok(())
 }
 
-/// The same of a run that begins at `column`; gives the column behind it.
+/// Appends the part of a run that begins at `column`, and returns the column after it.
 fn push_run(
     run: &str,
     range: (usize, usize),

@@ -1,4 +1,4 @@
-//! Why a call was refused, and what became of a draw.
+//! Why a call was refused, and the result of a draw.
 ghost use Rattle.std.specs.Prelude.{◌≡◌};
 ghost use Rattle.indicatif_text.specs.Refusal.{refusal_number};
 ghost use Rattle.indicatif_text.specs.Template.{state_name};
@@ -21,9 +21,9 @@ pub enum TemplateState {
     MaybeOpen,
     /// After a single closing brace.
     DoubleClose,
-    /// Right after the colon behind a key.
+    /// Right after the colon that follows a key.
     Align,
-    /// Later in the options behind the colon, before a dot.
+    /// Later in the options after the colon, before a dot.
     Width,
 }
 
@@ -41,10 +41,9 @@ impl TemplateState {
     }
 }
 
-/// Why a call was refused. A call that answers a `Refusal` fails by nothing else, and after each the documents of the call say
-/// what has changed.
+/// Why a call was refused. A call that returns a `Refusal` fails in no other way, and its documentation says what has changed after each.
 ///
-/// Its text says what was wrong; the options of a hole, as a width in `{:>12}`, are ignored.
+/// Its text says what was wrong; format options, such as a width in `{:>12}`, are ignored.
 ///
 /// ```
 /// let refusal = Refusal::NoColumns;
@@ -52,22 +51,22 @@ impl TemplateState {
 /// ```
 #[derive(Clone, Copy, Debug, Drop, PartialEq, Eq, Error)]
 pub enum Refusal {
-    /// A refresh rate of 0 draws a second. Nothing is made; the terminal or the writer is given up.
+    /// A refresh rate of 0 draws a second. Nothing is made; the terminal or the writer is dropped.
     #[error("a refresh rate of 0")]
     ZeroRate,
-    /// Fewer than two tick strings. The style is given up.
+    /// Fewer than two tick strings. The style is dropped.
     #[error("fewer than two tick strings")]
     FewTicks,
-    /// Fewer than two progress clusters. The style is given up.
+    /// Fewer than two progress clusters. The style is dropped.
     #[error("fewer than two progress characters")]
     FewProgressChars,
-    /// Progress clusters of unequal columns. The style is given up.
+    /// Progress clusters of different widths. The style is dropped.
     #[error("progress characters of unequal widths")]
     UnequalWidths,
-    /// Progress clusters of no columns. The style is given up.
+    /// Progress clusters without columns. The style is dropped.
     #[error("progress characters of no columns")]
     ZeroWidthChars,
-    /// A character that the grammar of templates refuses. Nothing is made; a style that was to have the template is given up.
+    /// A character that the grammar of templates refuses. Nothing is made; a style that was to have the template is dropped.
     #[error("unexpected character {next:?} in state {state:?} of a template")]
     Template {
         /// The character.
@@ -75,20 +74,20 @@ pub enum Refusal {
         /// Where it stood.
         state: TemplateState,
     },
-    /// A template width past 65,535. Nothing is made; a style that was to have the template is given up.
+    /// A template width past 65,535. Nothing is made; a style that was to have the template is dropped.
     #[error("a template width past 65,535")]
     WidthTooLarge,
-    /// A bar or an anchor of another board. The board is unchanged; an owner of a shared bar that was handed in is given up.
+    /// A bar or an anchor of another board. The board is unchanged; an owner of a shared bar that was passed is dropped.
     #[error("a bar of another board")]
     ForeignBar,
-    /// A bar or an anchor that was removed, dropped or never given. The board is unchanged; an owner of a shared bar that was handed
-    /// in is given up.
+    /// A bar or an anchor that was removed, dropped or never given. The board is unchanged; an owner of a shared bar that was passed is
+    /// dropped.
     #[error("no such bar on this board")]
     NotMember,
-    /// An elapsed time greater than the moment. The bar is unchanged; an owner of a shared bar that was to be given back is given up.
+    /// An elapsed time greater than the moment. The bar is unchanged; an owner of a shared bar that a builder would return is dropped.
     #[error("an elapsed time beyond the clock")]
     ElapsedBeyondClock,
-    /// A terminal of no columns. The bar's numbers have changed; its lines are as before.
+    /// A terminal without columns. The bar's record has changed; its lines are unchanged.
     #[error("a terminal of no columns")]
     NoColumns,
     /// A line that holds a character wider than the terminal. The bar's lines are laid out; nothing is written.
@@ -97,16 +96,16 @@ pub enum Refusal {
     /// The terminal failed in this call. The rows are forgotten, and the next draw begins on a new row.
     #[error("the terminal failed: {0}")]
     Terminal(ErrorKind),
-    /// Memory, a thread or a number was refused. A draw has written nothing then; a call that does more says what it had done before.
+    /// Memory, a thread or a number was refused. Then a draw has written nothing; a call that does more says what it had already done.
     #[error("out of memory")]
     Memory,
-    /// A terminal in memory of no rows or no columns. Nothing is made.
+    /// A terminal in memory without rows or columns. Nothing is made.
     #[error("a terminal of no cells")]
     ZeroSize,
-    /// Work without a piece. Nothing is run.
+    /// A list of work without a piece. Nothing is run.
     #[error("no piece of work")]
     ZeroPieces,
-    /// A recorded board keeps its target. The board is unchanged; the new target is given up.
+    /// A recorded board keeps its target. The board is unchanged; the new target is dropped.
     #[error("a recorded board keeps its target")]
     RecordedTarget,
 }
@@ -151,7 +150,7 @@ impl From<AllocError> for Refusal {
     }
 }
 
-/// Memory that was refused for a value is `Refusal::Memory`; the value is given up.
+/// Memory that was refused for a value is `Refusal::Memory`; the value is dropped.
 impl<T: Drop> From<AllocFailed<T>> for Refusal {
     ghost from_gives = { λ _ e. e ≡ Memory };
 
@@ -160,7 +159,7 @@ impl<T: Drop> From<AllocFailed<T>> for Refusal {
     }
 }
 
-/// What became of a draw that was not refused.
+/// The result of a draw that was not refused.
 ///
 /// ```
 /// let drawn = bar.tick(0)?;
@@ -170,7 +169,7 @@ impl<T: Drop> From<AllocFailed<T>> for Refusal {
 pub enum Drawn {
     /// The terminal was written.
     Yes,
-    /// Nothing was written: no draw was asked, or the limiter said no.
+    /// Nothing was written: no draw was asked for, or the limiter refused it.
     Limited,
     /// Nothing was written: the target is hidden.
     Hidden,

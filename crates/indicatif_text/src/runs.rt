@@ -1,4 +1,4 @@
-//! Runs: visible characters that take as many columns each, one behind the other.
+//! Runs: visible characters of the same width, one after another.
 ghost use Rattle.std.specs.Prelude.{IsTrue, ◌+◌, ◌++◌, encode_utf8, ◌*◌, ◌≡◌, ◌≤◌, ◌<◌, List, [], ℕ, take, drop, length, chars, get_or, All, MatchOption};
 ghost use Rattle.std.specs.Str.{IsCharBoundary};
 ghost use Rattle.indicatif_text.specs.Columns.{visible, width_of};
@@ -9,7 +9,7 @@ use crate::pieces::after_colours;
 use crate::spans::split_first;
 use std::marker::Model;
 
-/// So many characters of so many columns each.
+/// A number of characters of the same width.
 #[derive(Clone, Copy, Drop)]
 pub(crate) struct Run {
     pub columns: usize,
@@ -38,7 +38,7 @@ impl<'a> Runs<'a> {
         Runs { rest: text }
     }
 
-    /// Takes a run off the front: printable ASCII, or another character; one of three bytes as often as it comes again.
+    /// Takes a run off the front: printable ASCII, or another character; a character of three bytes with all its repetitions.
     #[inline(always)]
     pub(crate) fn next_run(&mut self, last: &mut LastWidth) -> Option<Run>
         ensures { MatchOption result (self.old ≡ [])
@@ -78,7 +78,7 @@ impl LastWidth {
     }
 }
 
-/// The first run of what a text has outside colour sequences, and what follows it; none where nothing is visible.
+/// The first visible run of a text, and the rest; none if nothing is visible.
 #[inline(always)]
 fn first_run<'a>(text: &'a str, last: &mut LastWidth) -> Option<(Run, &'a str)>
     ensures { MatchOption result (visible (chars text.now) ≡ [])
@@ -104,7 +104,7 @@ fn first_run<'a>(text: &'a str, last: &mut LastWidth) -> Option<(Run, &'a str)>
     Some((run, &rest[3 * repeats..]))
 }
 
-/// How many times a character of three bytes stands at the front of a text; 0 for one of fewer or more bytes.
+/// How often a character of three bytes is repeated at the front of a text; 0 for one of fewer or more bytes.
 #[inline(always)]
 fn repeats(text: &str, c: char) -> usize
     ensures repeats { text.now ≡ times_then result (encode_utf8 c) (drop (3 * result) text.now) }
@@ -120,7 +120,7 @@ fn repeats(text: &str, c: char) -> usize
     triples(text.as_bytes(), unit)
 }
 
-/// How many times three bytes stand at the front.
+/// How often three bytes are repeated at the front.
 #[inline(always)]
 fn triples(bytes: &[u8], unit: &[u8]) -> usize
     requires { length unit.now ≡ 3 }
@@ -136,7 +136,7 @@ fn triples(bytes: &[u8], unit: &[u8]) -> usize
     count
 }
 
-/// How many times three bytes stand at the front in blocks of seventeen.
+/// How often three bytes are repeated at the front, in blocks of seventeen.
 #[inline(always)]
 fn blocks_of_triples(bytes: &[u8], unit: &[u8]) -> usize
     requires { length unit.now ≡ 3 }
@@ -152,7 +152,7 @@ fn blocks_of_triples(bytes: &[u8], unit: &[u8]) -> usize
     count
 }
 
-/// Whether three bytes stand at a place seventeen times: then the 48 bytes behind them are those from them on.
+/// Whether three bytes are repeated seventeen times at a place: then the 48 bytes after them equal those from them on.
 #[inline(always)]
 fn repeats_at(bytes: &[u8], at: usize, unit: &[u8]) -> bool
     requires three { length unit.now ≡ 3 }
@@ -166,7 +166,7 @@ fn repeats_at(bytes: &[u8], at: usize, unit: &[u8]) -> bool
     are_same(&bytes[at + 3..at + 51], &bytes[at..at + 48])
 }
 
-/// Whether as many bytes are the same. It looks at each, so that many are compared at once.
+/// Whether two slices are equal. It looks at each byte, so that many are compared at once.
 #[inline(always)]
 fn are_same(a: &[u8], b: &[u8]) -> bool
     requires { length a.now ≡ length b.now }
@@ -193,7 +193,7 @@ fn stands_at(bytes: &[u8], at: usize, unit: &[u8]) -> bool
         && bytes[at + 2] == unit[2]
 }
 
-/// So many bytes are looked at together.
+/// The number of bytes that are looked at together.
 const BLOCK: usize = 16;
 
 /// Whether all bytes are printable ASCII. It looks at each, so that many are compared at once.
@@ -221,7 +221,7 @@ fn block_stands_at(bytes: &[u8], at: usize) -> bool
     all_printable(&bytes[at..at + BLOCK])
 }
 
-/// How many bytes the blocks of printable ASCII have that stand at the front.
+/// How many bytes of whole printable ASCII blocks stand at the front.
 #[inline(always)]
 fn blocks_len(bytes: &[u8]) -> usize
     ensures printable { All IsPrintable (take result bytes.now) }
@@ -256,8 +256,8 @@ fn long_printable_len(bytes: &[u8]) -> usize
     count
 }
 
-/// How many bytes of printable ASCII stand at the front of a text. No block is looked at where the second byte is another, as
-/// between colour sequences.
+/// How many bytes of printable ASCII stand at the front of a text. No block is looked at if the second byte isn't, as between colour
+/// sequences.
 #[inline(always)]
 fn printable_len(text: &str) -> usize
     ensures printable { All IsPrintable (take result text.now) }

@@ -27,7 +27,7 @@ pub(crate) enum Span {
 }
 
 /// Which runs each byte ends, as a sum: 1 a literal run, 2 a key, 4 words that go to the end, 8 those of a style, 16 those of an
-/// alternative one. Bytes of characters past ASCII end none.
+/// alternative one. Bytes past ASCII end none.
 const ENDS: &[u8; 256] = &[
     0, 0, 0, 0, 0, 0, 0, 0, 0, 2, 3, 0, 2, 2, 0, 0, 0, 0, 0, 0, 0, 0, 0, 0, 0, 0, 0, 0, 0, 0, 0, 0,
     2, 0, 0, 0, 0, 0, 0, 0, 0, 0, 0, 0, 0, 0, 28, 8, 0, 0, 0, 0, 0, 0, 0, 0, 0, 0, 2, 0, 0, 0, 0,
@@ -40,7 +40,7 @@ const ENDS: &[u8; 256] = &[
     0, 0,
 ];
 
-/// What the bytes that end this run have in the table.
+/// The table's bit of the bytes that end this run.
 #[inline(always)]
 fn bit_of(run: Span) -> u8
     ensures { result ≡ bit_of run }
@@ -54,7 +54,7 @@ fn bit_of(run: Span) -> u8
     }
 }
 
-/// Whether a byte of a text belongs to the run; those of characters past ASCII do or don't together.
+/// Whether a byte of a text belongs to the run; all bytes of a character past ASCII do, or none.
 #[inline(always)]
 fn belongs(run: Span, byte: u8) -> bool
     ensures { result ≡ belongs run byte }
@@ -74,7 +74,7 @@ fn span_len(bytes: &[u8], run: Span) -> usize
     len
 }
 
-/// The longest beginning of `text` that belongs to the run, and what follows it.
+/// The longest prefix of `text` that belongs to the run, and the rest.
 #[inline(always)]
 pub(crate) fn split_span(text: &str, run: Span) -> (&str, &str)
     ensures run { chars result.0.now ≡ take_while (belongs run) (chars text.now) }
@@ -85,7 +85,7 @@ pub(crate) fn split_span(text: &str, run: Span) -> (&str, &str)
     text.split_at(end)
 }
 
-/// The first character of `text` and what follows it; none where it's empty.
+/// The first character of `text` and the rest; none if it is empty.
 #[inline]
 pub(crate) fn split_first(text: &str) -> Option<(char, &str)>
     ensures first { MatchOption result (chars text.now ≡ [])

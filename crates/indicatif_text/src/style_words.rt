@@ -1,4 +1,4 @@
-//! Styles of text: the colours and attributes that a dotted text names, and what they write.
+//! Styles of text: the colours and attributes named by a dotted text, and what they write.
 ghost use Rattle.std.specs.Prelude.{◌≡◌, ℕ, ◌+◌, ◌≤◌, ◌<◌, ◌||◌, ◌++◌, [], chars, bytes_eq, position, option_map, flat_map, take_while, IsUtf8, string_bytes, string_len, string_capacity, length, codes, nat_lt, OnOk, OnErr, IfErr, IfOk, IsTrue};
 ghost use Rattle.std.specs.List.{list_all};
 ghost use Rattle.indicatif_text.specs.StyleWords.{style_of, styled, opening_of, sequence_of, numbers_of, number_if, foreground_number, background_number, colour_place, colour_words, background_words};
@@ -88,9 +88,9 @@ impl Style {
 
     /// The style that `text` names: words separated by dots.
     ///
-    /// The words are `black`, `red`, `green`, `yellow`, `blue`, `magenta`, `cyan` and `white`, each also with `on_`
-    /// before for the background, and `bold`, `dim`, `underlined`, `blink`, `reverse` and `hidden`. A later foreground
-    /// or background replaces an earlier one; other words are ignored. One pass, no memory.
+    /// The words are `black`, `red`, `green`, `yellow`, `blue`, `magenta`, `cyan` and `white`, each also with `on_` before for the
+    /// background, and `bold`, `dim`, `underlined`, `blink`, `reverse` and `hidden`. A later foreground or background replaces an earlier
+    /// one; other words are ignored. One pass; takes no memory.
     ///
     /// ```
     /// let style = Style::from_dotted_str("red.green");
@@ -103,7 +103,7 @@ impl Style {
         Style::read(text, Words::All).0
     }
 
-    /// The style that the words in front of `text` name, and what follows them.
+    /// The style named by the words at the front of `text`, and the rest.
     #[inline(always)]
     pub(crate) fn read(text: &str, words: Words) -> (Style, &str)
         ensures style { numbers_of result.0
@@ -125,12 +125,11 @@ impl Style {
         (style, rest)
     }
 
-    /// Appends `text` as it looks in this style. With `colours` on, the sequences stand before it: foreground,
-    /// background, then the attributes by rising number, each its own ESC `[` number `m` (ECMA-48, SGR); and ESC `[0m`
-    /// behind it, also behind an empty text, but only if a sequence stands before. With `colours` off it is the text
-    /// alone.
+    /// Appends `text` in this style. With `colours` on, the sequences stand before it: foreground, background, then the attributes by
+    /// rising number, each its own ESC `[` number `m` (ECMA-48, SGR); and ESC `[0m` after it, also after an empty text, but only if a
+    /// sequence stands before. With `colours` off it is the text alone.
     ///
-    /// Refused: `Memory`, only where `out` has no room for all of it; `out` is as before then.
+    /// Refused: `Memory`, only if `out` has no room for all of it; then `out` is unchanged.
     ///
     /// ```
     /// Style::from_dotted_str("hidden.bold.dim").apply_to(true, "", &mut out)?;
@@ -156,10 +155,10 @@ impl Style {
         Ok(())
     }
 
-    /// Appends the sequences that stand before a text in this style, and says whether any does: then ESC `[0m` belongs
-    /// behind the text.
+    /// Appends the sequences that stand before a text in this style, and returns whether there are any: then ESC `[0m` belongs after the
+    /// text.
     ///
-    /// Refused: `Memory`, only where `out` has no room for them; `out` is as before then.
+    /// Refused: `Memory`, only if `out` has no room for them; then `out` is unchanged.
     ///
     /// ```
     /// let is_open = Style::from_dotted_str("red").open(true, &mut out)?;
@@ -203,7 +202,7 @@ impl Style {
         text
     }
 
-    /// Takes up a further word, where it is one.
+    /// Adds a further word, if it is one.
     #[inline(always)]
     fn add_word(&mut self, word: &str)
         ensures { Adds self.old (chars word.now) self.new }
@@ -215,7 +214,7 @@ impl Style {
         *self = self.with_other_word(word);
     }
 
-    /// The style with a further word that is no foreground, where it is one.
+    /// The style with a further word that is no foreground, if it is one.
     #[inline(never)]
     fn with_other_word(self, word: &str) -> Style
         ensures foreground { foreground_number result ≡ foreground_number self }
@@ -262,14 +261,14 @@ fn colour_of(word: &str) -> Option<BasicColour>
     }
 }
 
-/// The colour that a word names behind `on_`.
+/// The colour that a word names after `on_`.
 fn background_of(word: &str) -> Option<BasicColour>
     ensures { option_map colour_place result ≡ position (bytes_eq (chars word.now)) background_words }
 {
     colour_of(word.strip_prefix("on_")?)
 }
 
-/// Whether `word` is this name, which is ASCII.
+/// Whether `word` is this ASCII name.
 fn is_word(word: &str, name: &str) -> bool
     requires { IsTrue (list_all (λ b. nat_lt b 128) name.now) }
     ensures { result ≡ bytes_eq (chars word.now) name.now }
@@ -277,14 +276,14 @@ fn is_word(word: &str, name: &str) -> bool
     word == name
 }
 
-/// What stands behind a text that these sequences stand before.
+/// What follows a text after these sequences.
 fn closing(opening: &str) -> &'static str
     ensures { result.now ≡ closing_of opening.now }
 {
     if opening.is_empty() { "" } else { "\x1b[0m" }
 }
 
-/// Puts the sequence of a colour in front, if there is one: `base` and the colour's place are its number.
+/// Puts the sequence of a colour in front, if there is one: its number is `base` and the colour's place.
 fn prepend_colour(text: &mut ShortText, base: u64, colour: Option<BasicColour>)
     requires room { length text.old ≤ 35 }
     requires small { base ≤ 40 }
@@ -296,7 +295,7 @@ fn prepend_colour(text: &mut ShortText, base: u64, colour: Option<BasicColour>)
     }
 }
 
-/// Puts the sequence of an attribute's number in front, where it is set.
+/// Puts the sequence of an attribute's number in front, if it is set.
 fn prepend_attribute(text: &mut ShortText, set: bool, number: u64)
     requires room { length text.old ≤ 35 }
     requires small { number < 100 }

@@ -18,7 +18,7 @@ mod draft;
 mod reading;
 mod stored_parts;
 
-/// Where a placeholder's text stands in its width.
+/// The alignment of a placeholder's text in its width.
 ///
 /// ```
 /// // the placeholder of "{k:>2}" stands at the right of two columns
@@ -34,7 +34,7 @@ pub enum Alignment {
     Right,
 }
 
-/// A part of a template. Its text stands in the template.
+/// A part of a template. Its text is borrowed from the template.
 ///
 /// ```
 /// for part in template.parts() {
@@ -47,7 +47,7 @@ pub enum Alignment {
 /// ```
 #[derive(Clone, Copy, Debug, Drop, PartialEq, Eq)]
 pub enum Part<'a> {
-    /// A text that stands as it is.
+    /// A literal text.
     Literal(&'a str),
     /// The end of a line.
     NewLine,
@@ -55,11 +55,11 @@ pub enum Part<'a> {
     Placeholder {
         /// The key; never empty.
         key: &'a str,
-        /// Where the text stands in its width.
+        /// The alignment of the text in its width.
         align: Alignment,
         /// The width in columns.
         width: Option<u16>,
-        /// Whether a text of more columns is cut.
+        /// Whether a wider text is cut.
         truncate: bool,
         /// The colours of the text.
         style: Option<Style>,
@@ -68,8 +68,8 @@ pub enum Part<'a> {
     },
 }
 
-/// A text with placeholders, read into its parts. Neighbouring literal texts are one part.
-/// By the documentation of the Rust crate `indicatif` 0.18.6.
+/// A text with placeholders, read into its parts. Neighbouring literal texts are one part. The rule is that of the documentation of the
+/// Rust crate `indicatif` 0.18.6.
 ///
 /// ```
 /// let template = Template::parse(alloc, "{foo:5!3}")?;
@@ -77,7 +77,7 @@ pub enum Part<'a> {
 /// ```
 #[derive(Debug, Drop)]
 pub struct Template {
-    /// The texts of the parts, one behind the other.
+    /// The texts of the parts, one after another.
     texts: String,
     parts: Vec<StoredPart>,
 }
@@ -97,23 +97,22 @@ impl Model for Template {
 impl Template {
     /// Reads a template.
     ///
-    /// `{{` and `}}` are literal braces, and so is a `}` at the end. A `{`, key characters or none and one ASCII white
-    /// space stay as they are. Else a `{` begins a placeholder: a key of at least one character, which has no `:`, `}`
-    /// or ASCII white space and doesn't begin with `{`; then a `}`, or a `:`, options and a `}`. The options are, in
-    /// order: one of `<`, `^` and `>`, or none; digits, which join to the width, and `!`, which means that a longer
-    /// text is cut, in any mix; a `.` and a style, or none, with a `/` and an alternative style behind it, or none.
-    /// A newline is a part of its own.
+    /// `{{` and `}}` are literal braces, and so is a `}` at the end. A `{`, any key characters and one ASCII white space are literal. Any
+    /// other `{` begins a placeholder: a key of at least one character, which has no `:`, `}` or ASCII white space and doesn't begin with
+    /// `{`; then a `}`, or a `:`, options and a `}`. The options are, in order: one of `<`, `^` and `>`, or none; digits, which join to the
+    /// width, and `!`, which means that a longer text is cut, in any mix; a `.` and a style, or none, with a `/` and an alternative style
+    /// after it, or none. A newline is its own part.
     ///
-    /// A text that ends inside a placeholder is a template. A last `{` goes away, with the literal text since the last
-    /// newline, placeholder or `{` with a white space. An unfinished key goes away alone. Behind the `:`, the
-    /// placeholder has what was finished: a width, a style or an alternative style counts only where something ends it.
+    /// A text that ends inside a placeholder is a template. A last `{` is dropped, with the literal text since the last newline,
+    /// placeholder or `{` with a white space. An unfinished key is dropped alone. After the `:`, the placeholder has what was finished: a
+    /// width, a style or an alternative style counts only if something ends it.
     ///
     /// One pass, with two blocks of memory: one for the texts of all parts, and one for the parts.
     ///
-    /// Refused, at the first character in reading order: `Unexpected` where the character fits no case, with its state:
-    /// `MaybeOpen` for a `}` or a `:` right behind a `{`, `DoubleClose` for another character behind a single `}`,
-    /// `Align` right behind the `:` of a placeholder, `Width` later in its options before a `.`; `WidthTooLarge` where
-    /// a width past 65,535 ends. `Memory`, never of an empty text: nothing is made.
+    /// Refused, at the first character in reading order: `Unexpected` if the character fits no case, with its state: `MaybeOpen` for a `}`
+    /// or a `:` right after a `{`, `DoubleClose` for another character after a single `}`, `Align` right after the `:` of a placeholder,
+    /// `Width` later in its options before a `.`; `WidthTooLarge` at the end of a width past 65,535. `Memory`, never for an empty text:
+    /// nothing is made.
     ///
     /// ```
     /// assert_eq!(Template::parse(alloc, "{{x}}")?.part_count(), 1);
@@ -148,9 +147,9 @@ impl Template {
         }
     }
 
-    /// The template `{wide_bar} {pos}/{len}`, without its being read.
+    /// The template `{wide_bar} {pos}/{len}`, without reading it.
     ///
-    /// Refused: memory.
+    /// Refused: want of memory.
     ///
     /// ```
     /// assert_eq!(Template::of_bar(alloc)?.part_count(), 5);
@@ -167,9 +166,9 @@ impl Template {
         draft.finish()
     }
 
-    /// The template `{spinner} {msg}`, without its being read.
+    /// The template `{spinner} {msg}`, without reading it.
     ///
-    /// Refused: memory.
+    /// Refused: want of memory.
     ///
     /// ```
     /// assert_eq!(Template::of_spinner(alloc)?.part_count(), 3);
@@ -266,7 +265,7 @@ impl<'a> Iterator for Parts<'a> {
     }
 }
 
-/// Why a text is no template.
+/// Why a text isn't a template.
 ///
 /// ```
 /// let state = TemplateState::DoubleClose;
@@ -289,8 +288,8 @@ pub enum TemplateError {
     Memory,
 }
 
-/// `TemplateError: `, and what was refused: `unexpected character 'x' in state DoubleClose`, `width too large` or
-/// `out of memory`. The options of a hole, as a width in `{:>12}`, are ignored.
+/// `TemplateError: `, and what was refused: `unexpected character 'x' in state DoubleClose`, `width too large` or `out of memory`. Format
+/// options, such as a width in `{:>12}`, are ignored.
 impl fmt::Display for TemplateError {
     ghost use Rattle.indicatif_text.specs.Template.{error_text};
 
@@ -324,7 +323,7 @@ impl From<AllocError> for TemplateError {
     }
 }
 
-/// Memory that was refused for a value is `TemplateError::Memory`; the value is given up.
+/// Memory that was refused for a value is `TemplateError::Memory`; the value is dropped.
 impl<T: Drop> From<AllocFailed<T>> for TemplateError {
     ghost use Rattle.indicatif_text.specs.declared.template.TemplateError.TheVariants.{Memory};
 
@@ -335,7 +334,7 @@ impl<T: Drop> From<AllocFailed<T>> for TemplateError {
     }
 }
 
-/// A template's error as a refusal: `Unexpected` is `Template`, the others are those of their names.
+/// A template's error as a refusal: `Unexpected` is `Template`, the others have the same names.
 impl From<TemplateError> for Refusal {
     ghost use Rattle.indicatif_text.specs.Template.{refusal_of};
 

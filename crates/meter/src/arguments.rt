@@ -1,4 +1,4 @@
-//! What the arguments ask for.
+//! The program's request, from its arguments.
 use clap::error::ErrorKind as WordsErrorKind;
 use clap::{Arg, ArgAction, ArgMatches, Command, Error, value_parser};
 use indicatif_term::term_like::OwnRow;
@@ -7,62 +7,62 @@ use std::alloc::{AllocError, AllocFailed, Global};
 use std::env::{self, Env};
 use std::io::ErrorKind;
 
-/// What is asked for.
+/// A request.
 #[derive(Drop)]
 pub struct Asked<'a> {
     /// The inputs, in turn; none for standard input.
     pub files: Vec<&'a str>,
-    /// How much is to come, if it is said.
+    /// How much will come, if given.
     pub size: Option<u64>,
-    /// How it is shown.
+    /// How progress is shown.
     pub look: Look<'a>,
-    /// When it is shown.
+    /// When progress is shown.
     pub timing: Timing,
-    /// How bytes are handed on.
+    /// How bytes are passed on.
     pub passing: Passing,
 }
 
-/// How bytes are handed on.
+/// How bytes are passed on.
 #[derive(Clone, Copy, Drop)]
 pub struct Passing {
-    /// How many go at once at most.
+    /// The most bytes that are sent at once.
     pub block: usize,
-    /// Where it ends.
+    /// Where to stop.
     pub ends: Ends,
 }
 
-/// Where it ends.
+/// Where to stop.
 #[derive(Clone, Copy, Drop)]
 pub enum Ends {
-    /// Behind all inputs.
+    /// After all inputs.
     WithInputs,
-    /// After as many bytes as are to come, if that is known.
+    /// After the given size, if it is known.
     AtSize,
 }
 
-/// How it is shown.
+/// How progress is shown.
 #[derive(Drop)]
 pub struct Look<'a> {
-    /// Where.
+    /// Where progress is shown.
     pub manner: Manner,
     /// What is counted.
     pub unit: Unit,
     /// Which parts are shown.
     pub parts: Parts,
-    /// What stands before the numbers.
+    /// The name before the numbers.
     pub name: Option<&'a str>,
-    /// A template of its own.
+    /// A template from the user.
     pub format: Option<&'a str>,
-    /// The columns of the terminal, where the machine isn't to be asked.
+    /// The columns of the terminal, if they are given.
     pub columns: Option<u16>,
-    /// The row, where others have rows too.
+    /// The row, if other programs have rows too.
     pub row: Option<OwnRow>,
 }
 
 /// Where it is shown.
 #[derive(Clone, Copy, Drop)]
 pub enum Manner {
-    /// As a bar, where standard error is a terminal.
+    /// As a bar, if standard error is a terminal.
     Bar,
     /// As a bar in any case.
     ForcedBar,
@@ -84,22 +84,22 @@ pub enum Unit {
 /// Which parts are shown.
 #[derive(Clone, Copy, Drop)]
 pub struct Parts {
-    /// How much went.
+    /// How much was sent.
     pub count: bool,
-    /// For how long.
+    /// The time since the start.
     pub elapsed: bool,
-    /// How fast lately.
+    /// The rate of the last seconds.
     pub rate: bool,
-    /// How fast on the whole.
+    /// The mean rate.
     pub mean: bool,
     /// A bar, and the percent.
     pub bar: bool,
-    /// When it will be over.
+    /// The time left, and the time of day of the end.
     pub left: bool,
 }
 
 impl Parts {
-    /// All of them.
+    /// All parts.
     const ALL: Parts = Parts {
         count: true,
         elapsed: true,
@@ -109,20 +109,20 @@ impl Parts {
         left: true,
     };
 
-    /// Whether there is none.
+    /// Whether there are no parts.
     fn is_none(&self) -> bool {
         !(self.count || self.elapsed || self.rate || self.mean || self.bar || self.left)
     }
 }
 
-/// When it is shown, and how fast bytes go.
+/// When progress is shown, and how fast bytes are sent.
 #[derive(Clone, Copy, Drop)]
 pub struct Timing {
-    /// The nanoseconds from one drawing to the next.
+    /// The nanoseconds from one draw to the next.
     pub interval: u64,
-    /// Whether the time begins with the first byte.
+    /// When the time begins.
     pub begins: Begins,
-    /// How many bytes go in a second at most.
+    /// The most bytes a second.
     pub limit: Option<u64>,
 }
 
@@ -135,12 +135,12 @@ pub enum Begins {
     WithFirstByte,
 }
 
-/// Why nothing is asked for.
+/// Why there is no request.
 #[derive(Drop)]
 pub enum Unasked {
     /// The words are wrong, or ask for help.
     Words(Error),
-    /// A value is none of its option's, or the words are no text.
+    /// The value of an option is wrong, or the words aren't UTF-8.
     Value(&'static str),
     /// Memory was refused.
     Memory,
@@ -173,7 +173,7 @@ const INTERVAL: u64 = 100_000_000;
 /// The version, which is that of the library's source.
 const VERSION: &str = "0.18.6";
 
-/// As many bytes as `cat` hands on at once.
+/// As many bytes as `cat` copies at once.
 const BLOCK: usize = 131_072;
 
 /// The inputs, or an option.
@@ -183,7 +183,7 @@ struct Choice {
     name: &'static str,
     /// How it is given.
     given: Given,
-    /// What the help says of it.
+    /// Its line in the help.
     help: &'static str,
 }
 
@@ -194,26 +194,26 @@ enum Given {
     Words,
     /// By its letter or its name.
     Flag(char),
-    /// By its letter or its name, with a value, and what the help calls that.
+    /// By its letter or its name, with a value, and the value's name in the help.
     Valued(char, &'static str),
     /// By its letter or its name, and a number of columns.
     Columns(char),
-    /// By its name, and one of several rows.
+    /// By its name, with one of several rows.
     Row,
 }
 
-/// An option of `pv` that isn't there.
+/// An option of `pv` that this program hasn't.
 #[derive(Clone, Copy, Drop)]
 struct Absent {
     /// How it is given.
     given: Given,
     /// Its name.
     name: &'static str,
-    /// What to say, with what is nearest.
+    /// The message, with what is nearest.
     instead: &'static str,
 }
 
-/// What can be asked for, in the order of the help.
+/// The options, in the order of the help.
 const CHOICES: &[Choice] = &[
     Choice {
         name: "file",
@@ -337,7 +337,7 @@ const CHOICES: &[Choice] = &[
     },
 ];
 
-/// What `pv` has and this program hasn't, and what to do in its place.
+/// The options that `pv` has and this program hasn't, and what to use instead.
 const ABSENT: &[Absent] = &[
     Absent {
         given: Given::Flag('c'),
@@ -397,7 +397,7 @@ pub fn words_of<R: Env + AllocGlobal>(rt: &R) -> Result<Vec<String>, Unasked> {
     }
 }
 
-/// What is found in these words.
+/// The matches of these words.
 fn found<'a>(alloc: Global, words: &'a [String]) -> Result<ArgMatches<'a>, Error> {
     let mut command = Command::new(alloc, "meter").about(
         "Copies files or standard input to standard output, and shows the progress on standard error",
@@ -417,7 +417,7 @@ fn found<'a>(alloc: Global, words: &'a [String]) -> Result<ArgMatches<'a>, Error
     command.version(VERSION).try_get_matches_from(words)
 }
 
-/// What `pv` calls a choice that has another name here; that name is taken too.
+/// The name that `pv` has for an option with another name here; that name works too.
 fn pv_name(name: &str) -> Option<&'static str> {
     match name {
         "lines" => Some("line-mode"),
@@ -426,7 +426,7 @@ fn pv_name(name: &str) -> Option<&'static str> {
     }
 }
 
-/// An argument of this name that is given so.
+/// An argument with this name, given in this way.
 fn argument<'a>(alloc: Global, name: &'static str, given: Given) -> Arg<'a> {
     let named = Arg::new(alloc, name);
     match given {
@@ -442,7 +442,7 @@ fn argument<'a>(alloc: Global, name: &'static str, given: Given) -> Arg<'a> {
     }
 }
 
-/// What these words ask for, the first of which is the program's name.
+/// The request of these words, the first of which is the program's name.
 pub fn asked_by<'a>(alloc: Global, words: &'a [String]) -> Result<Asked<'a>, Unasked> {
     let matches = found(alloc, words)?;
     for absent in ABSENT {
@@ -453,7 +453,7 @@ pub fn asked_by<'a>(alloc: Global, words: &'a [String]) -> Result<Asked<'a>, Una
     asked_in(alloc, &matches)
 }
 
-/// Whether it was asked for what isn't there.
+/// Whether an option that this program hasn't was given.
 fn is_given(matches: &ArgMatches<'_>, absent: &Absent) -> bool {
     match absent.given {
         Given::Flag(_) => matches.get_flag(absent.name),
@@ -461,7 +461,7 @@ fn is_given(matches: &ArgMatches<'_>, absent: &Absent) -> bool {
     }
 }
 
-/// What is asked for by what was found.
+/// The request of these matches.
 fn asked_in<'a>(alloc: Global, matches: &ArgMatches<'a>) -> Result<Asked<'a>, Unasked> {
     let mut files = Vec::new(alloc);
     for name in matches.get_strs("file").unwrap_or(&[]) {
@@ -480,7 +480,7 @@ fn asked_in<'a>(alloc: Global, matches: &ArgMatches<'a>) -> Result<Asked<'a>, Un
     })
 }
 
-/// How bytes are to be handed on.
+/// How bytes are passed on.
 fn passing_in(matches: &ArgMatches<'_>) -> Result<Passing, Unasked> {
     let said = bytes_in(
         matches,
@@ -504,7 +504,7 @@ fn passing_in(matches: &ArgMatches<'_>) -> Result<Passing, Unasked> {
     }
 }
 
-/// What is to be counted.
+/// What is counted.
 fn unit_in(matches: &ArgMatches<'_>) -> Unit {
     if matches.get_flag("null") {
         Unit::Lines(0)
@@ -515,7 +515,7 @@ fn unit_in(matches: &ArgMatches<'_>) -> Unit {
     }
 }
 
-/// Which parts are to be shown: all of them where none is asked for.
+/// Which parts are shown: all if none is given.
 fn parts_in(matches: &ArgMatches<'_>) -> Parts {
     let asked = Parts {
         count: matches.get_flag("bytes"),
@@ -528,7 +528,7 @@ fn parts_in(matches: &ArgMatches<'_>) -> Parts {
     if asked.is_none() { Parts::ALL } else { asked }
 }
 
-/// The bytes that an option says, where it is given.
+/// The bytes that an option gives, if it is there.
 fn bytes_in(
     matches: &ArgMatches<'_>,
     name: &str,
@@ -543,7 +543,7 @@ fn bytes_in(
     }
 }
 
-/// How it is to be shown.
+/// How progress is shown.
 fn look_in<'a>(matches: &ArgMatches<'a>) -> Result<Look<'a>, Unasked> {
     Ok(Look {
         manner: manner_in(matches),
@@ -556,7 +556,7 @@ fn look_in<'a>(matches: &ArgMatches<'a>) -> Result<Look<'a>, Unasked> {
     })
 }
 
-/// Where it is to be shown.
+/// Where progress is shown.
 fn manner_in(matches: &ArgMatches<'_>) -> Manner {
     if matches.get_flag("quiet") {
         Manner::Quiet
@@ -569,7 +569,7 @@ fn manner_in(matches: &ArgMatches<'_>) -> Manner {
     }
 }
 
-/// The row on which it is to be shown, if it is one.
+/// The row to show it on, if it is one of several.
 fn row_in(matches: &ArgMatches<'_>) -> Result<Option<OwnRow>, Unasked> {
     let Some(text) = matches.get_str("row") else {
         return Ok(None);
@@ -580,7 +580,7 @@ fn row_in(matches: &ArgMatches<'_>) -> Result<Option<OwnRow>, Unasked> {
     }
 }
 
-/// When it is to be shown.
+/// When progress is shown.
 fn timing_in(matches: &ArgMatches<'_>) -> Result<Timing, Unasked> {
     let interval = interval_in(matches)?;
     let limit = bytes_in(
@@ -602,7 +602,7 @@ fn timing_in(matches: &ArgMatches<'_>) -> Result<Timing, Unasked> {
     })
 }
 
-/// The nanoseconds from one drawing to the next.
+/// The nanoseconds from one draw to the next.
 fn interval_in(matches: &ArgMatches<'_>) -> Result<u64, Unasked> {
     let Some(text) = matches.get_str("interval") else {
         return Ok(INTERVAL);

@@ -1,4 +1,4 @@
-//! Inputs handed on, one after another.
+//! Inputs passed on, one after another.
 use crate::arguments::{Asked, Begins, Ends, Manner, Timing, Unit};
 use crate::numbers::Numbers;
 use crate::shown::Bar;
@@ -13,20 +13,20 @@ use std::sync::Wait;
 use std::time::Duration;
 use std::{thread, time};
 
-/// The bytes in front of the buffer. The C library of Linux gives a block of this size from byte 16 of a page on, so that the
-/// buffer begins with a page, from and to which the system copies fastest.
+/// The bytes before the buffer. The C library of Linux gives a block of this size from byte 16 of a page on, so the buffer begins with a
+/// page, from and to which the system copies fastest.
 const FRONT: usize = 4_080;
 
-/// An input that wasn't handed on, or not to its end: which of them, from 0, and why.
+/// An input that wasn't passed on, or not to its end: which one, from 0, and why.
 #[derive(Clone, Copy, Drop)]
 pub struct Fault {
-    /// The place among the files; 0 of standard input alone.
+    /// The place among the files; 0 for standard input alone.
     pub input: usize,
     /// Why.
     pub why: Why,
 }
 
-/// Why an input wasn't handed on.
+/// Why an input wasn't passed on.
 #[derive(Clone, Copy, Drop)]
 pub enum Why {
     /// It failed.
@@ -35,7 +35,7 @@ pub enum Why {
     IsOutput,
 }
 
-/// What became of the inputs.
+/// The result for the inputs.
 #[derive(Drop)]
 pub struct Copied {
     /// Inputs that failed.
@@ -53,7 +53,7 @@ pub struct Streams {
     pub output: Stdout,
 }
 
-/// What the bytes are told to as they go on.
+/// Reports bytes as they are passed on.
 #[derive(Drop)]
 struct Watch<'a, R: Wait + time::Clock + Copy + Drop> {
     rt: &'a R,
@@ -112,7 +112,7 @@ impl<R: Eprint + Wait + time::Clock + Copy + Drop> Gauge for Watch<'_, R> {
 }
 
 impl<'a, R: AllocGlobal + Wait + time::Clock + Copy + Drop> Watch<'a, R> {
-    /// What these are told to, as it is asked.
+    /// Reports to this bar, as requested.
     fn new(rt: &'a R, bar: &'a Bar<R>, asked: &Asked<'_>, size: Option<u64>) -> Watch<'a, R> {
         let timing = asked.timing;
         Watch {
@@ -134,9 +134,9 @@ impl<'a, R: AllocGlobal + Wait + time::Clock + Copy + Drop> Watch<'a, R> {
     }
 }
 
-/// Hands all inputs on to standard output, and finishes the bar where it stands. The bar, and numbers, are told of each piece.
+/// Passes all inputs on to standard output, and finishes the bar where it stands. The bar, and numbers, follow each piece.
 ///
-/// Refused: `Memory`; the bar is finished all the same.
+/// Refused: `Memory`; the bar is still finished.
 pub fn copy_all<R: Files + AllocGlobal + Eprint + Wait + time::Clock + Copy + Drop>(
     rt: &R,
     streams: Streams,
@@ -149,7 +149,7 @@ pub fn copy_all<R: Files + AllocGlobal + Eprint + Wait + time::Clock + Copy + Dr
     copied
 }
 
-/// Hands them on, and tells numbers of the end.
+/// Passes them on, and writes the last number.
 fn handed_on<R: Files + AllocGlobal + Eprint + Wait + time::Clock + Copy + Drop>(
     rt: &R,
     streams: Streams,
@@ -175,7 +175,7 @@ fn handed_on<R: Files + AllocGlobal + Eprint + Wait + time::Clock + Copy + Drop>
     Ok(copied)
 }
 
-/// Where bytes come from and go to, through which buffer, and how many may go yet.
+/// The source and the destination of bytes, their buffer, and how many may still be sent.
 #[derive(Drop)]
 struct Way<'b> {
     streams: Streams,
@@ -183,7 +183,7 @@ struct Way<'b> {
     buffer: &'b mut [u8],
 }
 
-/// Hands these files on, or standard input where there is none, until the output fails or all went that may.
+/// Passes these files on, or standard input if there are none, until the output fails or the limit is reached.
 fn copy_files<R: Files + AllocGlobal, G: Gauge>(
     rt: &R,
     way: &mut Way<'_>,
@@ -211,13 +211,13 @@ fn copy_files<R: Files + AllocGlobal, G: Gauge>(
 /// What stopped an input.
 #[derive(Clone, Copy, Drop)]
 enum Stopped {
-    /// It.
+    /// The input itself.
     Input(Why),
     /// The output.
     Output(Error),
 }
 
-/// Hands on the file of this name, unless it is that which standard output goes to.
+/// Passes on the file with this name, unless standard output goes to it.
 fn copy_other<R: Files, G: Gauge>(
     rt: &R,
     way: &mut Way<'_>,
@@ -234,7 +234,7 @@ fn copy_other<R: Files, G: Gauge>(
     }
 }
 
-/// Whether the file of this name is that which standard output goes to.
+/// Whether standard output goes to the file with this name.
 fn is_output<R: Files>(rt: &R, name: &str) -> bool {
     let path = if name == "-" { "/dev/stdin" } else { name };
     match (fs::metadata(rt, path), fs::metadata(rt, "/dev/stdout")) {
@@ -243,7 +243,7 @@ fn is_output<R: Files>(rt: &R, name: &str) -> bool {
     }
 }
 
-/// Hands on the file of this name.
+/// Passes on the file with this name.
 fn copy_named<R: Files, G: Gauge>(
     rt: &R,
     way: &mut Way<'_>,
@@ -259,7 +259,7 @@ fn copy_named<R: Files, G: Gauge>(
     }
 }
 
-/// Hands on what comes from an input, as far as it may go.
+/// Passes on an input, up to the limit.
 fn copy_from<I: Read + Drop, G: Gauge>(
     way: &mut Way<'_>,
     input: I,

@@ -1,18 +1,16 @@
-//! A pipe viewer: `producer | meter | consumer`, or `meter FILE .. > device`, hands its inputs on to standard output unchanged, and
-//! shows on standard error how much went, for how long, how fast in the last seconds and on the whole; with a size, which a file
-//! tells by itself, also how far it is, how long the rest will take and at what time of day it will be over. It draws ten times a
-//! second, also while nothing comes, and not at all where standard error is no terminal. Its README.md has its options beside those
-//! of `pv`.
+//! A pipe viewer: `producer | meter | consumer`, or `meter FILE .. > device`, passes its inputs on to standard output unchanged. On
+//! standard error it shows how much was sent, for how long, the rate of the last seconds and the mean rate. If the size is known, as that
+//! of a file, it also shows the progress, the time left and the time of day of the end. It draws ten times a second, even while nothing
+//! comes, and not at all if standard error is no terminal. Its README.md has its options beside those of `pv`.
 //!
-//! The exit status is 0 where all bytes went; 1 where an input failed, 3 where the output did, and 4 where memory was refused, each
-//! with a message; 2 after wrong arguments; and 141, without a word, where the consumer went away, which is what shells say of `cat`
-//! there.
+//! The exit status is 0 if all bytes were sent; 1 if an input failed, 3 if the output did, and 4 if memory was refused, each with a
+//! message; 2 after wrong arguments; and 141, without a message, if the consumer went away, as shells report for `cat`.
 //!
-//! - `arguments`: what is asked for. `sizes`: how much will come.
-//! - `copying`: inputs handed on. `numbers`: numbers for other programs.
-//! - `shown`: the bar. `telling`: what it is told beside the count.
+//! - `arguments`: the request. `sizes`: how much will come.
+//! - `copying`: inputs passed on. `numbers`: numbers for other programs.
+//! - `shown`: the bar. `telling`: what it shows besides the count.
 //!
-//! What is proved apart stands in crate `meter_parts`.
+//! The proved parts are in the crate `meter_parts`.
 #![tactic(auto)]
 
 mod arguments;
@@ -84,9 +82,9 @@ fn size_for<R: Files>(rt: &R, asked: &Asked<'_>) -> Option<u64> {
     }
 }
 
-/// The bar that is asked for, with room for all rows; it ticks where the time begins at once.
+/// The requested bar, with room for all rows; it ticks if the time begins at once.
 ///
-/// Refused: `Memory`, and what a template is refused with.
+/// Refused: `Memory`, and as for templates.
 fn begun<R: Shares + Env + Eprint>(
     rt: &R,
     errors: Stderr,
@@ -106,7 +104,7 @@ fn begun<R: Shares + Env + Eprint>(
     Ok(bar)
 }
 
-/// As many rows above the cursor's as this meter goes up to its own. They come by one write, since the others may draw already.
+/// Makes as many rows above the cursor's as this meter goes up to its own. They are one write, since the others may draw already.
 fn make_room<R: AllocGlobal + Eprint>(rt: &R, row: OwnRow) -> Result<(), Refusal> {
     let mut rows = String::new(rt.alloc());
     for _ in 0..row.below() {
@@ -116,7 +114,7 @@ fn make_room<R: AllocGlobal + Eprint>(rt: &R, row: OwnRow) -> Result<(), Refusal
     Ok(())
 }
 
-/// The bar as it stands at the end, and the cursor on a row of its own below it, or below all of them behind that of the last row.
+/// The bar as it stands at the end, and the cursor on a new row below it, or below all of them after that of the last row.
 fn last_look<R: AllocGlobal + Env + Files + Eprint + Wait + Clock + Copy + Drop>(
     rt: &R,
     asked: &Asked<'_>,
@@ -132,7 +130,7 @@ fn last_look<R: AllocGlobal + Env + Files + Eprint + Wait + Clock + Copy + Drop>
     };
 }
 
-/// The status, and what is to be said of it.
+/// The status, after its message.
 fn answered<R: AllocGlobal + Eprint>(rt: &R, asked: &Asked<'_>, copied: &Copied) -> ExitCode {
     for fault in &copied.faults {
         let name = match asked.files.get(fault.input) {
@@ -160,7 +158,7 @@ fn answered<R: AllocGlobal + Eprint>(rt: &R, asked: &Asked<'_>, copied: &Copied)
     }
 }
 
-/// The status where a bar was refused, and what is to be said of it: but for want of memory it was the template.
+/// The status for a bar that was refused, after its message: other than for want of memory it was the template.
 fn refused(rt: &impl Eprint, refusal: &Refusal) -> ExitCode {
     let _ = eprintln!(rt; "meter: {refusal}");
     match refusal {
@@ -169,7 +167,7 @@ fn refused(rt: &impl Eprint, refusal: &Refusal) -> ExitCode {
     }
 }
 
-/// The status where nothing was to be handed on, and what is to be said of it.
+/// The status if there is nothing to pass on, after its message.
 fn unanswered<R: Print + Eprint>(rt: &R, unasked: &Unasked) -> ExitCode {
     match unasked {
         Unasked::Words(error) => {

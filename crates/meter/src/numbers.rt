@@ -1,7 +1,7 @@
 //! Numbers for other programs, one a line.
 
-/// What is said on standard error: the percent that went where the size is known, else how much went, each interval while bytes go
-/// and once at the end.
+/// Writes to standard error: the percent that was sent if the size is known, otherwise how much was sent, each interval while bytes are
+/// sent and once at the end.
 #[derive(Drop)]
 pub struct Numbers {
     size: Option<u64>,
@@ -12,7 +12,7 @@ pub struct Numbers {
 }
 
 impl Numbers {
-    /// Nothing went yet.
+    /// Before the first byte.
     pub fn new(size: Option<u64>, interval: u64) -> Numbers {
         Numbers {
             size,
@@ -23,7 +23,7 @@ impl Numbers {
         }
     }
 
-    /// So many more went by this moment.
+    /// Counts `count` more by this moment.
     pub fn went(&mut self, rt: &impl Eprint, now: u64, count: u64) {
         self.done = self.done.saturating_add(count);
         let next = self.next.unwrap_or(now.saturating_add(self.interval));
@@ -34,7 +34,7 @@ impl Numbers {
         }
     }
 
-    /// All went.
+    /// Writes the last number.
     pub fn end(&mut self, rt: &impl Eprint) {
         if self.said != Some(self.number()) {
             self.say(rt);
@@ -48,7 +48,7 @@ impl Numbers {
         let _ = eprintln!(rt; "{number}");
     }
 
-    /// The percent, or how much went.
+    /// The percent, or how much was sent.
     fn number(&self) -> u64 {
         match self.size {
             Some(size) => percent(self.done, size),
@@ -57,7 +57,7 @@ impl Numbers {
     }
 }
 
-/// How many hundredths of a size are done, at most 100; 100 of none.
+/// How many hundredths of a size are done, at most 100; 100 if it is 0.
 fn percent(done: u64, size: u64) -> u64 {
     if done >= size {
         return 100;

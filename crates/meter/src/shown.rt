@@ -9,15 +9,15 @@ use std::io::Stderr;
 use std::sync::Wait;
 use std::time;
 
-/// A bar on standard error, which the thread that copies and the one that shows have in common.
+/// A bar on standard error, shared by the thread that copies and the one that shows.
 pub type Bar<R> = ProgressBar<StderrTerm, MachineClock<R>, R>;
 
-/// Where rows have fewer columns, each number has a row.
+/// If rows have fewer columns, each number has its own row.
 const WIDE: u16 = 71;
 
-/// A bar of this length or of none, shown as it is asked for; hidden where standard error is no terminal.
+/// A bar with this length or none, shown as requested; hidden if standard error is no terminal.
 ///
-/// Refused: `Memory`, and what a template is refused with.
+/// Refused: `Memory`, and as for templates.
 pub fn bar_for<R: AllocGlobal + Env + Wait + time::Clock + Copy + Drop>(
     rt: &R,
     errors: Stderr,
@@ -35,7 +35,7 @@ pub fn bar_for<R: AllocGlobal + Env + Wait + time::Clock + Copy + Drop>(
     bar.with_prefix(no_rate(&asked.look))
 }
 
-/// What stands for the rate before there is one.
+/// The text in place of the rate before there is one.
 fn no_rate(look: &Look<'_>) -> &'static str {
     match look.unit {
         Unit::Bytes => "0 B/s",
@@ -44,7 +44,7 @@ fn no_rate(look: &Look<'_>) -> &'static str {
     }
 }
 
-/// What parts the numbers: a space in one row, else a line end.
+/// What separates the numbers: a space in one row, otherwise a line end.
 pub fn parting_for<R: AllocGlobal + Env>(rt: &R, errors: Stderr, look: &Look<'_>) -> &'static str {
     match facts_for(rt, errors, look) {
         Ok(facts) => parting(look, facts.cols),
@@ -52,7 +52,7 @@ pub fn parting_for<R: AllocGlobal + Env>(rt: &R, errors: Stderr, look: &Look<'_>
     }
 }
 
-/// The same where rows have so many columns.
+/// What separates the numbers if rows have `columns` columns.
 fn parting(look: &Look<'_>, columns: u16) -> &'static str {
     if columns >= WIDE || look.row.is_some() {
         " "
@@ -61,7 +61,7 @@ fn parting(look: &Look<'_>, columns: u16) -> &'static str {
     }
 }
 
-/// What is told of standard error: rows have one column less than the terminal, on whose last column the cursor waits.
+/// The facts of standard error: rows have one column less than the terminal, on whose last column the cursor waits.
 fn facts_for<R: AllocGlobal + Env>(
     rt: &R,
     errors: Stderr,
@@ -101,11 +101,11 @@ fn style_for(
 struct Field {
     is_asked: bool,
     text: &'static str,
-    /// How many columns it takes at most.
+    /// The most columns that it takes.
     columns: u16,
 }
 
-/// The parts that stand in one row: what went, and for how long.
+/// The parts in the first row: how much was sent, and for how long.
 fn first_fields(look: &Look<'_>) -> [Field; 2] {
     let Parts { count, elapsed, .. } = look.parts;
     let (text, columns) = match look.unit {
@@ -126,8 +126,8 @@ fn first_fields(look: &Look<'_>) -> [Field; 2] {
     ]
 }
 
-/// The others: how fast lately and on the whole, and where there is a length how far it is and when it will be over. Where lines are
-/// counted both rates are the prefix, which has no decimals.
+/// The others: the rate of the last seconds and the mean, and with a length the progress and the time left. If lines are counted both rates
+/// are the prefix, which has no decimals.
 fn other_fields(look: &Look<'_>, has_size: bool) -> [Field; 4] {
     let Parts {
         rate,
@@ -161,8 +161,7 @@ fn other_fields(look: &Look<'_>, has_size: bool) -> [Field; 4] {
     ]
 }
 
-/// The template of a bar of this length or of none: the name, and the parts that are asked for. In one row that is short, those that it
-/// has room for.
+/// The template of a bar with this length or none: the name, and the requested parts. In one row that is short, those that fit.
 fn push_template(
     alloc: Global,
     text: &mut String,
@@ -189,7 +188,7 @@ fn push_template(
     )
 }
 
-/// These parts, as far as there is room, each behind a parting where something stands before it.
+/// Appends these parts, as far as they fit, each after a separator if something stands before it.
 fn push_fields(
     text: &mut String,
     fields: &[Field],

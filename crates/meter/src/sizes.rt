@@ -4,8 +4,8 @@ use std::io::{Read, Seek, SeekFrom};
 use std::os::unix::fs::FileTypeExt;
 use std::rt::Files;
 
-/// How many bytes these inputs have together, standard input where there is none; `None` where one doesn't tell. A file tells, and a block
-/// device. One that says that it is empty, as those of /proc do, is read: it tells where nothing comes of it.
+/// How many bytes these inputs have together, standard input if there are none; `None` if one of them is unknown. A file and a block device
+/// have a size. One that claims to be empty, as those of /proc do, is read: it counts if nothing comes of it.
 pub fn size_of_all<R: Files>(rt: &R, files: &[&str]) -> Option<u64> {
     if files.is_empty() {
         return size_of(rt, "-");
@@ -17,7 +17,7 @@ pub fn size_of_all<R: Files>(rt: &R, files: &[&str]) -> Option<u64> {
     Some(sum)
 }
 
-/// How many bytes the file of this name has.
+/// How many bytes the file with this name has.
 fn size_of<R: Files>(rt: &R, name: &str) -> Option<u64> {
     let path = if name == "-" { "/dev/stdin" } else { name };
     let Ok(told) = fs::metadata(rt, path) else {
@@ -32,7 +32,7 @@ fn size_of<R: Files>(rt: &R, name: &str) -> Option<u64> {
     }
 }
 
-/// Whether nothing can be read of the file at this path.
+/// Whether nothing can be read from the file at this path.
 fn is_empty<R: Files>(rt: &R, path: &str) -> bool {
     let mut byte = [0u8; 1];
     match File::open(rt, path) {

@@ -1,4 +1,4 @@
-//! What the bar is told each interval beside the count: how fast it went lately, when it will be over.
+//! What the bar shows each interval besides the count: the recent rate, and when it will be over.
 use crate::arguments::{Asked, Begins, Look, Timing, Unit};
 use crate::shown::Bar;
 use indicatif::machine::MachineClock;
@@ -15,7 +15,7 @@ use std::sync::Wait;
 use std::time::{Clock, Duration};
 use std::{fs, thread};
 
-/// How often a thread looks whether the bar is finished.
+/// How often a thread checks whether the bar is finished.
 const SLICE: u64 = 5_000_000;
 
 /// A second.
@@ -29,11 +29,11 @@ const ZONES: &str = "/usr/share/zoneinfo";
 pub struct Known {
     /// How much will come, if it is known.
     pub size: Option<u64>,
-    /// What parts two numbers.
+    /// The separator of two numbers.
     pub parting: &'static str,
 }
 
-/// Tells the bar of its rate and its end each interval, until it is finished. Once a second its rows are written anew.
+/// Updates the bar's rate and its end each interval, until it is finished. Once a second its rows are written again.
 pub fn tell_until_finished<R: AllocGlobal + Env + Files + Wait + Clock + Copy + Drop>(
     rt: &R,
     bar: &Bar<R>,
@@ -73,7 +73,7 @@ fn done_by<R: Wait + Clock + Copy + Drop>(bar: &Bar<R>, moment: u64) -> Sample {
     }
 }
 
-/// What tells a bar.
+/// Updates a bar.
 #[derive(Drop)]
 struct Teller<'a, R: Wait + Clock + Copy + Drop> {
     rt: &'a R,
@@ -107,8 +107,8 @@ impl<R: AllocGlobal + Wait + Clock + Copy + Drop> Teller<'_, R> {
         matches!(self.timing.begins, Begins::WithFirstByte) && now.steps == 0
     }
 
-    /// Writes the bar's rows anew, where that was last done a second ago; when it was last done then. Any other drawing writes only what changed
-    /// of them, so what another program wrote in between would stand in the rest.
+    /// Writes the bar's rows again, if that was last done a second ago; returns when it was last done. Any other draw writes only what
+    /// changed, so text that another program wrote in between would stay.
     fn write_anew(&self, last: u64, now: u64) -> u64 {
         if now.saturating_sub(last) < SECOND {
             return last;
@@ -117,7 +117,7 @@ impl<R: AllocGlobal + Wait + Clock + Copy + Drop> Teller<'_, R> {
         now
     }
 
-    /// Tells the bar: its prefix is the rate, its message the time that is left and the time of day of the end.
+    /// Updates the bar: its prefix is the rate, its message the time left and the time of day of the end.
     fn tell(&self, lately: LastSeconds, now: Sample) -> Result<(), Refusal> {
         let mut text = String::new(self.rt.alloc());
         let rate = lately.rate(now);
@@ -131,7 +131,7 @@ impl<R: AllocGlobal + Wait + Clock + Copy + Drop> Teller<'_, R> {
         Ok(())
     }
 
-    /// The rate; of lines also that on the whole, which a template would show with decimals.
+    /// Appends the rate; for lines also the mean rate, which a template would show with decimals.
     fn push_rates(&self, text: &mut String, rate: u64, count: u64) -> Result<(), Refusal> {
         let is_own = self.look.format.is_none();
         let parts = self.look.parts;
@@ -150,7 +150,7 @@ impl<R: AllocGlobal + Wait + Clock + Copy + Drop> Teller<'_, R> {
         Ok(())
     }
 
-    /// How many a second went since the start, parted from the rate.
+    /// Appends the mean rate since the start, separated from the rate.
     fn push_mean(&self, text: &mut String, count: u64) -> Result<(), Refusal> {
         let nanos = self.bar.elapsed();
         let mean = Rate {
@@ -167,7 +167,7 @@ impl<R: AllocGlobal + Wait + Clock + Copy + Drop> Teller<'_, R> {
     }
 }
 
-/// The nanoseconds for so many more at this rate; none where it is none.
+/// The nanoseconds for the rest at this rate; none if the rate is 0.
 fn time_left(rate: Rate, left: u64) -> Option<u64> {
     match rate.steps {
         0 => None,
@@ -175,7 +175,7 @@ fn time_left(rate: Rate, left: u64) -> Option<u64> {
     }
 }
 
-/// The time that is left and the time of day of the end; `stalled` where there is no rate.
+/// The time left and the time of day of the end; `stalled` if there is no rate.
 fn left_text<R: AllocGlobal + Clock>(
     rt: &R,
     left: Option<u64>,
@@ -194,7 +194,7 @@ fn left_text<R: AllocGlobal + Clock>(
     Ok(text)
 }
 
-/// Tells a finished bar the time of day.
+/// Gives a finished bar the time of day.
 pub fn tell_end<R: AllocGlobal + Env + Files + Wait + Clock + Copy + Drop>(
     rt: &R,
     bar: &Bar<R>,
@@ -203,7 +203,7 @@ pub fn tell_end<R: AllocGlobal + Env + Files + Wait + Clock + Copy + Drop>(
     bar.set_message(time.as_str())
 }
 
-/// The seconds of today, and of the days before it, where the zone is so many seconds ahead.
+/// The seconds of today, and of the days before it, if the zone is `zone` seconds ahead.
 fn day_seconds<R: Clock>(rt: &R, zone: u64) -> u64 {
     match rt.since_1970() {
         Ok(time) => time.as_secs().saturating_add(zone),
@@ -211,7 +211,7 @@ fn day_seconds<R: Clock>(rt: &R, zone: u64) -> u64 {
     }
 }
 
-/// How many seconds the system's time zone is ahead of UTC now, modulo a day; 0 where it isn't known.
+/// How many seconds the system's time zone is ahead of UTC now, modulo a day; 0 if it isn't known.
 fn zone_seconds<R: AllocGlobal + Env + Files + Clock>(rt: &R) -> u64 {
     zone_now(rt)
         .unwrap_or(0)
@@ -220,7 +220,7 @@ fn zone_seconds<R: AllocGlobal + Env + Files + Clock>(rt: &R) -> u64 {
         .into()
 }
 
-/// The same in the zone's own sign, where it is known.
+/// How many seconds the system's time zone is ahead of UTC now, negative if it is behind, if it is known.
 fn zone_now<R: AllocGlobal + Env + Files + Clock>(rt: &R) -> Option<i32> {
     let Ok(time) = rt.since_1970() else {
         return None;
@@ -233,7 +233,7 @@ fn zone_now<R: AllocGlobal + Env + Files + Clock>(rt: &R) -> Option<i32> {
     }
 }
 
-/// The zone whose name `TZ` says, as a database; an empty one where the system has no such zone.
+/// The zone named by `TZ`, as a database; an empty one if the system has no such zone.
 fn named_zone<R: AllocGlobal + Env + Files>(rt: &R) -> TimeZoneDatabase {
     let mut zones = TimeZoneDatabase::new(rt.alloc());
     let Ok(said) = env::var(rt, "TZ") else {
@@ -248,7 +248,7 @@ fn named_zone<R: AllocGlobal + Env + Files>(rt: &R) -> TimeZoneDatabase {
     zones
 }
 
-/// How many seconds a zone is ahead of UTC at this moment, where it is known.
+/// How many seconds a zone is ahead of UTC at this moment, if it is known.
 fn seconds_in(zone: &SystemTimeZone, zones: &TimeZoneDatabase, now: Timestamp) -> Option<i32> {
     match zone.time_zone(zones) {
         Ok(told) => Some(told.to_offset(now).seconds),

@@ -1,9 +1,9 @@
 //! The parts of the pipe viewer `meter`, except for its options and its bar.
 //!
-//! - `passing`: bytes handed on from a reader to a writer (`pass_on`, `Gauge`).
+//! - `passing`: bytes passed on from a reader to a writer (`pass_on`, `Gauge`).
 //! - `plain`: a text that a terminal can't take for a command (`plain_text`).
-//! - `pace`: how fast bytes may go (`Pace`).
-//! - `said`: numbers that options say, and texts that are shown.
+//! - `pace`: how fast bytes may be sent (`Pace`).
+//! - `said`: numbers in options, and texts that are shown.
 #![tactic(auto)]
 
 mod pace;

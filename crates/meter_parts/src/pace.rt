@@ -1,8 +1,8 @@
-//! How fast bytes may go.
+//! How fast bytes may be sent.
 ghost use Rattle.std.specs.Prelude.{◌≡◌, ◌<◌, ◌≤◌, ◌-◌, min, max, nat_le};
 ghost use Rattle.meter_parts.specs.Pace.{piece_of, due_after};
 
-/// Bytes at a rate: what went is due at some moment, and no more goes before. After a pause at most a tenth of a second is made up
+/// Bytes at a rate: what was sent is due at some moment, and no more is sent before. After a pause at most a tenth of a second is made up
 /// for. Moments are nanoseconds.
 ///
 /// ```
@@ -20,7 +20,7 @@ pub struct Pace {
 const CREDIT: u64 = 100_000_000;
 
 impl Pace {
-    /// So many bytes a second.
+    /// A pace of `rate` bytes a second.
     pub fn new(rate: u64) -> Pace
         requires { 0 < rate }
         ensures { (result.rate ≡ rate) × (result.due ≡ 0) }
@@ -28,7 +28,7 @@ impl Pace {
         Pace { rate, due: 0 }
     }
 
-    /// How many of the bytes that are wanted go at once: what a twentieth of a second allows, and at least one.
+    /// How many of the wanted bytes may be sent at once: what a twentieth of a second allows, and at least one.
     pub fn piece(&self, wanted: usize) -> usize
         ensures { result ≡ piece_of self.now.rate wanted }
     {
@@ -38,14 +38,14 @@ impl Pace {
         }
     }
 
-    /// How many nanoseconds it is until more may go.
+    /// How many nanoseconds to wait until more may be sent.
     pub fn wait(&self, now: u64) -> u64
         ensures { result ≡ self.now.due - now }
     {
         self.due.saturating_sub(now)
     }
 
-    /// So many bytes went.
+    /// Notes that `count` bytes were sent.
     pub fn went(&mut self, count: usize, now: u64)
         ensures { (self.new.rate ≡ self.old.rate) × (self.new.due ≡ due_after self.old.rate self.old.due count now) }
     {

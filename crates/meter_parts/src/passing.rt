@@ -1,4 +1,4 @@
-//! Bytes handed on.
+//! Bytes passed on.
 ghost use Rattle.std.specs.Prelude.{◌≡◌, ◌<◌, ◌≤◌, length, IfOk, IfErr};
 ghost use Rattle.std.specs.Io.KnownBytes.{WriteAppends};
 ghost use Rattle.indicatif_term.specs.Writers.{AppendsAllOrFront};
@@ -7,7 +7,7 @@ ghost use Rattle.meter_parts.specs.Inside.Reads.{PassedSome};
 
 use std::io::{Error, ErrorKind, Read, Result as IoResult, Write};
 
-/// Where bytes that were handed on broke off.
+/// Which end failed.
 #[derive(Clone, Copy, Drop)]
 pub enum Broken {
     /// The input failed.
@@ -16,23 +16,23 @@ pub enum Broken {
     Output(Error),
 }
 
-/// What is told of the bytes as they go on, and holds them up. Nothing that it does changes a byte.
+/// Gets the bytes as they are passed on, and may delay them. It can't change a byte.
 pub trait Gauge {
-    /// How many of these bytes are to go at once. It may wait first. Of 0 one goes all the same.
+    /// How many of these bytes to send at once. It may wait first. 0 counts as 1.
     fn piece(&mut self, bytes: &[u8]) -> usize;
 
-    /// These bytes went.
+    /// These bytes were sent.
     fn went(&mut self, bytes: &[u8]);
 
-    /// The input has nothing yet, or the output takes nothing: it waits a little.
+    /// The input has nothing yet, or the output takes nothing: wait a little.
     fn rest(&mut self);
 }
 
-/// Hands all bytes of the input on to the output, unchanged and in their order, through a buffer. A call that is interrupted is made
-/// again, and so is one that would block, after a rest.
+/// Passes all bytes of the input on to the output, unchanged and in order, through a buffer. A call that is interrupted is repeated, and so
+/// is one that would block, after a rest.
 ///
-/// Broken off: where the input fails, after all that came went to the output; or where the output fails or takes no more. Through an
-/// empty buffer nothing is read, and the answer is `Input` with `InvalidInput`.
+/// Fails: if the input fails, after everything that was read was sent; or if the output fails or takes no more. With an empty buffer
+/// nothing is read, and the error is `Input` with `InvalidInput`.
 pub fn pass_on<R: Read, W: Write, G: Gauge>(
     input: &mut R,
     output: &mut W,
@@ -55,7 +55,7 @@ pub fn pass_on<R: Read, W: Write, G: Gauge>(
     Err(Broken::Output(Error::from(ErrorKind::TimedOut)))
 }
 
-/// Hands on what one read gives; whether the input is at its end.
+/// Passes on the bytes of one read; whether the input is at its end.
 fn pass_some<R: Read, W: Write, G: Gauge>(
     input: &mut R,
     output: &mut W,
@@ -84,7 +84,7 @@ fn pass_some<R: Read, W: Write, G: Gauge>(
     }
 }
 
-/// Writes all of these bytes, piece by piece, or a beginning of them where the output fails or takes no more.
+/// Writes all of these bytes, piece by piece, or a prefix of them if the output fails or takes no more.
 fn write_all<W: Write, G: Gauge>(output: &mut W, gauge: &mut G, bytes: &[u8]) -> IoResult<()>
     ensures went { AppendsAllOrFront (W.contents output.old) (W.contents output.new) bytes.now result }
     ensures ends { IfErr result (λ error. IsFinal error) }
@@ -102,7 +102,7 @@ fn write_all<W: Write, G: Gauge>(output: &mut W, gauge: &mut G, bytes: &[u8]) ->
     Err(Error::from(ErrorKind::TimedOut))
 }
 
-/// Writes a piece of these bytes; how many of them went, 0 where the call is to be made again.
+/// Writes a piece of these bytes, and returns how many were sent; 0 if the call has to be repeated.
 fn write_some<W: Write, G: Gauge>(output: &mut W, gauge: &mut G, bytes: &[u8]) -> IoResult<usize>
     requires { 0 < length bytes.now }
     ensures bound { IfOk result (λ n. n ≤ length bytes.now) }

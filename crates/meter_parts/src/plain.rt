@@ -6,15 +6,15 @@ ghost use Rattle.meter_parts.specs.Plain.{plain_char, plain_text};
 use std::alloc::{AllocError, Global};
 use unicode_width::UnicodeWidthChar;
 
-/// The character, or U+FFFD in the place of one without a width: a control character, as ESC, a tab or a line end.
+/// The character, or U+FFFD for one without a width: a control character, such as ESC, a tab or a line end.
 fn plain_char(c: char) -> char
     ensures { result ≡ plain_char c }
 {
     if c.width().is_some() { c } else { '\u{FFFD}' }
 }
 
-/// The text with U+FFFD for each control character, so that no escape sequence is left of it: what a bar shows of a text from
-/// outside, as a file's name. It has as many characters as the text.
+/// The text with U+FFFD for each control character, so that no escape sequence is left in it: for a text from outside that a bar shows,
+/// such as a file's name. It has as many characters as the text.
 ///
 /// ```
 /// assert_eq!(plain_text(alloc, "a\u{1b}[2Jb")?.as_str(), "a\u{fffd}[2Jb");
@@ -28,7 +28,7 @@ pub fn plain_text(alloc: Global, text: &str) -> Result<String, AllocError>
     text.chars().map(plain_char).collect(alloc)
 }
 
-/// As many characters from the front of a text as have at most so many columns together. The text is to be plain.
+/// The longest prefix of a plain text that takes at most `room` columns.
 ///
 /// ```
 /// assert_eq!(cut(alloc, "ab国", 3)?.as_str(), "ab");

@@ -1,12 +1,12 @@
-//! Numbers that options say, and texts that are shown.
+//! Numbers in options, and texts that are shown.
 ghost use Rattle.std.specs.Prelude.{◌<◌, IfSome};
 
 use indicatif_term::term_like::OwnRow;
 use std::fmt::{self, Display, Formatter};
 use std::time::Duration;
 
-/// The number of bytes that a text says: digits, and behind them a letter of `KMGTPE` for a power of 1024, as `10M` and `10MiB`,
-/// or of 1000 with `B`, as `10MB`. So it is with `head -c` and `dd`. None where it is no such text, or 2^64 and more.
+/// The number of bytes of a text: digits, followed by a letter of `KMGTPE` for a power of 1024, as in `10M` and `10MiB`, or of 1000 with
+/// `B`, as in `10MB`. This is as for `head -c` and `dd`. None for any other text, or for 2^64 and more.
 pub fn bytes_said(text: &str) -> Option<u64> {
     let unit = text.trim_start_matches(|c: char| c.is_ascii_digit());
     let number: u64 = text.strip_suffix(unit)?.parse().ok()?;
@@ -27,7 +27,7 @@ fn bytes_of_unit(unit: &str) -> Option<u64> {
     }
 }
 
-/// The power that a letter stands for.
+/// The power of a letter.
 fn power_of(letter: char) -> Option<u32> {
     match letter {
         'K' | 'k' => Some(1),
@@ -40,7 +40,7 @@ fn power_of(letter: char) -> Option<u32> {
     }
 }
 
-/// The nanoseconds that a number of seconds says, as `2` or `0.5`: at least one, and below 2^64. None where it says no such number.
+/// The nanoseconds of a text in seconds, such as `2` or `0.5`: at least one, and below 2^64. None for any other text.
 pub fn nanos_said(text: &str) -> Option<u64>
     ensures { IfSome result (λ nanos. 0 < nanos) }
 {
@@ -52,7 +52,7 @@ pub fn nanos_said(text: &str) -> Option<u64>
     }
 }
 
-/// The row that a text says: `2/3` is the second of three.
+/// The row of a text: `2/3` is the second of three.
 pub fn row_said(text: &str) -> Option<OwnRow> {
     let (number, of) = text.split_once('/')?;
     OwnRow::new(number.parse().ok()?, of.parse().ok()?)
@@ -63,7 +63,7 @@ pub fn lines_in(bytes: &[u8], end: u8) -> u64 {
     bytes.iter().filter(|byte| **byte == end).count() as u64
 }
 
-/// How many bytes so many lines have at the front of these, all of them where fewer end there.
+/// How many bytes the first `lines` lines have, all of them if fewer lines end there.
 pub fn bytes_of_lines(bytes: &[u8], end: u8, lines: usize) -> usize {
     let mut left = lines;
     for (at, byte) in bytes.iter().enumerate() {
@@ -77,7 +77,7 @@ pub fn bytes_of_lines(bytes: &[u8], end: u8, lines: usize) -> usize {
     bytes.len()
 }
 
-/// A time of day, from its seconds: `14:05:09`. The options of a hole, as a width, are ignored.
+/// A time of day, from its seconds: `14:05:09`. Format options, such as a width, are ignored.
 #[derive(Clone, Copy, Drop)]
 pub struct TimeOfDay(pub u64);
 

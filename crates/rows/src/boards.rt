@@ -23,7 +23,8 @@ pub struct OnScreen {
     screen: Rc<Screen>,
 }
 
-/// `board ROWS COLS RATE`: a board on a new screen. A rate of 0 is none. `board hidden`: on none. Behind it `bottom`.
+/// `board ROWS COLS RATE`: a board on a new screen. A rate of 0 means no limit. `board hidden`: a hidden one. With `bottom` at the end bars
+/// stand at the bottom.
 pub fn begin(rest: &str, at: At) -> Result<Box<OnScreen>, Bad> {
     let mut words = Words::of(rest);
     let (screen, target) = screen::begin(&mut words, at)?;
@@ -37,7 +38,7 @@ pub fn begin(rest: &str, at: At) -> Result<Box<OnScreen>, Bad> {
 }
 
 impl OnScreen {
-    /// Makes a step, or looks at the screen, the board or a bar.
+    /// Makes a step, or reads the screen, the board or a bar.
     pub fn step(&mut self, step: &str, at: At, got: &mut Got) {
         if screen::look_at(&self.screen, step, at, got) || look(&self.board, step, got) {
             return;
@@ -61,7 +62,7 @@ impl OnScreen {
         }
     }
 
-    /// `target ROWS COLS RATE`: goes on on a new screen, and tells what stands on the old one.
+    /// `target ROWS COLS RATE`: sets a target on a new screen, and gives the rows on the old one.
     fn go_on(&mut self, rest: &str, at: At, got: &mut Got) {
         match screen::begin(&mut Words::of(rest), at) {
             Ok((screen, target)) => {
@@ -84,8 +85,7 @@ impl OnScreen {
         }
     }
 
-    /// `suspend TEXT`: what the board answers that is suspended, and what stands on the screen when the closure runs, which then puts this
-    /// text there.
+    /// `suspend TEXT`: the answer of a suspend, and the rows on the screen while the closure runs, which then puts this text there.
     fn suspend(&mut self, text: &str, at: At, got: &mut Got) {
         match suspended(&mut self.board, &self.screen, (text, at)) {
             Ok(((look, fed), answer)) => {
@@ -99,7 +99,7 @@ impl OnScreen {
     }
 }
 
-/// What stood on the screen, what came of putting a text there, and what the board answers.
+/// The rows on the screen, the result of putting a text there, and the board's answer.
 type Suspended = ((Look, io::Result<()>), Result<Drawn, Refusal>);
 
 fn suspended(
@@ -114,7 +114,7 @@ fn suspended(
     }))
 }
 
-/// Reads something of the board; whether the step asks for that.
+/// Reads the board; whether the step is a reading.
 fn look(board: &Shown, step: &str, got: &mut Got) -> bool {
     match headed(step) {
         ("order", "") => got.numbers(board.order()),
@@ -180,8 +180,8 @@ fn of_all(board: &mut Shown, step: &str, at: At, got: &mut Got) {
     }
 }
 
-/// Takes in a bar, and appends its number; or why it wasn't taken in, and what came back: a new bar by its message, behind `'`, or the
-/// number of one that may be there, behind `=`, and behind `x` where it is of another board.
+/// Inserts a bar, and appends its number; or why it wasn't inserted, and what came back: a new bar by its message, after `'`, or the number
+/// of one that may be there, after `=`, with `x` before it for a bar of another board.
 fn take_in(
     board: &mut Shown,
     place: InsertLocation,

@@ -1,4 +1,4 @@
-//! The cell terminal, fed with bytes.
+//! The cell terminal, and its bytes.
 use indicatif_term::in_memory::Cells;
 use indicatif_text::columns::Refusal;
 use scripts::got::{Bad, Got};
@@ -20,7 +20,7 @@ pub fn begin(rest: &str, at: At) -> Result<Fed, Bad> {
 }
 
 impl Fed {
-    /// `feed BYTES`, `size ROWS COLS`, or what is read: `contents`, `picture`, `cursor`, `reading`.
+    /// `feed BYTES`, `size ROWS COLS`, or a reading: `contents`, `picture`, `cursor`, `reading`.
     pub fn step(&mut self, step: &str, at: At, got: &mut Got) {
         match (step, step.split_once(' ')) {
             ("reading", _) => push_reading(&self.cells, got),
@@ -43,7 +43,7 @@ impl Fed {
 /// Rows and columns.
 pub type Size = (u16, u16);
 
-/// The size that the next words spell.
+/// The size of the next words.
 pub fn next_size(words: &mut Words<'_>) -> Result<Size, Bad> {
     let size = (words.number(), words.number());
     words.done(size)
@@ -67,8 +67,8 @@ pub fn push_cursor(cursor: (u16, u16), got: &mut Got) {
     got.number(cursor.1);
 }
 
-/// Appends the picture without the empty rows at its end, the contents and the cursor, a tab between two, of `fed ROWS COLS BYTES`: fed
-/// byte by byte, and in two parts cut at each byte. Where a cut gives something else, it follows.
+/// Appends the picture without the empty rows at its end, the contents and the cursor, separated by tabs, of `fed ROWS COLS BYTES`: fed
+/// byte by byte, and in two parts cut at each byte. If a cut gives something else, it follows.
 pub fn shown(rest: &str, at: At, got: &mut Got) {
     let mut words = Words::of(rest);
     match (
@@ -91,7 +91,7 @@ fn push_all(size: Size, bytes: &[u8], at: At, got: &mut Got) {
     push_cuts(size, bytes, (reading.as_str(), at), got);
 }
 
-/// Appends what is shown where the bytes are cut in two, for the first cut that shows something else.
+/// Appends the result of the first cut of the bytes in two that gives something else.
 fn push_cuts(size: Size, bytes: &[u8], (wanted, at): (&str, At), got: &mut Got) {
     let mut reading = Got::new(at.alloc);
     for cut in 0..bytes.len() {
@@ -103,7 +103,7 @@ fn push_cuts(size: Size, bytes: &[u8], (wanted, at): (&str, At), got: &mut Got) 
     }
 }
 
-/// Appends what a terminal shows that was fed with bytes: with two parts of them, or one by one.
+/// Appends what a terminal shows after bytes: in two parts, or one by one.
 fn push_fed(size: Size, bytes: &[u8], (cut, at): (Option<usize>, At), got: &mut Got) {
     match terminal(size, at) {
         Ok(mut cells) => match feed_parts(&mut cells, bytes, cut) {
@@ -130,7 +130,7 @@ fn feed_parts(cells: &mut Cells, bytes: &[u8], cut: Option<usize>) -> Result<(),
     }
 }
 
-/// Appends the picture without the empty rows at its end, the contents and the cursor, a tab between two.
+/// Appends the picture without the empty rows at its end, the contents and the cursor, separated by tabs.
 fn push_reading(cells: &Cells, got: &mut Got) {
     push_filled(cells.picture(), got);
     got.text("\t");

@@ -7,14 +7,14 @@ use scripts::got::{Bad, Got};
 use scripts::row::{At, Words};
 use scripts::spelling::unescaped;
 
-/// Appends what is asked of a text, or what a clock tells.
+/// Appends a reading of a text, or of a clock.
 ///
 /// - `columns TEXT`; `width C`; `parameter C`: whether it is one of a colour.
 /// - `wrapped WIDTH TEXT`: its rows, and the columns of the last one.
-/// - `range START END TEXT`: what stands in these columns.
-/// - `pieces TEXT`: colours in brackets, what stands between them in braces; `plain TEXT`: what stands between them.
-/// - `cut COLUMNS TEXT`: its front, as `meter` cuts a name; `made_plain TEXT`: without control characters, as `meter` makes it.
-/// - `clock NEXT STEP COUNT`: so many readings.
+/// - `range START END TEXT`: the part in these columns.
+/// - `pieces TEXT`: colours in brackets, the runs between them in braces; `plain TEXT`: the runs.
+/// - `cut COLUMNS TEXT`: its prefix, as `meter` cuts a name; `made_plain TEXT`: without control characters, as `meter` makes it.
+/// - `clock NEXT STEP COUNT`: the given number of readings.
 pub fn measured(name: &str, rest: &str, at: At, got: &mut Got) {
     match name {
         "wrapped" => push_wrapped(rest, at, got),
@@ -83,7 +83,7 @@ fn push_range(rest: &str, at: At, got: &mut Got) {
     }
 }
 
-/// Appends the front of a text that has at most so many columns.
+/// Appends the prefix of a text that takes at most the given number of columns.
 fn push_cut(rest: &str, at: At, got: &mut Got) {
     let mut words = Words::of(rest);
     let room: usize = words.number();

@@ -33,7 +33,7 @@ pub fn begin(rest: &str, at: At) -> Result<Box<Drawing>, Bad> {
 }
 
 impl Drawing {
-    /// `draw FRAME`; `pass N FRAME`, of which the first N bars pass; `log TEXT` and, behind a tab each, the frame's bars; `keep BAR`;
+    /// `draw FRAME`; `pass N FRAME`, of which the first N bars are dropped; `log TEXT` and, each after a tab, the frame's bars; `keep BAR`;
     /// `clear`; `move yes` or `move no`; `size ROWS COLS`, also of the screen; `faults`; or a look at the screen.
     pub fn step(&mut self, step: &str, at: At, got: &mut Got) {
         if screen::look_at(&self.screen, step, at, got) {
@@ -97,7 +97,7 @@ impl Drawing {
     }
 }
 
-/// The frame of bars, a tab between two: `NUMBER LINES`.
+/// The frame of bars, separated by tabs: `NUMBER LINES`.
 fn frame(bars: &str, at: At) -> Result<Vec<Segment>, Bad> {
     let mut frame = Vec::new(at.alloc);
     if bars.is_empty() {
@@ -116,7 +116,7 @@ fn push_bars(frame: &mut Vec<Segment>, bars: &str, at: At) -> Result<(), Bad> {
     Ok(())
 }
 
-/// The lines of a bar, `|` between two: an empty one, `~` and a text, or a bar.
+/// The lines of a bar, separated by `|`: an empty one, `~` and a text, or a bar.
 fn segment(bar: &str, at: At) -> Result<Segment, Bad> {
     let mut words = Words::of(bar);
     let bar = words.number();
@@ -143,7 +143,7 @@ fn line_of(line: &str, at: At) -> Result<LineType, Bad> {
     }
 }
 
-/// Appends whether the text of a line is this: `is_text LINE`, a tab, and a text.
+/// Appends whether this is the text of a line: `is_text LINE`, a tab, and a text.
 pub fn is_text(rest: &str, at: At, got: &mut Got) {
     let Some((line, text)) = rest.split_once('\t') else {
         return got.bad(Bad::Step);

@@ -7,8 +7,8 @@ use scripts::got::{Bad, Got};
 use scripts::row::headed;
 use scripts::spelling::number;
 
-/// Appends what a formatter shows: `HumanBytes N`, and so on. `HumanDurationShort` is by `write_short`. A quotient is
-/// `HumanFloatCount NUM/DEN`, and by `with_decimals` `HumanFloatCount:N NUM/DEN`; `-` where there is none.
+/// Appends the text of a formatter: `HumanBytes N`, and so on. `HumanDurationShort` is by `write_short`. A quotient is `HumanFloatCount
+/// NUM/DEN`, and by `with_decimals` `HumanFloatCount:N NUM/DEN`; `-` if there is none.
 pub fn shown(rest: &str, got: &mut Got) {
     let (formatter, value) = headed(rest);
     match (formatter.strip_prefix("HumanFloatCount"), number(value)) {

@@ -1,11 +1,11 @@
-//! What a limiter answers.
+//! The answers of a limiter.
 use indicatif_term::draw_target::RateLimiter;
 use indicatif_text::columns::Moment;
 use scripts::got::{Bad, Got};
 use scripts::row::Words;
 use scripts::spelling::number;
 
-/// Appends what a limiter answers at each moment, one after another, 1 where it allows: `limiter RATE MAKING MOMENT ..`.
+/// Appends the answers of a limiter at these moments, one after another, 1 if it allows a draw: `limiter RATE MAKING MOMENT ..`.
 pub fn answers(rest: &str, got: &mut Got) {
     let mut words = Words::of(rest);
     let (rate, making): (u8, Moment) = (words.number(), words.number());

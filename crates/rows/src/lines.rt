@@ -1,4 +1,4 @@
-//! The lines of bars, a bar a row.
+//! The lines of bars, one bar a row.
 use crate::styles::{Look, in_style, with_colours, with_text};
 use indicatif_text::columns::Moment;
 use scripts::got::{Bad, Got};
@@ -6,7 +6,7 @@ use scripts::lone::{Bar, push_lines, style_of};
 use scripts::row::{At, Words, headed};
 use scripts::spelling::{number, optional, unescaped};
 
-/// A bar that is made at 0: how it looks, what it has reached and says, and where it is shown. Its texts have escapes.
+/// A bar made at 0: its style, its progress and texts, and the columns. Its texts have escapes.
 #[derive(Drop)]
 struct Layout<'a> {
     columns: u16,
@@ -19,18 +19,17 @@ struct Layout<'a> {
     len: Option<u64>,
     message: &'a str,
     prefix: &'a str,
-    /// It ticks at this moment, where there is one, before it is shown, and is finished then or not.
+    /// It ticks at this moment, if there is one, before it is shown, and is then finished or not.
     last: Option<(Moment, bool)>,
 }
 
-/// Appends the lines, each with a newline behind it. Between two of what follows stands a tab, but for the first and what belongs
-/// together.
+/// Appends the lines, each followed by a newline. The fields are separated by tabs, except the first and those that belong together.
 ///
 /// - `said COLS TEMPLATE  MESSAGE`: of a bar without a length.
 /// - `placed COLS TEMPLATE  CHARS  POS LEN`, with `-` for the characters of a new style and for no length.
 /// - `coloured`, before one of these: with colours.
-/// - `laid COLS  TEMPLATE  CHARS  COLOURS  TAB  POS  LEN  MESSAGE  PREFIX  NOW  FINISHED`: it ticks at the moment `NOW`. What is 1 is so,
-///   and what is 0 isn't.
+/// - `laid COLS  TEMPLATE  CHARS  COLOURS  TAB  POS  LEN  MESSAGE  PREFIX  NOW  FINISHED`: it ticks at the moment `NOW`. Flags are 1 for
+///   yes and 0 for no.
 pub fn shown(name: &str, rest: &str, at: At, got: &mut Got) {
     let layout = match name {
         "coloured" => brief(headed(rest), true),
@@ -43,7 +42,7 @@ pub fn shown(name: &str, rest: &str, at: At, got: &mut Got) {
     }
 }
 
-/// A bar of which a row says the most needed.
+/// A bar with the most common fields.
 fn brief<'a>((name, rest): (&str, &'a str), colours: bool) -> Result<Layout<'a>, Bad> {
     let (columns, rest) = headed(rest);
     let mut fields = Words::in_fields(rest);
@@ -72,7 +71,7 @@ fn brief<'a>((name, rest): (&str, &'a str), colours: bool) -> Result<Layout<'a>,
     fields.done(layout)
 }
 
-/// A bar of which a row says all.
+/// A bar with all fields.
 fn whole(rest: &str) -> Result<Layout<'_>, Bad> {
     let mut fields = Words::in_fields(rest);
     let layout = Layout {

@@ -16,7 +16,7 @@ use std::rc::Rc;
 
 type Lone = LoneBar<NoTracker, Behind>;
 
-/// What a call answers.
+/// The answer of a call.
 type Answer = Result<Drawn, Refusal>;
 
 /// A bar on a screen.
@@ -26,7 +26,7 @@ pub struct OnScreen {
     screen: Rc<Screen>,
 }
 
-/// `lone ROWS COLS RATE LEN BAR`: a bar on a new screen. A rate of 0 is none. `lone hidden LEN BAR`: on none.
+/// `lone ROWS COLS RATE LEN BAR`: a bar on a new screen. A rate of 0 means no limit. `lone hidden LEN BAR`: a hidden one.
 pub fn begin(rest: &str, at: At) -> Result<Box<OnScreen>, Bad> {
     let mut words = Words::of(rest);
     let (screen, target) = screen::begin(&mut words, at)?;
@@ -50,7 +50,7 @@ fn on_screen(
 }
 
 impl OnScreen {
-    /// Makes a step, or looks at the screen or the bar.
+    /// Makes a step, or reads the screen or the bar.
     pub fn step(&mut self, step: &str, at: At, got: &mut Got) {
         if screen::look_at(&self.screen, step, at, got) || self.look(step, at, got) {
             return;
@@ -71,7 +71,7 @@ impl OnScreen {
         }
     }
 
-    /// Reads something of the bar; whether the step asks for that.
+    /// Reads the bar; whether the step is a reading.
     fn look(&self, step: &str, at: At, got: &mut Got) -> bool {
         match (step, self.bar.term()) {
             ("hidden", _) => got.flag(self.bar.is_hidden()),
@@ -82,7 +82,7 @@ impl OnScreen {
         true
     }
 
-    /// `target ROWS COLS RATE`: goes on on a new screen, and tells what stands on the old one.
+    /// `target ROWS COLS RATE`: sets a target on a new screen, and gives the rows on the old one.
     fn go_on(&mut self, rest: &str, at: At, got: &mut Got) {
         match screen::begin(&mut Words::of(rest), at) {
             Ok((screen, target)) => {
@@ -105,7 +105,7 @@ impl OnScreen {
         }
     }
 
-    /// The answer, and what stands on the screen when the closure runs, or of `suspend_bytes` how many bytes were taken by then.
+    /// The answer, and the rows on the screen while the closure runs, or for `suspend_bytes` how many bytes were taken by then.
     fn suspend(&mut self, step: &str, now: Moment, got: &mut Got) {
         let screen = &self.screen;
         let (look, answer) = self.bar.suspend(now, || screen.look());
@@ -127,7 +127,7 @@ impl OnScreen {
     }
 }
 
-/// What the bar answers to the call that a step spells.
+/// The answer of the bar to the call of a step.
 fn answer(bar: &mut Lone, step: &str, at: At) -> Result<Answer, Bad> {
     let now = at.now;
     Ok(match headed(step) {
@@ -142,7 +142,7 @@ fn answer(bar: &mut Lone, step: &str, at: At) -> Result<Answer, Bad> {
     })
 }
 
-/// What the bar answers to a command: to the call of its name, or to the command as a value, where such a call takes something for its own.
+/// The answer of the bar to a command: to the call with its name, or to the command as a value, if such a call takes an argument by value.
 fn obeyed(bar: &mut Lone, command: BarCommand<NoTracker>, now: Moment) -> Answer {
     match by_name(bar, &command, now) {
         Some(answer) => answer,
@@ -150,7 +150,7 @@ fn obeyed(bar: &mut Lone, command: BarCommand<NoTracker>, now: Moment) -> Answer
     }
 }
 
-/// Makes a command by the call of its name; nothing where that would take something for its own.
+/// Makes a command by the call with its name; `None` if that takes an argument by value.
 fn by_name(bar: &mut Lone, command: &BarCommand<NoTracker>, now: Moment) -> Option<Answer> {
     match command {
         BarCommand::TickerTick => Some(bar.ticker_tick(now)),
@@ -164,7 +164,7 @@ fn by_name(bar: &mut Lone, command: &BarCommand<NoTracker>, now: Moment) -> Opti
     }
 }
 
-/// `run CALL | CALL ..`: calls as one list, each at its moment, and what each answers.
+/// `run CALL | CALL ..`: calls as one list, each at its moment, and their answers.
 fn run(bar: &mut Lone, calls: &str, at: At, got: &mut Got) {
     let mut timed_calls = Vec::new(at.alloc);
     match push_calls(&mut timed_calls, calls, at) {

@@ -1,13 +1,13 @@
-//! Plays files of rows: `rows FILE ..`. Each row that differs is printed, with its file and its line, what was wanted and what came.
-//! How many rows of each file agreed is told on standard error, so standard output is empty if all did.
+//! Plays files of rows: `rows FILE ..`. Each row that differs is printed, with its file and its line, the expected and the actual result.
+//! How many rows of each file agreed is printed to standard error, so standard output is empty if all did.
 //!
-//! Files in a folder `front` are played over crate `indicatif`, all others over the four libraries below it, `bars_run` and
+//! Files in a folder `front` are played over the crate `indicatif`, all others over the four libraries below it, `bars_run` and
 //! `meter_parts`.
 //!
-//! The exit status is 1 if a row differed or a file had none, and 2 where a file can't be read or a stream fails.
+//! The exit status is 1 if a row differed or a file had none, and 2 if a file can't be read or a stream fails.
 //!
-//! - `front`: what is played over `indicatif`. All that follows is played without it.
-//! - `world`: what is played on, and which module plays a step.
+//! - `front`: rows over `indicatif`. All others are played without it.
+//! - `world`: the world that steps are played on, and the module of a step.
 //! - `lone`, `boards`: a lone bar and a board on a screen. `records`: a bar's record. `terminals`: a terminal before a screen.
 //! - `recorded`: a board that keeps its history.
 //! - `slots`: the order of bars and their slots. `streams`: targets on streams. `program`: runs of `bars run`.
@@ -15,10 +15,10 @@
 //!   `refusals`: numbers and texts of refusals.
 //! - `noted`: a board on a terminal in memory whose calls are read at the end.
 //! - `cells`: the cell terminal. `memory`: the terminal in memory. `engines`: the engine. `limiters`: limiters.
-//! - `styles`: styles and their builders. `lines`: lines of bars. `runs`: long texts, told by their runs.
+//! - `styles`: styles and their builders. `lines`: lines of bars. `runs`: long texts, by their runs.
 #![tactic(auto)]
 
-/// What is played on from now on, if it could be made: an `On` of the module where this stands.
+/// The world from now on, if it could be made: an `On` of the module in which this is used.
 macro_rules! on {
     ($kind:ident, $made:expr) => {
         match $made {
@@ -74,7 +74,7 @@ fn main(rt: HostRuntime) -> ExitCode {
     }
 }
 
-/// Plays the files that the arguments name.
+/// Plays the files of the arguments.
 fn play_all<
     R: AllocGlobal
         + Env
@@ -99,7 +99,7 @@ fn play_all<
     Ok(tally)
 }
 
-/// Plays the rows of a file on a new stage, prints each that differs, and last tells how many agreed. A file without rows has failed.
+/// Plays the rows of a file on a new stage, prints each that differs, and at the end how many agreed. A file without rows has failed.
 fn play_file<
     R: AllocGlobal
         + Files

@@ -1,4 +1,4 @@
-//! The terminal in memory, and what hides bars.
+//! The terminal in memory, and the facts that hide bars.
 use crate::cells::{next_size, push_cursor};
 use crate::streams::facts;
 use crate::terminals::call;
@@ -19,7 +19,7 @@ pub fn begin(rest: &str, at: At) -> Result<Memory, Bad> {
 }
 
 impl Memory {
-    /// Makes a call as of a terminal before a screen, takes another size, or reads something; of its `moves` those since the last look.
+    /// Makes a call as of a terminal before a screen, resizes it, or reads it; `moves` are those since the last reading.
     pub fn step(&mut self, step: &str, at: At, got: &mut Got) {
         let term = &mut *self.0;
         match step {
@@ -35,7 +35,7 @@ impl Memory {
     }
 }
 
-/// Appends whether bars are hidden by `hides ROWS COLS ATTENDED TERM`: by a size, `yes` or `no`, and what `TERM` says, as in `stream`.
+/// Appends whether bars are hidden by `hides ROWS COLS ATTENDED TERM`: by a size, `yes` or `no`, and the value of `TERM`, as in `stream`.
 pub fn hides(rest: &str, at: At, got: &mut Got) {
     let mut words = Words::of(rest);
     let size = (words.number(), words.number());

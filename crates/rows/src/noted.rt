@@ -22,8 +22,8 @@ pub fn begin(rest: &str, at: At) -> Result<Box<OnNoted>, Bad> {
 }
 
 impl OnNoted {
-    /// `move yes` or `move no`; `add BAR`; a command of a bar; `contents`; or at the end `moves`, all calls of the terminal, which the board
-    /// gives away for that.
+    /// `move yes` or `move no`; `add BAR`; a command of a bar; `contents`; or at the end `moves`, all calls of the terminal, which leaves
+    /// the board for that.
     pub fn step(&mut self, step: &str, at: At, got: &mut Got) {
         if let Some((id, text)) = of_bar(step) {
             return match command(at.alloc, text) {

@@ -1,4 +1,4 @@
-//! `bars run` over readers and writers: what it prints, what it says was wrong, and its status.
+//! `bars run` over readers and writers: its output, its message, and its status.
 use bars_run::run_bars;
 use scripts::got::{Bad, Got};
 use scripts::row::{At, Words};
@@ -6,7 +6,7 @@ use scripts::spelling::{number, unescaped_bytes};
 use std::io;
 use std::io::{Error, ErrorKind, Read, Write};
 
-/// Gives its bytes, one a call where it fails then in this way.
+/// Gives its bytes, one a call if it then fails in this way.
 #[derive(Drop)]
 struct Input<'a> {
     rest: &'a [u8],
@@ -31,7 +31,7 @@ impl Read for Input<'_> {
     }
 }
 
-/// Keeps so many bytes, and fails when it is full; its flush fails where that is said.
+/// Keeps the given number of bytes, and fails when it is full; its flush fails if requested.
 #[derive(Drop)]
 struct Output {
     written: Vec<u8>,
@@ -58,7 +58,7 @@ impl Write for Output {
     }
 }
 
-/// How the input fails behind the commands, how many bytes each output takes, and whether the last flush fails.
+/// How the input fails after the commands, how many bytes each output takes, and whether the last flush fails.
 #[derive(Clone, Copy)]
 struct Limits {
     failure: Option<ErrorKind>,
@@ -67,11 +67,12 @@ struct Limits {
     is_flush_failing: bool,
 }
 
-/// `bars [CHANGE ..] WORDS: COMMANDS`, with `\n` behind each command: `bars` with these words, parted by spaces, on these commands.
-/// Gives the status; behind a space what is printed, if anything; and behind ` !` what is said was wrong.
+/// `bars [CHANGE ..] WORDS: COMMANDS`, with `\n` after each command: `bars` with these words, separated by spaces, on these commands. Gives
+/// the status; after a space the output, if any; and after ` !` the message.
 ///
-/// A change, of which each comes once at most, is `input=KIND`, which fails so behind the commands (`BrokenPipe` or `OutOfMemory`); `room=N`, so many bytes are printed;
-/// `flush=no`, the last flush fails; `said=no`, what was wrong can't be said. The word `alone`: no words, not even an empty one.
+/// A change, each at most once, is `input=KIND`, which fails so after the commands (`BrokenPipe` or `OutOfMemory`); `room=N`, the output
+/// takes N bytes; `flush=no`, the last flush fails; `said=no`, the message can't be written. The word `alone`: no words, not even an empty
+/// one.
 pub fn played(rest: &str, at: At, got: &mut Got) {
     let Some((words, commands)) = rest.split_once(':') else {
         return got.bad(Bad::Step);
@@ -90,7 +91,7 @@ pub fn played(rest: &str, at: At, got: &mut Got) {
     }
 }
 
-/// The limits that up to four changes make, and the words that are left.
+/// The limits of up to four changes, and the other words.
 fn limited(text: &str) -> Result<(Limits, &str), Bad> {
     let mut words = Words::of(text);
     let mut limits = Limits {
@@ -105,7 +106,7 @@ fn limited(text: &str) -> Result<(Limits, &str), Bad> {
     words.done((limits, words.rest()))
 }
 
-/// Makes the change that the next word asks for, if it does.
+/// Makes the change of the next word, if it is one.
 fn change(limits: &mut Limits, words: &mut Words<'_>) {
     let mut behind = *words;
     match behind.word().split_once('=') {
@@ -150,7 +151,7 @@ fn run(args: &[String], commands: &[u8], (limits, at): (Limits, At), got: &mut G
     push_printed(" !", &err, got);
 }
 
-/// Appends what was printed behind this text; nothing where nothing was.
+/// Appends the output after this text; nothing if there is none.
 fn push_printed(parting: &str, output: &Output, got: &mut Got) {
     if !output.written.is_empty() {
         got.text(parting);

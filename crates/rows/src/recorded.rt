@@ -1,4 +1,4 @@
-//! A board that keeps its history, on a screen. Its steps are spelled as those of a board, and each is a call as a value.
+//! A board that keeps its history, on a screen. Its steps are those of a board, and each is a call as a value.
 use indicatif_bar::style::NoTracker;
 use indicatif_board::multi::Recorded;
 use indicatif_text::columns::Moment;
@@ -18,7 +18,7 @@ pub struct OnScreen {
     screen: Rc<Screen>,
 }
 
-/// `recorded ROWS COLS RATE`: on a new screen. A rate of 0 is none. `recorded hidden`: on none.
+/// `recorded ROWS COLS RATE`: on a new screen. A rate of 0 means no limit. `recorded hidden`: a hidden one.
 pub fn begin(rest: &str, at: At) -> Result<Box<OnScreen>, Bad> {
     let (screen, target) = screen::begin(&mut Words::of(rest), at)?;
     let board = Recorded::new(at.alloc, target.0, MARK);
@@ -26,7 +26,7 @@ pub fn begin(rest: &str, at: At) -> Result<Box<OnScreen>, Bad> {
 }
 
 impl OnScreen {
-    /// Makes a call, whose answer is told, with the bar that comes back by its message; or looks at the screen, the board or a bar.
+    /// Makes a call, and appends its answer, with the message of a bar that comes back; or reads the screen, the board or a bar.
     pub fn step(&mut self, step: &str, at: At, got: &mut Got) {
         if screen::look_at(&self.screen, step, at, got) || look(&self.board, step, at.now, got) {
             return;

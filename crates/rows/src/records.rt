@@ -1,4 +1,4 @@
-//! A bar's record, on no terminal.
+//! A bar's record alone.
 use indicatif_bar::state::Ask;
 use indicatif_text::columns::Refusal;
 use scripts::commands::{command, finish};
@@ -20,7 +20,7 @@ pub fn begin(rest: &str, at: At) -> Result<Record, Bad> {
 }
 
 impl Record {
-    /// Makes a command, and tells what it asks; or reads something of the bar.
+    /// Makes a command, and appends the draw that it asks for; or reads the bar.
     pub fn step(&mut self, step: &str, at: At, got: &mut Got) {
         if read_bar(&self.0, step, at.now, got) {
             return;
@@ -33,13 +33,13 @@ impl Record {
     }
 }
 
-/// `LEN BAR`: a bar of this length, or of none.
+/// `LEN BAR`: a bar with this length, or none.
 pub fn new_bar(words: &mut Words<'_>, at: At) -> Result<Box<Bar>, Bad> {
     let len = words.optional();
     bar_of(at, words.rest(), words.done(len)?)
 }
 
-/// What a step asks of a bar, or its refusal.
+/// The draw that a step of a bar asks for, or its refusal.
 fn asked(bar: &mut Bar, step: &str, at: At) -> Result<Result<Ask, Refusal>, Bad> {
     let now = at.now;
     Ok(match headed(step) {

@@ -6,7 +6,7 @@ use scripts::row::{At, headed};
 use scripts::spelling::unescaped;
 use std::io::ErrorKind;
 
-/// The refusals by their names, but for that of a character in a template.
+/// The refusals by their names, except that of a character in a template.
 const NAMED: &[(&str, Refusal)] = &[
     ("ZeroRate", Refusal::ZeroRate),
     ("FewTicks", Refusal::FewTicks),
@@ -26,7 +26,7 @@ const NAMED: &[(&str, Refusal)] = &[
     ("RecordedTarget", Refusal::RecordedTarget),
 ];
 
-/// Appends a refusal's number and its text: `refusal NAME`; `refusal Template C STATE`: of a character.
+/// Appends a refusal's number and its text: `refusal NAME`; `refusal Template C STATE`: that of a character.
 pub fn told(rest: &str, at: At, got: &mut Got) {
     let refusal = match rest.strip_prefix("Template ") {
         Some(rest) => match unexpected(rest, at) {
@@ -45,7 +45,7 @@ pub fn told(rest: &str, at: At, got: &mut Got) {
     }
 }
 
-/// Appends an error's text, and as what it is refused: `template_error NAME`, or `template_error C STATE`.
+/// Appends an error's text, and its refusal: `template_error NAME`, or `template_error C STATE`.
 pub fn of_template(rest: &str, at: At, got: &mut Got) {
     let error = match rest {
         "WidthTooLarge" => Some(TemplateError::WidthTooLarge),

@@ -1,9 +1,9 @@
-//! Long texts, told by their runs.
+//! Long texts, by their runs.
 use crate::{formats, lines};
 use scripts::got::Got;
 use scripts::row::{At, headed};
 
-/// Appends what a step gives by its runs of one character, a space between two: how often, and the character. `runs STEP`.
+/// Appends the result of a step by its runs of one character, separated by spaces: how often, and the character. `runs STEP`.
 pub fn counted(rest: &str, at: At, got: &mut Got) {
     let (name, rest) = headed(rest);
     let mut long = Got::new(at.alloc);

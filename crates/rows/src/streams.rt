@@ -1,4 +1,4 @@
-//! Targets on streams: who is hidden, and which rates are refused.
+//! Targets on streams: which are hidden, and which rates are refused.
 use indicatif_bar::lone::LoneBar;
 use indicatif_bar::style::NoTracker;
 use indicatif_term::draw_target::{Facts, ProgressDrawTarget};
@@ -14,7 +14,7 @@ use scripts::spelling::{number, unescaped};
 type Target = ProgressDrawTarget<Term<Vec<u8>>>;
 
 /// `stream NAME ATTENDED TERM`, of 4 rows and 10 columns, where the name is `stdout`, `stderr` or `bar`, `-` is for no `TERM` and `''` for
-/// an empty one: whether a target there is hidden; of `bar` what a tick answers. Behind these a rate: one of so many draws a second.
+/// an empty one: whether a target there is hidden; for `bar` the answer of a tick. After these a rate, in draws a second.
 pub fn asked(rest: &str, at: At, got: &mut Got) {
     let mut words = Words::of(rest);
     let name = words.word();
@@ -34,7 +34,7 @@ pub fn asked(rest: &str, at: At, got: &mut Got) {
     }
 }
 
-/// Facts of a stream of this size: the next words, `ATTENDED TERM`.
+/// Facts of a stream with this size: the next words, `ATTENDED TERM`.
 pub fn facts(words: &mut Words<'_>, (rows, cols): (u16, u16), at: At) -> Result<Facts, Bad> {
     let attended = words.flag();
     let name = words.word();
@@ -52,7 +52,7 @@ pub fn facts(words: &mut Words<'_>, (rows, cols): (u16, u16), at: At) -> Result<
     })
 }
 
-/// A target on this stream, with a rate where a word spells one; there is none where there is no word, or `-`.
+/// A target on this stream, with the rate of a word; without a limit if there is no word, or `-`.
 fn target(name: &str, facts: Facts, (rate, at): (&str, At)) -> Result<Target, Bad> {
     let rate = match rate {
         "" | "-" => None,
@@ -72,7 +72,7 @@ fn target(name: &str, facts: Facts, (rate, at): (&str, At)) -> Result<Target, Ba
     }
 }
 
-/// What a tick of a bar answers on a terminal in memory that stands for the stream.
+/// The answer of a tick of a bar on a terminal in memory in place of the stream.
 fn ticked(facts: Facts, at: At) -> Result<Result<Drawn, Refusal>, Bad> {
     let memory = InMemoryTerm::new(at.alloc, 4, 10)?;
     let target = at.boxed(ProgressDrawTarget::term(memory, facts, 20, at.now)?)?;

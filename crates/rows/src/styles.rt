@@ -10,7 +10,7 @@ use scripts::spelling::{flag, number, unescaped};
 /// A style in a box: each way out of a function drops it by one call.
 pub type Look = Box<ProgressStyle<NoTracker>>;
 
-/// A style, which a builder that refuses gives up.
+/// A style, which a builder that refuses drops.
 #[derive(Drop)]
 pub struct Styled {
     look: Option<Look>,
@@ -30,7 +30,7 @@ pub fn begin(name: &str, rest: &str, at: At) -> Result<Styled, Bad> {
 }
 
 impl Styled {
-    /// A builder, or what is read.
+    /// A builder, or a reading.
     pub fn step(&mut self, step: &str, at: At, got: &mut Got) {
         let (name, rest) = headed(step);
         if let Some(look) = &self.look {
@@ -49,7 +49,7 @@ impl Styled {
     }
 }
 
-/// What a builder made.
+/// The result of a builder.
 fn taken_up(at: At, made: Result<ProgressStyle<NoTracker>, Refusal>) -> Result<Look, Bad> {
     match made {
         Ok(style) => at.boxed(style),
@@ -57,8 +57,8 @@ fn taken_up(at: At, made: Result<ProgressStyle<NoTracker>, Refusal>) -> Result<L
     }
 }
 
-/// The builder that a step spells: `template TEMPLATE`, `tick_chars CHARS`, `progress_chars CHARS`, `tick_strings` and behind a tab each
-/// the texts, `colours yes` or `no`, or `clone`, which goes on with the clone.
+/// The builder of a step: `template TEMPLATE`, `tick_chars CHARS`, `progress_chars CHARS`, `tick_strings` and each text after a tab,
+/// `colours yes` or `no`, or `clone`, which continues with the clone.
 fn built(look: Look, (name, rest): (&str, &str), at: At) -> Result<Look, Bad> {
     match name {
         "tick_strings" => with_tick_strings(look, rest, at),
@@ -71,7 +71,7 @@ fn built(look: Look, (name, rest): (&str, &str), at: At) -> Result<Look, Bad> {
     }
 }
 
-/// The same style with another template, other ticks or other characters of a bar, of a text with escapes.
+/// The style with another template, other ticks or other characters of a bar, from a text with escapes.
 pub fn with_text(look: Look, (name, text): (&str, &str), at: At) -> Result<Look, Bad> {
     let text = unescaped(at.alloc, text)?;
     let text = text.as_str();
@@ -93,7 +93,7 @@ fn with_tick_strings(look: Look, rest: &str, at: At) -> Result<Look, Bad> {
     taken_up(at, Box::into_inner(look).tick_strings(&strings))
 }
 
-/// Appends the texts behind tabs.
+/// Appends the texts after tabs.
 fn push_texts(texts: &mut Vec<String>, rest: &str, at: At) -> Result<(), Bad> {
     for text in rest.split('\t').skip(1) {
         texts.push(unescaped(at.alloc, text)?)?;
@@ -101,8 +101,8 @@ fn push_texts(texts: &mut Vec<String>, rest: &str, at: At) -> Result<(), Bad> {
     Ok(())
 }
 
-/// Reads of a style `tick TICKS` or `last_tick`, texts of its spinner, or `lines COLS`, those of a new bar of 10; whether the step
-/// asks for that.
+/// Reads `tick TICKS` or `last_tick` of a style, texts of its spinner, or `lines COLS`, those of a new bar of 10; whether the step is a
+/// reading.
 fn read(
     look: &ProgressStyle<NoTracker>,
     (name, rest): (&str, &str),
@@ -131,7 +131,7 @@ fn push_new_lines(look: &ProgressStyle<NoTracker>, columns: &str, at: At, got: &
     }
 }
 
-/// The same style with colours, or without.
+/// The style with colours, or without.
 pub fn with_colours(look: Look, colours: bool, at: At) -> Result<Look, Bad> {
     taken_up(at, Box::into_inner(look).with_colors(colours))
 }

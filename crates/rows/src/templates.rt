@@ -5,7 +5,7 @@ use scripts::got::{Bad, Got};
 use scripts::row::{At, headed};
 use scripts::spelling::unescaped;
 
-/// Appends the parts of `parse TEMPLATE`, ` | ` between two: `L TEXT`, `N` for a newline, or `P KEY ALIGNMENT WIDTH ! STYLE STYLE`, with
+/// Appends the parts of `parse TEMPLATE`, separated by ` | `: `L TEXT`, `N` for a newline, or `P KEY ALIGNMENT WIDTH ! STYLE STYLE`, with
 /// `-` for what isn't there and styles as the numbers that they write.
 pub fn parsed(rest: &str, at: At, got: &mut Got) {
     match unescaped(at.alloc, rest) {
@@ -61,7 +61,7 @@ fn push_layout(align: Alignment, width: Option<u16>, got: &mut Got) {
     }
 }
 
-/// Appends the numbers of a style, parted by commas: those that it writes round an empty text, but for the last.
+/// Appends the numbers of a style, separated by commas: those that it writes around an empty text, except the last.
 fn push_numbers(style: Option<Style>, at: At, got: &mut Got) {
     let mut written = String::new(at.alloc);
     let done = match style {
@@ -91,10 +91,10 @@ fn push_sequences(written: &str, got: &mut Got) {
     }
 }
 
-/// Appends what words of a style give.
+/// Appends the results of words of a style.
 ///
 /// - `painted WORDS TEXT`, `unpainted WORDS TEXT`: a text in this style, with colours and without.
-/// - `opened WORDS`: whether something is opened, and what is written.
+/// - `opened WORDS`: whether sequences are written, and the text.
 /// - `same_style WORDS WORDS`; `no_style WORDS`: whether the style is that of no words.
 pub fn styled(name: &str, rest: &str, at: At, got: &mut Got) {
     let (words, rest) = headed(rest);

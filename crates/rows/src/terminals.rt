@@ -24,7 +24,7 @@ pub fn begin(rest: &str, at: At) -> Result<Terminal, Bad> {
 }
 
 impl Terminal {
-    /// Makes a call, and tells `done` or how it failed; or looks at the screen.
+    /// Makes a call, and appends `done` or how it failed; or reads the screen.
     pub fn step(&mut self, step: &str, at: At, got: &mut Got) {
         if screen::look_at(&self.screen, step, at, got) {
             return;

@@ -1,4 +1,4 @@
-//! What steps are played on, and which module plays a step. A new kind of world is a module, a variant of `On`, and a line each in
+//! The world that steps are played on, and the module of a step. A new kind of world is a module, a variant of `On`, and a line each in
 //! `begun` and `step`; a question that needs no world is a module and a line in `asked`.
 use crate::terminals::Terminal;
 use crate::{
@@ -14,7 +14,7 @@ use std::alloc::Global;
 use std::io::{self, BufRead};
 use std::mem::replace;
 
-/// What is played on.
+/// A world that steps are played on.
 #[derive(Drop)]
 enum On {
     Nothing,
@@ -31,8 +31,8 @@ enum On {
     Style(styles::Styled),
 }
 
-/// Answers what needs no world; whether the step of this name asks for that. `--size TEXT`: how many bytes a text says, as the option of
-/// `meter` reads it; `-` where it says no number.
+/// Answers a question that needs no world; whether the step with this name is one. `--size TEXT`: the bytes of a text, as the option of
+/// `meter` reads it; `-` if it is no number.
 fn asked(name: &str, rest: &str, at: At, got: &mut Got) -> bool {
     match name {
         "bars" => program::played(rest, at, got),
@@ -66,7 +66,7 @@ fn asked(name: &str, rest: &str, at: At, got: &mut Got) -> bool {
     true
 }
 
-/// The world that the step of this name begins.
+/// The world that the step with this name begins.
 fn begun(name: &str, rest: &str, at: At) -> Option<Result<On, Bad>> {
     Some(match name {
         "lone" => on!(Lone, lone::begin(rest, at)),
@@ -105,8 +105,8 @@ impl On {
         }
     }
 
-    /// Another world of what is there: `ended`, the bar is gone, and its terminal goes on; `shown ROWS COLS RATE`, a record is the bar
-    /// of a screen.
+    /// Another world made of the current one: `ended`, the bar is gone, and its terminal stays; `shown ROWS COLS RATE`, a record becomes
+    /// the bar of a screen.
     fn turned(self, step: &str, at: At) -> Result<On, Bad> {
         match (self, headed(step)) {
             (On::Record(record), ("shown", rest)) => on!(Lone, lone::showing(record.0, rest, at)),
@@ -116,14 +116,14 @@ impl On {
     }
 }
 
-/// What is played on, and the moment of the last step.
+/// The world, and the moment of the last step.
 #[derive(Drop)]
 struct Stage {
     at: At,
     on: On,
 }
 
-/// Plays the rows of what a reader gives on a new stage, and prints each that differs under this name.
+/// Plays the rows of a reader on a new stage, and prints each that differs under this name.
 pub fn play_on_new_stage<R: Print + Alloc<A = Global>, L: BufRead + Drop>(
     rt: &R,
     path: &str,
@@ -141,7 +141,7 @@ pub fn play_on_new_stage<R: Print + Alloc<A = Global>, L: BufRead + Drop>(
 }
 
 impl Stage {
-    /// Goes on with what is there, at this moment or that of the last step: makes a step, or reads something.
+    /// Continues with the current world, at this moment or that of the last step: makes a step, or reads something.
     fn go_on(&mut self, step: &str, moment: Option<Moment>, got: &mut Got) {
         self.at.now = moment.unwrap_or(self.at.now);
         match headed(step).0 {
@@ -155,7 +155,7 @@ impl Stage {
 }
 
 impl World for Stage {
-    /// Begins another world, at this moment or at 0, where the step does so; else goes on with what is there.
+    /// Begins another world, at this moment or at 0, if the step does so; otherwise continues with the current one.
     fn play(&mut self, step: &str, got: &mut Got) -> Result<(), Bad> {
         let (step, moment) = timed(step);
         let (name, rest) = headed(step);

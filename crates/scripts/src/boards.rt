@@ -1,4 +1,4 @@
-//! Calls of a board, what they answer, and what is read of a board.
+//! Calls of a board, their answers, and readings of a board.
 use crate::commands::command;
 use crate::got::{Bad, Got};
 use crate::lone::bar_of;
@@ -9,10 +9,10 @@ use indicatif_board::multi::{Answer, BarId, Call, Candidate, InsertLocation};
 use indicatif_term::draw_target::MultiProgressAlignment;
 use std::alloc::Global;
 
-/// The mark of the board that rows speak of.
+/// The mark of the board in rows.
 pub const MARK: u64 = 1;
 
-/// The bar of a number; that of another board behind `x`.
+/// The bar with a number; after `x`, one of another board.
 pub fn bar_id(text: &str) -> Result<BarId, Bad> {
     let (mark, digits) = match text.strip_prefix('x') {
         Some(rest) => (MARK + 1, rest),
@@ -22,7 +22,7 @@ pub fn bar_id(text: &str) -> Result<BarId, Bad> {
     Ok(BarId { mark, number })
 }
 
-/// The bar that a step speaks of, as in `0: tick`, and what follows.
+/// The bar of a step, as in `0: tick`, and the rest.
 pub fn of_bar(text: &str) -> Option<(BarId, &str)> {
     let (bar, rest) = text.split_once(": ")?;
     match bar_id(bar) {
@@ -31,7 +31,7 @@ pub fn of_bar(text: &str) -> Option<(BarId, &str)> {
     }
 }
 
-/// The call that a step spells: one of the board, or behind a bar's number and `: ` one of that bar.
+/// The call of a step: one of the board, or after a bar's number and `: ` one of that bar.
 pub fn board_call(at: At, text: &str) -> Result<Call<NoTracker>, Bad> {
     match of_bar(text) {
         Some((id, rest)) => bar_call(at.alloc, id, rest),
@@ -61,7 +61,7 @@ fn call(at: At, text: &str) -> Result<Call<NoTracker>, Bad> {
     }
 }
 
-/// The place that a step names, as in `add BAR`, `insert N BAR`, `back N BAR`, `before N BAR` and `after N BAR`; and the bar.
+/// The place of a step, as in `add BAR`, `insert N BAR`, `back N BAR`, `before N BAR` and `after N BAR`; and the bar.
 pub fn placed<'a>(name: &str, rest: &'a str) -> Result<(InsertLocation, &'a str), Bad> {
     let mut words = Words::of(rest);
     let place = match name {
@@ -90,7 +90,7 @@ fn next_bar(words: &mut Words<'_>) -> BarId {
     )
 }
 
-/// The call that takes in a bar.
+/// The call that inserts a bar.
 fn insertion(at: At, name: &str, rest: &str) -> Result<Call<NoTracker>, Bad> {
     let (place, bar) = placed(name, rest)?;
     let candidate = candidate(at, bar)?;
@@ -100,7 +100,7 @@ fn insertion(at: At, name: &str, rest: &str) -> Result<Call<NoTracker>, Bad> {
     })
 }
 
-/// What is to be taken in: behind `=` a bar that may be there, or a new one, behind `len=LEN ` of that length.
+/// What to insert: after `=` a bar that may be there, or a new one, after `len=LEN ` with that length.
 pub fn candidate(at: At, text: &str) -> Result<Candidate<NoTracker>, Bad> {
     match (text.strip_prefix('='), text.strip_prefix("len=")) {
         (Some(id), _) => Ok(Candidate::Member(bar_id(id)?)),
@@ -117,7 +117,7 @@ fn new_bar(at: At, bar: &str, len: Option<u64>) -> Result<Candidate<NoTracker>, 
     Ok(Candidate::New(Box::into_inner(bar_of(at, bar, len)?)))
 }
 
-/// Appends what a call answered: a bar's number, `done`, or as the call of a lone bar.
+/// Appends the answer of a call: a bar's number, `done`, or as for a lone bar's call.
 pub fn push_answer(answer: Answer, got: &mut Got) {
     match answer {
         Answer::Id(id) => got.number(id.number),

@@ -1,5 +1,4 @@
-//! Commands of a bar as rows spell them: a name and what belongs to it. A command stands here as a value, as the call of its name, and
-//! as the text of a value.
+//! Commands of a bar in rows: a name and its arguments. A command is a value, the call with its name, and the text of a value.
 use crate::got::{Bad, Got};
 use crate::row::headed;
 use crate::spelling::{flag, number, optional, unescaped};
@@ -19,7 +18,7 @@ const WORDED: [&str; 6] = [
     "abandon_with_message",
 ];
 
-/// The commands that are about a bar's numbers and times; `update` has two numbers.
+/// The commands on a bar's numbers and times; `update` has two numbers.
 pub const COUNTING: [&str; 11] = [
     "dec",
     "set_position",
@@ -34,7 +33,7 @@ pub const COUNTING: [&str; 11] = [
     "reset",
 ];
 
-/// The command that a step spells.
+/// The command of a step.
 pub fn command(alloc: Global, step: &str) -> Result<Command, Bad> {
     match step.split_once(' ') {
         None => bare(step),
@@ -42,7 +41,7 @@ pub fn command(alloc: Global, step: &str) -> Result<Command, Bad> {
     }
 }
 
-/// The command of this name, with which nothing belongs.
+/// The command with this name, which has no arguments.
 pub fn bare(name: &str) -> Result<Command, Bad> {
     match name {
         "tick" => Ok(BarCommand::Tick),
@@ -70,7 +69,7 @@ fn plain_finish(name: &str) -> Result<ProgressFinish, Bad> {
     }
 }
 
-/// The way to finish that a text spells, with its message.
+/// The finish that a text spells, with its message.
 pub fn finish(alloc: Global, text: &str) -> Result<ProgressFinish, Bad> {
     match text.split_once(' ') {
         None => plain_finish(text),
@@ -97,7 +96,7 @@ fn with_argument(alloc: Global, name: &str, rest: &str) -> Result<Command, Bad> 
     }
 }
 
-/// The style of a template; behind `chars=CHARS ` with these progress characters.
+/// The style with a template; after `chars=CHARS ` with these progress characters.
 fn styled(alloc: Global, text: &str) -> Result<Command, Bad> {
     let style = match text.strip_prefix("chars=") {
         Some(rest) => with_chars(alloc, rest),
@@ -133,7 +132,7 @@ fn saying(name: &str, text: String) -> Result<Command, Bad> {
     }
 }
 
-/// That of this name with a number.
+/// The command with this name and a number.
 pub fn by_number(name: &str, number: u64) -> Result<Command, Bad> {
     match name {
         "inc" => Ok(BarCommand::Inc(number)),
@@ -163,8 +162,8 @@ fn updating(text: &str) -> Result<Command, Bad> {
 
 // ---- calls by their names
 
-/// Makes a command by the call of its name: of a lone bar, which is told a moment, or of a shared one. `None` where they have no such call
-/// in common, or one that takes what belongs with the command for its own. It names `BarCommand` and `ProgressFinish`.
+/// Makes a command by the call with its name: of a lone bar, which takes a moment, or of a shared one. `None` if the two have no such call
+/// in common, or one that takes the command's argument by value. It names `BarCommand` and `ProgressFinish`.
 #[macro_export]
 macro_rules! called {
     ($bar:expr, $command:expr $(, $now:expr)?) => {
@@ -210,7 +209,7 @@ fn push_text(name: &str, text: &str, got: &mut Got) {
     got.text(text);
 }
 
-/// Appends a name, and a number behind a space.
+/// Appends a name, a space and a number.
 pub fn push_number(name: &str, number: u64, got: &mut Got) {
     got.text(name);
     got.text(" ");
@@ -270,7 +269,7 @@ fn push_finish(finish: &ProgressFinish, got: &mut Got) {
     }
 }
 
-/// The name of a command with which nothing belongs.
+/// The name of a command without arguments.
 fn name_of(command: &Command) -> &'static str {
     match command {
         BarCommand::Tick => "tick",

@@ -1,11 +1,11 @@
-//! What steps gave, and why one gives nothing.
+//! The results of steps, and why one has none.
 use indicatif_text::columns::{Drawn, Refusal};
 use std::alloc::{AllocError, AllocFailed, Global};
 use std::fmt::Display;
 use std::io::ErrorKind;
 use std::str;
 
-/// Why a step gives nothing.
+/// Why a step has no result.
 #[derive(Clone, Copy, Drop)]
 pub enum Bad {
     /// It can't be read.
@@ -32,8 +32,8 @@ impl<V: Drop> From<AllocFailed<V>> for Bad {
     }
 }
 
-/// What steps gave, as one text. What one step gave is parted from the next by `; `. Where a step gives nothing, the text says why, and the
-/// first such fault is remembered. Want of memory is remembered too, and makes the row differ.
+/// The results of steps, as one text, separated by `; `. If a step has none, the text says why, and the first such fault is kept. Want of
+/// memory is kept too, and makes the row differ.
 #[derive(Drop)]
 pub struct Got {
     text: String,
@@ -43,7 +43,7 @@ pub struct Got {
 }
 
 impl Got {
-    /// Nothing yet.
+    /// No result yet.
     pub fn new(alloc: Global) -> Got {
         Got {
             text: String::new(alloc),
@@ -53,7 +53,7 @@ impl Got {
         }
     }
 
-    /// Nothing again.
+    /// Clears the results.
     pub fn clear(&mut self) {
         self.text.clear();
         self.fault = None;
@@ -61,22 +61,22 @@ impl Got {
         self.is_lost = false;
     }
 
-    /// What comes now is what the next step gives.
+    /// Begins the result of the next step.
     pub fn begin(&mut self) {
         self.is_new = true;
     }
 
-    /// What the steps gave, without escapes.
+    /// The results of the steps, without escapes.
     pub fn as_str(&self) -> &str {
         self.text.as_str()
     }
 
-    /// The fault of the first step that has one.
+    /// The first fault of a step, if any.
     pub fn fault(&self) -> Option<Bad> {
         self.fault
     }
 
-    /// Whether a part of it found no room.
+    /// Whether a part of it got no memory.
     pub fn is_lost(&self) -> bool {
         self.is_lost
     }
@@ -85,7 +85,7 @@ impl Got {
         self.is_lost |= done.is_err();
     }
 
-    /// Parts what comes now from what the steps before gave.
+    /// Separates the next result from those before.
     fn part(&mut self) {
         if self.is_new && !self.text.is_empty() {
             let done = self.text.push_str("; ");
@@ -118,13 +118,13 @@ impl Got {
         }
     }
 
-    /// Where a call that appends a text puts it.
+    /// The text to which a call appends.
     pub fn room(&mut self) -> &mut String {
         self.part();
         &mut self.text
     }
 
-    /// Appends a number, or what else has a text.
+    /// Appends a number, or anything else with a text.
     pub fn number<D: Display + Drop>(&mut self, value: D) {
         self.part();
         let done = self.text.write_fmt(value);
@@ -144,7 +144,7 @@ impl Got {
         self.text(if value { "yes" } else { "no" });
     }
 
-    /// Appends what a call answered: `yes`, `limited`, `hidden`, or a refusal's number.
+    /// Appends the answer of a call: `yes`, `limited`, `hidden`, or a refusal's number.
     pub fn answer(&mut self, answer: Result<Drawn, Refusal>) {
         match answer {
             Ok(Drawn::Yes) => self.text("yes"),
@@ -154,7 +154,7 @@ impl Got {
         }
     }
 
-    /// Appends a refusal's number, behind that of a template the character and where it stood, and behind that of a terminal how it failed.
+    /// Appends a refusal's number; for a template also the character and its state, for a terminal also how it failed.
     pub fn refusal(&mut self, refusal: Refusal) {
         self.text("E");
         self.number(refusal.number());
@@ -177,7 +177,7 @@ impl Got {
         });
     }
 
-    /// Appends why a step gives nothing.
+    /// Appends why a step has no result.
     pub fn bad(&mut self, bad: Bad) {
         self.fault = self.fault.or(Some(bad));
         match bad {
@@ -186,7 +186,7 @@ impl Got {
         }
     }
 
-    /// Appends texts, each with a newline behind it.
+    /// Appends texts, each followed by a newline.
     pub fn rows(&mut self, rows: &[String]) {
         for row in rows {
             self.text(row.as_str());
@@ -194,7 +194,7 @@ impl Got {
         }
     }
 
-    /// Appends texts, each with a newline behind it, or why there are none.
+    /// Appends texts, each followed by a newline, or why there are none.
     pub fn rows_of(&mut self, rows: Result<Vec<String>, Refusal>) {
         match rows {
             Ok(rows) => self.rows(&rows),
@@ -202,7 +202,7 @@ impl Got {
         }
     }
 
-    /// Appends numbers, parted by spaces.
+    /// Appends numbers, separated by spaces.
     pub fn numbers(&mut self, numbers: &[u64]) {
         let mut parting = "";
         for number in numbers {
@@ -212,7 +212,7 @@ impl Got {
         }
     }
 
-    /// Appends bytes: as text where they are one, else each that isn't ASCII as its number between `<` and `>`.
+    /// Appends bytes: as text if they are UTF-8, otherwise each that isn't ASCII as its number between `<` and `>`.
     pub fn bytes(&mut self, bytes: &[u8]) {
         match str::from_utf8(bytes) {
             Ok(text) => self.text(text),

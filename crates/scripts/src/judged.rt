@@ -1,9 +1,9 @@
 //! Bars and boards on terminals that fail, and a judge of what was written.
 //!
-//! - `record`: a writer that keeps its bytes and fails as it is told to.
-//! - `judge`: what has to hold of the bytes: rows above stand at each of them.
-//! - `script`: calls, and what each answers where nothing fails.
-//! - `played`: scripts that are played and judged. `refused`: the same where memory is refused.
+//! - `record`: a writer that keeps its bytes and fails as planned.
+//! - `judge`: what must hold of the bytes: rows above stand at each of them.
+//! - `script`: calls, and the answer of each if nothing fails.
+//! - `played`: scripts that are played and judged. `refused`: scripts that are played and judged with memory refused.
 //! - `on_board`, `on_bar`: a board and a lone bar that make these calls.
 //!
 //! Such a judgement is a test. Nothing is proved here, except that the functions are safe and return.

@@ -1,4 +1,4 @@
-//! Calls of a lone bar, bars as rows spell them, and what is read of a bar.
+//! Calls of a lone bar, bars in rows, and readings of a bar.
 use crate::commands::command;
 use crate::got::{Bad, Got};
 use crate::row::At;
@@ -14,7 +14,7 @@ use std::convert::AsStr;
 /// A bar's record.
 pub type Bar = BarState<NoTracker>;
 
-/// A bar of this length: of this template; behind `'` of the message alone, which is this; or `default_bar`. Escapes stand for
+/// A bar with this length: with this template; after `'` with only a message, which is this; or `default_bar`. Escapes stand for
 /// characters.
 pub fn bar_of(at: At, text: &str, len: Option<u64>) -> Result<Box<Bar>, Bad> {
     if text == "default_bar" {
@@ -38,13 +38,13 @@ fn templated(at: At, template: &str, len: Option<u64>) -> Result<Box<Bar>, Bad> 
     at.boxed(BarState::styled(at.alloc, Box::into_inner(style), len, at.now)?)
 }
 
-/// The style of a template with escapes.
+/// The style with a template with escapes.
 pub fn style_of(at: At, template: &str) -> Result<Box<ProgressStyle<NoTracker>>, Bad> {
     let template = unescaped(at.alloc, template)?;
     at.boxed(ProgressStyle::with_template(at.alloc, template.as_str())?)
 }
 
-/// The call that a step spells: `clear`, `log TEXT`, or a command of the bar.
+/// The call of a step: `clear`, `log TEXT`, or a command of the bar.
 pub fn lone_call(alloc: Global, text: &str) -> Result<LoneCall<NoTracker>, Bad> {
     if text == "clear" {
         return Ok(LoneCall::Clear);
@@ -55,7 +55,7 @@ pub fn lone_call(alloc: Global, text: &str) -> Result<LoneCall<NoTracker>, Bad> 
     }
 }
 
-/// Reads something of a bar's record; whether the text asks for that.
+/// Reads something from a bar's record; whether the text is such a reading.
 pub fn read_bar(bar: &Bar, text: &str, now: Moment, got: &mut Got) -> bool {
     let state = bar.state();
     match text {
@@ -79,7 +79,7 @@ pub fn read_bar(bar: &Bar, text: &str, now: Moment, got: &mut Got) -> bool {
     true
 }
 
-/// `lines COLS`: the lines, each with a newline behind it.
+/// `lines COLS`: the lines, each followed by a newline.
 fn read_lines(bar: &Bar, text: &str, now: Moment, got: &mut Got) -> bool {
     let Some(columns) = text.strip_prefix("lines ") else {
         return false;
@@ -91,7 +91,7 @@ fn read_lines(bar: &Bar, text: &str, now: Moment, got: &mut Got) -> bool {
     true
 }
 
-/// Appends the lines on so many columns, each with a newline behind it.
+/// Appends the lines for `columns` columns, each followed by a newline.
 pub fn push_lines(bar: &Bar, columns: u16, now: Moment, got: &mut Got) {
     match bar.lines(now, columns) {
         Ok(lines) => push_each(&lines, got),
@@ -106,7 +106,7 @@ fn push_each(lines: &[LineType], got: &mut Got) {
     }
 }
 
-/// `progress`, or of a finished bar whether it has lines: `visible`, `hidden`.
+/// `progress`, or for a finished bar whether it has lines: `visible`, `hidden`.
 fn push_state(bar: &Bar, now: Moment, got: &mut Got) {
     match bar.state().is_finished() {
         false => got.text("progress"),
@@ -121,7 +121,7 @@ fn push_state(bar: &Bar, now: Moment, got: &mut Got) {
     }
 }
 
-/// Appends the position, the length, the ticks, and whether the bar is finished, parted by spaces.
+/// Appends the position, the length, the ticks, and whether the bar is finished, separated by spaces.
 fn push_reached(state: &ProgressState, got: &mut Got) {
     got.number(state.pos());
     got.text(" ");
@@ -145,7 +145,7 @@ pub fn push_rate(rate: Rate, got: &mut Got) {
     got.number(rate.nanos);
 }
 
-/// The same; `0` where there are no steps.
+/// Appends a rate, or `0` if there are no steps.
 fn push_speed(rate: Rate, got: &mut Got) {
     if rate.steps == 0 {
         got.text("0");
@@ -154,7 +154,7 @@ fn push_speed(rate: Rate, got: &mut Got) {
     }
 }
 
-/// Appends what a command asks: `no`, `unforced` or `forced`.
+/// Appends the draw that a command asks for: `no`, `unforced` or `forced`.
 pub fn push_ask(ask: Ask, got: &mut Got) {
     got.text(match ask {
         Ask::No => "no",

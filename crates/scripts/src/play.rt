@@ -5,9 +5,9 @@ use crate::spelling::{Escaped, unescaped};
 use std::alloc::Global;
 use std::io::{self, BufRead};
 
-/// What steps are played on.
+/// The world on which steps are played.
 pub trait World {
-    /// Makes a step, and appends what it gives.
+    /// Makes a step, and appends its result.
     fn play(&mut self, step: &str, got: &mut Got) -> Result<(), Bad>;
 }
 
@@ -21,7 +21,7 @@ pub struct Tally {
 }
 
 impl Tally {
-    /// The rows of both.
+    /// The sum of both.
     pub fn and(self, other: Tally) -> Tally {
         Tally {
             passed: self.passed.saturating_add(other.passed),
@@ -40,7 +40,7 @@ impl Tally {
     }
 }
 
-/// The steps that come first in each row that begins with `+ `, and what they are to give.
+/// The steps that come first in each row that begins with `+ `, and their expected results.
 #[derive(Drop)]
 struct Given {
     steps: String,
@@ -62,7 +62,7 @@ impl Given {
     }
 }
 
-/// A world that is played on, what its last row gave, and what comes first in rows.
+/// A world, the result of its last row, and the steps that come first in rows.
 #[derive(Drop)]
 struct Player<'a, W> {
     alloc: Global,
@@ -91,7 +91,7 @@ impl<W: World> Player<'_, W> {
         }
     }
 
-    /// Whether a row gives what it says; `got` has what it gave.
+    /// Whether a row has its expected result; `got` has the actual one.
     fn agrees(&mut self, row: Row<'_>) -> bool {
         if let Some(steps) = row.steps.strip_prefix("given ") {
             let given = Row { steps, ..row };
@@ -103,21 +103,21 @@ impl<W: World> Player<'_, W> {
         }
     }
 
-    /// Whether the steps that come first give what they are to.
+    /// Whether the steps that come first have their expected results.
     fn begins(&mut self) -> bool {
         let Given { steps, wanted } = &self.given;
         play_steps(steps.as_str(), self.world, &mut self.got);
         is_wanted(self.alloc, &self.got, wanted.as_str())
     }
 
-    /// Whether the steps of a row give what it says.
+    /// Whether the steps of a row have their expected results.
     fn gives(&mut self, row: Row<'_>) -> bool {
         play_steps(row.steps, self.world, &mut self.got);
         is_wanted(self.alloc, &self.got, row.wanted)
     }
 }
 
-/// Makes steps one after another; `got` has what they gave.
+/// Makes steps one after another, with their results in `got`.
 fn play_steps<W: World>(steps: &str, world: &mut W, got: &mut Got) {
     got.clear();
     for step in steps.split("; ") {
@@ -128,7 +128,7 @@ fn play_steps<W: World>(steps: &str, world: &mut W, got: &mut Got) {
     }
 }
 
-/// Whether this was got.
+/// Whether this is the expected result.
 pub fn is_wanted(alloc: Global, got: &Got, wanted: &str) -> bool {
     match unescaped(alloc, wanted) {
         Ok(wanted) => !got.is_lost() && got.as_str() == wanted.as_str(),
@@ -136,7 +136,7 @@ pub fn is_wanted(alloc: Global, got: &Got, wanted: &str) -> bool {
     }
 }
 
-/// Plays the rows of what a reader gives, and prints each that differs under this name.
+/// Plays the rows of a reader, and prints each that differs under this name.
 pub fn play_rows<R: Print + Alloc<A = Global>, L: BufRead + Drop, W: World>(
     rt: &R,
     path: &str,
@@ -167,7 +167,7 @@ fn play_lines<R: Print + Alloc<A = Global>, L: BufRead + Drop, W: World>(
     Ok(tally)
 }
 
-/// Prints a row that differs, with its file and its line, and what came.
+/// Prints a row that differs, with its file and its line, and the actual result.
 pub fn print_row<R: Print>(
     rt: &R,
     (path, number): (&str, u64),

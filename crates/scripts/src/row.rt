@@ -5,17 +5,17 @@ use indicatif_text::columns::Moment;
 use std::alloc::Global;
 use std::str::FromStr;
 
-/// What a line asks for, and what that is to give.
+/// The steps of a line, and their expected result.
 #[derive(Clone, Copy, Drop)]
 pub struct Row<'a> {
-    /// One step, or several, parted by `; `.
+    /// One step, or several, separated by `; `.
     pub steps: &'a str,
-    /// What the steps are to give.
+    /// The expected result of the steps.
     pub wanted: &'a str,
 }
 
 impl<'a> Row<'a> {
-    /// The row of a line; `None` of one that is passed over.
+    /// The row of a line; `None` if it is skipped.
     pub fn of(line: &'a str) -> Option<Row<'a>> {
         if line.is_empty() || line.starts_with('#') {
             return None;
@@ -30,17 +30,17 @@ impl<'a> Row<'a> {
     }
 }
 
-/// Where a step takes its memory, and when it is made.
+/// The allocator and the moment of a step.
 #[derive(Clone, Copy, Drop)]
 pub struct At {
-    /// Where the memory is taken.
+    /// The allocator.
     pub alloc: Global,
     /// The moment of the step.
     pub now: Moment,
 }
 
 impl At {
-    /// A value in a box: each way out of a function drops it by one call.
+    /// A value in a box, so that each way out of a function drops it by one call.
     pub fn boxed<V: Drop>(self, value: V) -> Result<Box<V>, Bad> {
         match Box::new(self.alloc, value) {
             Ok(boxed) => Ok(boxed),
@@ -49,7 +49,7 @@ impl At {
     }
 }
 
-/// A step without the moment behind it, ` @` and nanoseconds, and that moment.
+/// A step without its moment (` @` and nanoseconds at its end), and that moment.
 pub fn timed(step: &str) -> (&str, Option<Moment>) {
     match step.rsplit_once(" @") {
         Some((before, moment)) => match moment.parse::<u64>() {
@@ -60,13 +60,13 @@ pub fn timed(step: &str) -> (&str, Option<Moment>) {
     }
 }
 
-/// The first word of a text, and what stands behind the space.
+/// The first word of a text, and the text after the space.
 pub fn headed(text: &str) -> (&str, &str) {
     text.split_once(' ').unwrap_or((text, ""))
 }
 
-/// The words of a step, read one after another. One that can't be read is remembered: what was read has no meaning then, and neither
-/// `done` nor `text` gives anything.
+/// The words of a step, read one after another. One that can't be read is remembered: then what was read has no meaning, and neither `done`
+/// nor `text` returns anything.
 #[derive(Clone, Copy, Drop)]
 pub struct Words<'a> {
     rest: &'a str,
@@ -75,7 +75,7 @@ pub struct Words<'a> {
 }
 
 impl<'a> Words<'a> {
-    /// The words of a text, parted by spaces.
+    /// The words of a text, separated by spaces.
     pub fn of(text: &'a str) -> Words<'a> {
         Words {
             rest: text,
@@ -84,7 +84,7 @@ impl<'a> Words<'a> {
         }
     }
 
-    /// Those that tabs part.
+    /// The words of a text, separated by tabs.
     pub fn in_fields(text: &'a str) -> Words<'a> {
         Words {
             rest: text,
@@ -93,7 +93,7 @@ impl<'a> Words<'a> {
         }
     }
 
-    /// What is left.
+    /// The rest.
     pub fn rest(&self) -> &'a str {
         self.rest
     }
@@ -108,7 +108,7 @@ impl<'a> Words<'a> {
         word
     }
 
-    /// What a word spells, if it could be read; else this.
+    /// The value of a word, if it could be read; otherwise this.
     pub fn value<V: Drop>(&mut self, read: Result<V, Bad>, otherwise: V) -> V {
         match read {
             Ok(value) => value,
@@ -119,7 +119,7 @@ impl<'a> Words<'a> {
         }
     }
 
-    /// The number that the next word spells.
+    /// The next word as a number.
     pub fn number<N: FromStr + Default + Drop>(&mut self) -> N
     where
         N::Err: Drop,
@@ -128,7 +128,7 @@ impl<'a> Words<'a> {
         self.value(number(word), N::default())
     }
 
-    /// The number that all that is left spells.
+    /// The rest as a number.
     pub fn last<N: FromStr + Default + Drop>(&mut self) -> N
     where
         N::Err: Drop,
@@ -136,19 +136,19 @@ impl<'a> Words<'a> {
         self.value(number(self.rest), N::default())
     }
 
-    /// The number that the next word spells, or `-` for none.
+    /// The next word as a number, or `-` for none.
     pub fn optional(&mut self) -> Option<u64> {
         let word = self.word();
         self.value(optional(word), None)
     }
 
-    /// What the next word says: `yes` or `no`.
+    /// The next word as a flag: `yes` or `no`.
     pub fn flag(&mut self) -> bool {
         let word = self.word();
         self.value(flag(word), false)
     }
 
-    /// A word can't be read.
+    /// Notes that a word can't be read.
     pub fn spoil(&mut self) {
         self.is_bad = true;
     }
@@ -161,7 +161,7 @@ impl<'a> Words<'a> {
         }
     }
 
-    /// The text that is left, with what its escapes stand for, if all words could be read.
+    /// The rest as a text, with its escapes replaced, if all words could be read.
     pub fn text(self, alloc: Global) -> Result<String, Bad> {
         match self.is_bad {
             true => Err(Bad::Step),

@@ -1,4 +1,4 @@
-//! A terminal behind a writer: what stands on it can be read at any time, and its writer fails or takes little where that is asked.
+//! A terminal behind a writer: its rows can be read at any time, and its writer fails or takes little if a row asks for it.
 use crate::got::{Bad, Got};
 use crate::row::{At, Words, headed};
 use crate::spelling::{number, unescaped, unescaped_bytes};
@@ -12,10 +12,10 @@ use std::io;
 use std::io::{Error, ErrorKind, Write};
 use std::rc::Rc;
 
-/// What a call of the writer answers that takes nothing.
+/// How a call of the writer that takes nothing ends.
 #[derive(Clone, Copy)]
 enum Halt {
-    /// That it took no byte.
+    /// It took no byte.
     Nothing,
     /// A failure of this kind.
     Failure(ErrorKind),
@@ -24,19 +24,19 @@ enum Halt {
 /// How the writer fails.
 #[derive(Clone, Copy)]
 struct Limits {
-    /// How many bytes a call takes at most.
+    /// The most bytes that a call takes.
     takes: usize,
-    /// How many calls from now on the one is that fails; none where it is 0.
+    /// How many calls from now on the one that fails is; none if it is 0.
     fails_call: u64,
-    /// After how many bytes calls halt.
+    /// The number of bytes after which calls halt.
     halts_at: u64,
     /// How they do.
     halt: Halt,
-    /// How many of them do.
+    /// How many calls halt.
     halts: u64,
 }
 
-/// What the writer was given so far.
+/// How much the writer got so far.
 #[derive(Clone, Copy)]
 struct Counts {
     bytes: u64,
@@ -53,17 +53,17 @@ pub struct Screen {
     counts: Cell<Counts>,
 }
 
-/// What a look at a screen sees.
+/// The state of a screen.
 #[derive(Drop)]
 pub struct Look {
     /// How many bytes were written.
     pub bytes: u64,
-    /// What stands there.
+    /// The rows that stand there.
     pub contents: Result<String, Refusal>,
 }
 
 impl Look {
-    /// Appends what a call answered, and behind a space what stood on the screen, if anything.
+    /// Appends the answer of a call, and after a space the rows on the screen, if any.
     pub fn push(self, answer: Result<Drawn, Refusal>, got: &mut Got) {
         match self.contents {
             Ok(contents) => {
@@ -100,7 +100,7 @@ impl Screen {
         Ok(Rc::new(alloc, screen)?)
     }
 
-    /// What stands in the window.
+    /// The rows of the window.
     pub fn contents(&self) -> Result<String, Refusal> {
         match self.cells.try_borrow() {
             Ok(cells) => cells.contents(),
@@ -108,7 +108,7 @@ impl Screen {
         }
     }
 
-    /// What stands in the window, and how many bytes were taken.
+    /// The rows of the window, and the number of bytes that were taken.
     pub fn look(&self) -> Look {
         Look {
             bytes: self.counts.get().bytes,
@@ -116,7 +116,7 @@ impl Screen {
         }
     }
 
-    /// All rows, also those scrolled away.
+    /// All rows, including those that scrolled away.
     pub fn picture(&self) -> Result<Vec<String>, Refusal> {
         match self.cells.try_borrow() {
             Ok(cells) => cells.picture(),
@@ -139,7 +139,7 @@ impl Screen {
         }
     }
 
-    /// Fails where this call of the writer is the one that does.
+    /// Fails if this is the call of the writer that has to.
     fn admit(&self) -> io::Result<()> {
         let mut limits = self.limits.get();
         if limits.fails_call == 0 {
@@ -182,7 +182,7 @@ impl Screen {
         }
     }
 
-    /// Gets another size, as the terminal before it does.
+    /// Gets another size, with the terminal that writes to it.
     pub fn resize(&self, rows: u16, cols: u16) -> Result<(), Refusal> {
         match self.cells.try_borrow_mut() {
             Ok(mut cells) => cells.resize(rows, cols),
@@ -233,32 +233,32 @@ impl Write for Wire {
 /// A terminal behind such a writer.
 pub type Behind = Term<Wire>;
 
-/// What is drawn on.
+/// A target to draw on.
 #[derive(Drop)]
 pub struct Target(pub ProgressDrawTarget<Behind>);
 
-/// A new screen of the next words, `ROWS COLS`, and the terminal before it.
+/// A new screen with the size of the next words, `ROWS COLS`, and the terminal that writes to it.
 pub fn terminal(words: &mut Words<'_>, at: At) -> Result<(Rc<Screen>, Behind), Bad> {
     let size = (words.number(), words.number());
     before_screen(words.done(size)?, at)
 }
 
-/// A terminal before a new screen. One that says it has no rows, or no columns, stands before a screen of one.
+/// A terminal that writes to a new screen. If its size has no rows or no columns, the screen has one.
 fn before_screen((rows, cols): (u16, u16), at: At) -> Result<(Rc<Screen>, Behind), Bad> {
     let screen = Screen::new(at.alloc, rows.max(1), cols.max(1))?;
     let wire = Wire(screen.clone()?);
     Ok((screen, Term::new(wire, rows, cols)))
 }
 
-/// The size that the words spell: `ROWS COLS`.
+/// The size of the words `ROWS COLS`.
 pub fn size(words: &str) -> Result<(u16, u16), Bad> {
     let mut words = Words::of(words);
     let size = (words.number(), words.last());
     words.done(size)
 }
 
-/// A new screen of the next words, `ROWS COLS RATE`, and the target that draws on it; a rate of 0 is none. `hidden`: a target that
-/// draws nowhere.
+/// A new screen of the next words, `ROWS COLS RATE`, and the target that draws on it; a rate of 0 means no limit. `hidden`: a hidden
+/// target.
 pub fn begin(words: &mut Words<'_>, at: At) -> Result<(Rc<Screen>, Target), Bad> {
     let mut behind = *words;
     if behind.word() == "hidden" {
@@ -279,7 +279,7 @@ pub fn begin(words: &mut Words<'_>, at: At) -> Result<(Rc<Screen>, Target), Bad>
     }
 }
 
-/// Looks at a screen, puts bytes there, or has its writer fail; whether the step asks for that.
+/// Reads a screen, puts bytes there, or makes its writer fail; whether the step asks for that.
 pub fn look_at(screen: &Screen, step: &str, at: At, got: &mut Got) -> bool {
     match step {
         "shows" => got.text_of(screen.contents()),
@@ -306,7 +306,7 @@ pub fn look_at(screen: &Screen, step: &str, at: At, got: &mut Got) -> bool {
     true
 }
 
-/// Appends how many rows a text has.
+/// Appends the number of rows of a text.
 fn push_count(contents: Result<String, Refusal>, got: &mut Got) {
     match contents {
         Ok(contents) => got.number(contents.as_str().split('\n').count()),
@@ -314,7 +314,7 @@ fn push_count(contents: Result<String, Refusal>, got: &mut Got) {
     }
 }
 
-/// `row N`: a row of what stands in the window, counted from 1; nothing past its end.
+/// `row N`: a row of the window, counted from 1; nothing past its end.
 fn push_row(screen: &Screen, number_of_row: &str, got: &mut Got) {
     match (number::<usize>(number_of_row), screen.contents()) {
         (Ok(row), Ok(contents)) => {
@@ -345,7 +345,7 @@ pub fn filled(rows: &[String]) -> &[String] {
     rows.get(..count).unwrap_or(rows)
 }
 
-/// Tells a row, or how the rows end; puts bytes there, or has the writer fail; whether the step asks for that.
+/// Reads a row, or the end of the rows; puts bytes there, or makes the writer fail; whether the step asks for that.
 fn named(screen: &Screen, (name, rest): (&str, &str), at: At, got: &mut Got) -> bool {
     match name {
         "row" => push_row(screen, rest, got),
@@ -394,8 +394,8 @@ fn feed(screen: &Screen, text: &str, at: At, got: &mut Got) {
     }
 }
 
-/// `takes N`: a call of the writer takes so many bytes at most. `fails_call N`: of its calls, flushes among them, the one of this number
-/// fails, counted from now on. `halts AT KIND TIMES`: calls halt when so many bytes were taken.
+/// `takes N`: a call of the writer takes at most N bytes. `fails_call N`: the Nth of its calls from now on fails, flushes included. `halts
+/// AT KIND TIMES`: calls halt after AT bytes.
 fn limit(screen: &Screen, name: &str, rest: &str, got: &mut Got) -> bool {
     let mut words = Words::of(rest);
     let mut limits = screen.limits.get();
@@ -416,7 +416,7 @@ fn limit(screen: &Screen, name: &str, rest: &str, got: &mut Got) -> bool {
     true
 }
 
-/// The way to halt that the next word says: `nothing`, `BrokenPipe` or `Interrupted`.
+/// The way to halt of the next word: `nothing`, `BrokenPipe` or `Interrupted`.
 fn next_halt(words: &mut Words<'_>) -> Halt {
     match words.word() {
         "nothing" => Halt::Nothing,

@@ -4,7 +4,7 @@ use std::alloc::{AllocError, Global};
 use std::fmt;
 use std::str::FromStr;
 
-/// The number that a text spells.
+/// A text as a number.
 pub fn number<N: FromStr>(text: &str) -> Result<N, Bad>
 where
     N::Err: Drop,
@@ -33,7 +33,7 @@ pub fn flag(text: &str) -> Result<bool, Bad> {
     }
 }
 
-/// The text that escapes stand for: `\n`, `\t`, `\r`, `\0`, `\e`, `\s` for a space, `\u{HEX}` for a character, `\xHH` for a byte, and
+/// The text with its escapes replaced: `\n`, `\t`, `\r`, `\0`, `\e`, `\s` for a space, `\u{HEX}` for a character, `\xHH` for a byte, and
 /// `\\`.
 pub fn unescaped(alloc: Global, text: &str) -> Result<String, Bad> {
     match unescaped_bytes(alloc, text) {
@@ -45,7 +45,7 @@ pub fn unescaped(alloc: Global, text: &str) -> Result<String, Bad> {
     }
 }
 
-/// The bytes that they stand for, which may be no text.
+/// The bytes of a text with its escapes replaced, which may not be UTF-8.
 pub fn unescaped_bytes(alloc: Global, text: &str) -> Result<Vec<u8>, Bad> {
     let mut bytes = Vec::new(alloc);
     let mut place = Place::Plain;
@@ -58,26 +58,26 @@ pub fn unescaped_bytes(alloc: Global, text: &str) -> Result<Vec<u8>, Bad> {
     }
 }
 
-/// Where in an escape one is, if in any.
+/// The place in an escape.
 #[derive(Clone, Copy)]
 enum Place {
-    /// In none.
+    /// Outside.
     Plain,
-    /// Behind a backslash.
+    /// After a backslash.
     Begun,
-    /// Behind `\u`.
+    /// After `\u`.
     Named,
-    /// Behind `\u{` and digits of this number.
+    /// After `\u{` and the digits of this number.
     Number(u32),
-    /// Behind `\x`.
+    /// After `\x`.
     Byte,
-    /// Behind `\x` and this digit.
+    /// After `\x` and this digit.
     HalfByte(u32),
-    /// Behind something that is no escape, or that there was no memory for.
+    /// After an invalid escape, or one that there was no memory for.
     Lost,
 }
 
-/// Reads a character at a place, and appends what ends with it.
+/// Reads a character at a place, and appends the character or byte that ends with it.
 fn read(place: Place, c: char, bytes: &mut Vec<u8>) -> Place {
     match (place, c) {
         (Place::Plain, '\\') => Place::Begun,
@@ -124,7 +124,7 @@ fn pushed(done: Result<(), AllocError>) -> Place {
     }
 }
 
-/// The character that a letter behind a backslash stands for.
+/// The character of the escape with this letter.
 fn lettered(letter: char) -> Option<char> {
     match letter {
         'n' => Some('\n'),
@@ -138,7 +138,7 @@ fn lettered(letter: char) -> Option<char> {
     }
 }
 
-/// A text with its escapes, as rows spell it. The options of a hole are ignored.
+/// A text with its escapes, as in rows. Format options are ignored.
 #[derive(Clone, Copy, Drop)]
 pub struct Escaped<'a>(pub &'a str);
 

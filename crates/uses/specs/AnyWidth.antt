@@ -11,12 +11,11 @@ use Rattle.indicatif_term.specs.declared.own_rows.OwnRows.{OwnRows}
 abbrev pub two_lines : List ℕ → List (List ℕ)
 two_lines text = line_bytes text ∷ line_bytes text ∷ [] ∷ []
 
--- calls that write a line in the place of two
+-- calls that write a line over two
 abbrev pub in_place : List ℕ → List (List ℕ)
 in_place text = move_bytes UP 2 ∷ clear_bytes ∷ line_bytes text ∷ clear_bytes ∷ line_bytes text ∷ [] ∷ []
 
--- what was written to the terminal behind an `OwnRows` since it was made: whatever terminal got these bytes, of any number of columns, the rows
--- above its cursor's stand after each byte
+-- what was written to the terminal behind an `OwnRows` since it was made: on any terminal that got these bytes, with any number of columns, the rows above its cursor's stand after each byte
 pub record RowsAboveStand {T : Type 0} (view : T → TermView) (term : T) (own : OwnRows T) : Type 0 where
   pub bytes : List ℕ
   pub told_is : IsTrue (is_told (view term).told) → (view (inner_term own)).told ≡ led_on (view term).told bytes

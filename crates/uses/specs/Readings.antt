@@ -1,4 +1,4 @@
--- What is read of rows, and where a terminal starts.
+-- Texts of rows, and where a terminal starts.
 use Rattle.std.specs.Prelude.{◌≡◌, ℕ, ◌++◌, List, [], map, replicate}
 use Rattle.indicatif_text.specs.Columns.{Cell}
 use Rattle.indicatif_term.specs.Screen.{Screen}

@@ -1,4 +1,4 @@
-//! Exact answers of a bar or a board that was lent, whatever was done with it before.
+//! Exact answers of a bar or a board that you are lent, whatever was done with it before.
 ghost use Rattle.std.specs.Prelude.{◌≡◌, ◌≢◌, ◌↔◌, ◌⊎◌, Some, None, Ok, Err, IsTrue, IsFalse};
 ghost use Rattle.indicatif_term.specs.Calls.{TermView};
 ghost use Rattle.indicatif_term.specs.Engines.{Paints, is_failure};
@@ -24,7 +24,7 @@ use indicatif_term::draw_target::ProgressDrawTarget;
 use indicatif_term::term_like::TermLike;
 use indicatif_text::columns::{Drawn, Moment, Refusal};
 
-/// A command of a bar. Each answer comes exactly where the definition of a call says, in a state that the bar was in.
+/// A command of a bar. Each answer comes exactly as the definition of a call says, in a state that the bar was in.
 pub fn tell<K: ProgressTracker, T: TermLike + Drop>(
     bar: &mut LoneBar<K, T>,
     command: BarCommand<K>,
@@ -38,8 +38,7 @@ pub fn tell<K: ProgressTracker, T: TermLike + Drop>(
     bar.call(LoneCall::Bar(command), now)
 }
 
-/// Takes a bar's rows back. Where the terminal has columns that is done, or the terminal fails: that is so exactly where its faults
-/// grew. No memory is taken for it.
+/// Clears a bar's rows. If the terminal has columns that is done, or the terminal fails, exactly if its faults grew. It takes no memory.
 pub fn take_back<K: ProgressTracker, T: TermLike + Drop>(
     bar: &mut LoneBar<K, T>,
     now: Moment,
@@ -54,8 +53,8 @@ pub fn take_back<K: ProgressTracker, T: TermLike + Drop>(
     bar.clear(now)
 }
 
-/// Logs a text above a bar. A character that is wider than the terminal is refused, unless memory is first. That is refused only
-/// where the bar has lines to lay out, which it hasn't once it was finished and cleared.
+/// Logs a text above a bar. A character that is wider than the terminal is refused, unless memory is refused first: that happens only if
+/// the bar has lines to lay out, which it hasn't once it was finished and cleared.
 pub fn log<K: ProgressTracker, T: TermLike + Drop>(
     bar: &mut LoneBar<K, T>,
     text: &str,
@@ -70,7 +69,7 @@ pub fn log<K: ProgressTracker, T: TermLike + Drop>(
     bar.println(text, now)
 }
 
-/// A steady ticker's tick of a bar that goes on at another terminal, without a limiter: it is never left out.
+/// A steady ticker's tick of a bar that moves to another terminal, without a limiter: it is never left out.
 pub fn tick_on<K: ProgressTracker, T: TermLike + Drop>(
     bar: &mut LoneBar<K, T>,
     term: T,
@@ -85,8 +84,8 @@ pub fn tick_on<K: ProgressTracker, T: TermLike + Drop>(
     bar.ticker_tick(now)
 }
 
-/// A steady ticker's tick of a bar on a board that goes on at another terminal, without a limiter: it is never left out, though no
-/// draw is forced.
+/// A steady ticker's tick of a bar on a board that moves to another terminal, without a limiter: it is never left out, although no draw is
+/// forced.
 pub fn tick_on_board<K: ProgressTracker, T: TermLike + Drop>(
     board: &mut Board<K, T>,
     id: BarId,
@@ -101,7 +100,7 @@ pub fn tick_on_board<K: ProgressTracker, T: TermLike + Drop>(
     board.command(id, BarCommand::TickerTick, now)
 }
 
-/// A command of a bar on a board. Each answer comes exactly where the definition of a call says, in a state that the board was in.
+/// A command of a bar on a board. Each answer comes exactly as the definition of a call says, in a state that the board was in.
 pub fn tell_on<K: ProgressTracker, T: TermLike + Drop>(
     board: &mut Board<K, T>,
     id: BarId,
@@ -116,9 +115,9 @@ pub fn tell_on<K: ProgressTracker, T: TermLike + Drop>(
     board.command(id, command, now)
 }
 
-/// Takes the bars' rows back. Where the terminal has columns that is done, or the terminal fails: that is so exactly where its faults
-/// grew. No memory is taken for it. If it was done, the dropped bars at the head leave the order; else nobody does. Whatever was done with
-/// the board before, the call paints what its rows come to: it writes no lines, so no text has to be plain for that.
+/// Clears the bars' rows. If the terminal has columns that is done, or the terminal fails, exactly if its faults grew. It takes no memory.
+/// If it was done, the dropped bars at the head leave the order; otherwise none does. Whatever was done with the board before, the call
+/// paints its rows: it writes no lines, so no text has to be plain.
 pub fn take_bars_back<K: ProgressTracker, T: TermLike + Drop>(
     board: &mut Board<K, T>,
     now: Moment,
@@ -141,7 +140,7 @@ pub fn take_bars_back<K: ProgressTracker, T: TermLike + Drop>(
     drawn
 }
 
-/// Takes a bar in right before another one, which may be gone: then the new one is refused, and the board is as it was.
+/// Inserts a bar right before another one, which may be gone: then the new one is refused, and the board is unchanged.
 pub fn stand_before<K: ProgressTracker, T: TermLike + Drop>(
     board: &mut Board<K, T>,
     anchor: BarId,
@@ -155,7 +154,7 @@ pub fn stand_before<K: ProgressTracker, T: TermLike + Drop>(
     }
 }
 
-/// Takes in a bar that may be there already, or gone: then it is refused, and the board is as it was.
+/// Inserts a bar that may be there already, or gone: then it is refused, and the board is unchanged.
 pub fn stand_again<K: ProgressTracker, T: TermLike + Drop>(
     board: &mut Board<K, T>,
     id: BarId,

@@ -1,4 +1,4 @@
-//! Which rows stand above lines that are drawn on a terminal of which nobody knows how wide it is.
+//! Which rows stand above lines that are drawn on a terminal of unknown width.
 ghost use Rattle.std.specs.Prelude.{IsTrue, chars, ◌++◌};
 ghost use Rattle.indicatif_text.specs.Columns.{is_plain};
 ghost use Rattle.indicatif_term.specs.EndedRows.{OwnDraws};
@@ -8,9 +8,9 @@ use indicatif_term::laws::{how_far_calls_lead, what_own_rows_draw};
 use indicatif_term::term_like::{OwnRows, TermLike};
 use std::io;
 
-/// Writes a line twice on a terminal of unknown width, goes up to the first, and writes another one in the place of both.
+/// Writes a line twice on a terminal of unknown width, goes up to the first, and writes another one over both.
 ///
-/// Whatever the terminal's true width is, no row above the first line ever changes, between two bytes either, also where a call fails.
+/// Whatever the terminal's true width is, no row above the first line ever changes, not even between two bytes or if a call fails.
 pub fn lines_in_place<T: TermLike>(
     term: T,
     first: &str,
@@ -28,7 +28,7 @@ pub fn lines_in_place<T: TermLike>(
     (own, drawn)
 }
 
-/// The same on one that was just made.
+/// Draws these lines on a new terminal.
 fn draw<T: TermLike>(own: &mut OwnRows<T>, first: &str, second: &str) -> io::Result<()>
     requires first { IsTrue (is_plain (chars first.now)) }
     requires second { IsTrue (is_plain (chars second.now)) }

@@ -36,7 +36,7 @@ pub fn none_failed(answers: &[Answer]) -> Result<(), Refusal>
 
 /// The texts of the rows that stand after these calls of a board, which begins on this terminal.
 ///
-/// Refused: `Memory`; or the terminal's failure, where it broke a call off.
+/// Refused: `Memory`; or the terminal's failure, if it broke a call off.
 pub fn picture_after<K: ProgressTracker>(
     alloc: Global,
     term: InMemoryTerm,

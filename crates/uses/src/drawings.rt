@@ -1,4 +1,4 @@
-//! What a terminal shows after one drawing.
+//! What a terminal shows after one draw.
 ghost use Rattle.std.specs.Prelude.{false, map, IfOk, IsTrue, string_bytes};
 ghost use Rattle.indicatif_term.specs.Lists.{all_rows, drawn, opening_lists};
 ghost use Rattle.indicatif_term.specs.Frames.{bar_lines, all_lines, are_plain};
@@ -10,7 +10,7 @@ use indicatif_term::laws::{a_new_terminal_is_an_opening, what_is_shown_is_read};
 use indicatif_text::columns::Refusal;
 use std::alloc::Global;
 
-/// The texts of the rows that bars show on a new terminal of so many rows and columns.
+/// The texts of the rows that bars show on a new terminal of this size.
 pub fn rows_shown(alloc: Global, size: (u16, u16), bars: &[Segment]) -> Result<Vec<String>, Refusal>
     ensures { IfOk result (λ texts. let frame = map bar_lines bars.now in IsTrue (are_plain (all_lines frame)) →
         AreTextsOf (map (λ text. string_bytes text) texts.items)

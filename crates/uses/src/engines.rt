@@ -1,4 +1,4 @@
-//! What engines show of fixed lines, also behind a failure; and how often a limiter allows at once.
+//! What engines show of fixed lines, also after a failure; and how many draws a limiter allows at once.
 ghost use Rattle.std.specs.Prelude.{◌≡◌, ◌⊎◌, ◌++◌, ◌∷◌, [], ℕ, map, take, replicate, codes, false, IsTrue, IfOk, IfErr};
 ghost use Rattle.indicatif_term.specs.Calls.{State};
 ghost use Rattle.indicatif_term.specs.Engines.{Fits, engine_term};
@@ -16,8 +16,8 @@ use indicatif_term::term_like::TermLike;
 use indicatif_text::columns::Refusal;
 use std::io::ErrorKind;
 
-/// Logs `a.txt` above three lines on a new terminal of 4 rows and 5 columns, and draws two lines in their place. The second of these
-/// stands there already, fills its row and ends with a colour. Nothing is left of the other lines then.
+/// Logs `a.txt` above three lines on a new terminal of 4 rows and 5 columns, and draws two lines in their place. The second of these stands
+/// there already, fills its row and ends with a colour. Nothing is left of the other lines.
 ///
 /// Refused: `Memory`, also as the terminal's own failure.
 pub fn lines_in_place(
@@ -42,7 +42,7 @@ pub fn lines_in_place(
 
 /// Two bars at the bottom of a new terminal of 4 rows and 5 columns. The second is dropped while the first stands above it, and the first
 /// once it stands alone below two blank rows; then two more rows let one of these scroll away. It stays above `a.txt`, and nothing else
-/// does. Answers what became of the second bar's rows.
+/// does. Returns whether the second bar's rows were kept.
 pub fn rows_of_gone_bars(
     engine: &mut Engine<InMemoryTerm>,
     both: &[Segment],
@@ -68,8 +68,8 @@ pub fn rows_of_gone_bars(
     Ok(fate)
 }
 
-/// Logs a name on a terminal of 4 rows and 10 columns that has failed. Where the end of a line and an emptied row lead it to an opening,
-/// the name stands on that row, and what stood above still does.
+/// Logs a name on a terminal of 4 rows and 10 columns that has failed. If a line end and an emptied row lead it to an opening, the name
+/// stands on that row, and what stood above still does.
 pub fn name_behind_a_failure<T: TermLike + Drop>(engine: &mut Engine<T>) -> Result<(), Refusal>
     requires failed { Fits engine.old forgotten_lists }
     requires columns { (T.view (engine_term engine.old)).columns ≡ 10 }
@@ -83,7 +83,7 @@ pub fn name_behind_a_failure<T: TermLike + Drop>(engine: &mut Engine<T>) -> Resu
     engine.log("a.txt", &[], MultiProgressAlignment::Top)
 }
 
-/// Draws on an engine. Where its terminal fails, the engine remembers no line that it drew before.
+/// Draws on an engine. If its terminal fails, the engine remembers no line that it drew before.
 pub fn forgotten_by_a_failure<T: TermLike + Drop>(
     engine: &mut Engine<T>,
     frame: &[Segment],

@@ -1,4 +1,4 @@
-//! What is known of shared bars and boards, and of lists and pieces that threads work on.
+//! What is proved about shared bars and boards, and about lists and pieces that threads work on.
 ghost use Rattle.std.specs.Prelude.{◌≡◌, ◌≢◌, ◌⊎◌, ◌<◌, ◌+◌, ◌*◌, ◌%◌, ◌^◌, IfOk, IfErr, IfSome, OnOk, Some, Ok, Err, length};
 ghost use Rattle.std.specs.List.{AllZip};
 ghost use Rattle.indicatif_text.specs.declared.refusal.Drawn.TheVariants.{Limited};
@@ -18,7 +18,7 @@ use std::alloc::Global;
 use std::sync::Wait;
 use std::thread::Threads;
 
-/// A draw by force, which no limiter puts off, wherever the bar stands.
+/// A forced draw, which no limiter puts off, wherever the bar stands.
 #[tactic(auto, unfolding(indicatif::specs::Fronts::CanAnswer))]
 pub fn drawn_now<T: TermLike + Drop, C: Clock + Drop, R: Wait + Clone + Drop, K: Tracks>(
     bar: &ProgressBar<T, C, R, K>,
@@ -28,7 +28,8 @@ pub fn drawn_now<T: TermLike + Drop, C: Clock + Drop, R: Wait + Clone + Drop, K:
     bar.force_draw()
 }
 
-/// The number after this one, found while the rows of a bar are taken back; where the bar's step is refused, a bar can refuse it so.
+/// The number after this one, computed while the rows of a bar are cleared; if the bar's step is refused, it is with a refusal that a bar
+/// can give.
 pub fn next_beside<T: TermLike + Drop, C: Clock + Drop, R: Wait + Clone + Drop, K: Tracks>(
     bar: &ProgressBar<T, C, R, K>,
     number: u32,
@@ -49,7 +50,7 @@ pub fn next_beside<T: TermLike + Drop, C: Clock + Drop, R: Wait + Clone + Drop, 
     }
 }
 
-/// The same, found while the rows of all bars of a board are taken back.
+/// The number after this one, computed while the rows of all bars of a board are cleared.
 pub fn next_above<T: TermLike + Drop, C: Clock + Drop, R: Wait + Clone + Drop, K: Tracks>(
     board: &MultiProgress<T, C, R, K>,
     number: u32,
@@ -64,8 +65,8 @@ pub fn next_above<T: TermLike + Drop, C: Clock + Drop, R: Wait + Clone + Drop, K
     next
 }
 
-/// Each number of a list doubled, in order, by threads, whatever bar is moved; one that tells where it stands has gone on by as many
-/// as there are numbers, once each.
+/// Each number of a list doubled, in order, by threads, whatever bar is moved; a bar whose position can be read has advanced by as many as
+/// there are numbers, once each.
 pub fn doubled<R: Threads + Sync, P: Moves + Drop>(
     rt: &R,
     alloc: Global,
@@ -85,7 +86,7 @@ pub fn doubled<R: Threads + Sync, P: Moves + Drop>(
     )
 }
 
-/// Each number of each piece doubled, in order, by threads that count for a shared bar; `ZeroPieces` and `Memory` alone are refused.
+/// Each number of each piece doubled, in order, by threads that count for a shared bar; only `ZeroPieces` and `Memory` are refused.
 pub fn doubled_pieces<
     R: Threads + Wait + Sync,
     G: Gate,

@@ -1,4 +1,4 @@
-//! What a board's history holds of a call, and what it says of the board.
+//! What a board's history holds of a call, and what follows for the board.
 ghost use Rattle.std.specs.Prelude.{◌≡◌, ◌+◌, ◌-◌, ◌/◌, ◌%◌, ◌^◌, ◌≤◌, ◌⊎◌, ◌≢◌, ◌++◌, ℕ, List, Some, None, IfOk, All, true, length, map, take, flat_map, string_bytes};
 ghost use Rattle.std.specs.List.{last_or};
 ghost use Rattle.std.specs.declared.io.ErrorKind.TheVariants.{Other};
@@ -45,7 +45,7 @@ pub fn kept_of_a_clear(alloc: Global) -> Result<usize, Refusal>
     }
 }
 
-/// Takes the rows of a board with a history back. The board makes the call itself: so that is answered as a draw is, and never by `Done`.
+/// Clears the rows of a board with a history. The board makes the call itself, so the answer is that of a draw, and never `Done`.
 pub fn answer_of_a_clear<K: ProgressTracker, T: TermLike + Drop>(
     history: &mut Recorded<K, T>,
     now: Moment,
@@ -70,8 +70,8 @@ pub fn step_kept<K: ProgressTracker, T: TermLike + Drop>(
     history.apply(Call::Bar(id, BarCommand::Inc(1)), now).0
 }
 
-/// Two histories of boards that began alike and made the same calls. Where neither terminal failed and no memory was refused, both
-/// boards gave the same answers, in whichever threads the calls were made.
+/// Two histories of boards that began alike and made the same calls. If neither terminal failed and no memory was refused, both boards gave
+/// the same answers, in whichever threads the calls were made.
 pub fn same_answers<K: ProgressTracker, T: TermLike + Drop>(
     one: &Recorded<K, T>,
     other: &Recorded<K, T>,
@@ -86,7 +86,8 @@ pub fn same_answers<K: ProgressTracker, T: TermLike + Drop>(
     what_a_history_says::<K, T>();
 }
 
-/// Logs a text on a board with a history, which threads may share. Answered `Yes`, its rows stand above in the run that the history holds.
+/// Logs a text on a board with a history, which threads may share. If the answer is `Yes`, its rows stand above in the run that the history
+/// holds.
 pub fn log_kept<K: ProgressTracker, T: TermLike + Drop>(
     history: &mut Recorded<K, T>,
     text: String,
@@ -113,10 +114,10 @@ pub fn unforced_are_few<K: ProgressTracker, T: TermLike + Drop>(history: &Record
     what_a_history_says::<K, T>();
 }
 
-/// The texts of the rows of a board's terminal. Where it showed an opening when the history began, the history is a run on it, and no call
-/// was broken off, they are the untouched rows and those of the run's lists.
+/// The texts of the rows of a board's terminal. If it showed an opening when the history began, the history is a run on it, and no call was
+/// broken off, they are the untouched rows and those of the run's lists.
 ///
-/// Refused: `Memory`, also where the board is hidden.
+/// Refused: `Memory`, also if the board is hidden.
 pub fn picture_kept<K: ProgressTracker>(
     history: &Recorded<K, InMemoryTerm>,
 ) -> Result<Vec<String>, Refusal>

@@ -1,4 +1,4 @@
-//! What is known of a bar or a board that was lent, by one who doesn't know how it was used before.
+//! What is proved about a bar or a board that you are lent, without knowing how it was used before.
 ghost use Rattle.std.specs.Prelude.{◌≡◌, ◌≢◌, ◌⊎◌, ◌+◌, ◌%◌, ◌^◌, ℕ, Some, None, Ok, Err, IfOk, IsTrue, IsFalse, is_some, string_bytes, vec_len, if◌then◌else◌};
 ghost use Rattle.std.specs.List.{list_any};
 ghost use Rattle.indicatif_bar.specs.Commands.{BarRecord};
@@ -37,8 +37,8 @@ pub fn say<K: ProgressTracker, T: TermLike + Drop>(
     bar.set_message(text, now)
 }
 
-/// Draws a bar that was lent by force. Whatever was done with it before: where there is nothing to draw on the answer says why, and
-/// the terminal's faults grow exactly by its failure, which has the kind of the call that failed.
+/// Forces a draw of a bar that you are lent. Whatever was done with it before: if it can't draw the answer says why, and the terminal's
+/// faults grow exactly by its failure, which has the kind of the call that failed.
 pub fn draw_lent<K: ProgressTracker, T: TermLike + Drop>(
     bar: &mut LoneBar<K, T>,
     now: Moment,
@@ -54,7 +54,7 @@ pub fn draw_lent<K: ProgressTracker, T: TermLike + Drop>(
     bar.force_draw(now)
 }
 
-/// Draws the bars of a board that was lent. Whatever was done with it before, where there is nothing to draw on the answer says why.
+/// Draws the bars of a board that you are lent. Whatever was done with it before, if it can't draw the answer says why.
 pub fn redraw_lent<K: ProgressTracker, T: TermLike + Drop>(
     board: &mut Board<K, T>,
     now: Moment,
@@ -66,7 +66,7 @@ pub fn redraw_lent<K: ProgressTracker, T: TermLike + Drop>(
     board.redraw(now)
 }
 
-/// Whether something of a text may have been written above the bar; if not, the terminal is as it was.
+/// Whether something of a text may have been written above the bar; if not, the terminal is unchanged.
 pub fn may_have_logged<K: ProgressTracker, T: TermLike + Drop>(
     bar: &mut LoneBar<K, T>,
     text: &str,
@@ -81,7 +81,7 @@ pub fn may_have_logged<K: ProgressTracker, T: TermLike + Drop>(
     }
 }
 
-/// Plays calls on a bar that was lent, and answers how many there were; on a hidden target no terminal appears.
+/// Makes calls of a bar that you are lent, and returns their number; a hidden target stays hidden.
 pub fn play<K: ProgressTracker, T: TermLike + Drop>(
     bar: &mut LoneBar<K, T>,
     calls: Vec<(LoneCall<K>, Moment)>,
@@ -93,8 +93,8 @@ pub fn play<K: ProgressTracker, T: TermLike + Drop>(
     Ok(answers.len())
 }
 
-/// One more step of a bar on a board that was lent. Of the bar nothing is known but that the board answers for it; the bars
-/// beside it stay as they were.
+/// One more step of a bar on a board that you are lent. Of the bar nothing is known except that the board has it; the other bars are
+/// unchanged.
 pub fn step_on<K: ProgressTracker, T: TermLike + Drop>(
     board: &mut Board<K, T>,
     id: BarId,
@@ -107,7 +107,7 @@ pub fn step_on<K: ProgressTracker, T: TermLike + Drop>(
     board.command(id, BarCommand::Inc(1), now)
 }
 
-/// Another message of such a bar, or memory was refused and its record stays; the bars beside it stay as they were.
+/// Another message of such a bar, or memory was refused and its record is unchanged; the other bars are unchanged.
 pub fn say_on<K: ProgressTracker, T: TermLike + Drop>(
     board: &mut Board<K, T>,
     id: BarId,
@@ -121,7 +121,7 @@ pub fn say_on<K: ProgressTracker, T: TermLike + Drop>(
     board.command(id, BarCommand::SetMessage(text), now)
 }
 
-/// Whether a board that was lent answers for a bar; if not, no command reaches it.
+/// Whether a board that you are lent has a bar; if not, no command reaches it.
 pub fn answers_for<K: ProgressTracker, T: TermLike + Drop>(board: &Board<K, T>, id: BarId) -> bool
     ensures own { IsTrue result → id.mark ≡ mark_of board.now → IsTrue (is_some (record_at id.number board.now)) }
     ensures absent { IsFalse result → id.mark ≡ mark_of board.now → record_at id.number board.now ≡ None }
@@ -129,8 +129,8 @@ pub fn answers_for<K: ProgressTracker, T: TermLike + Drop>(board: &Board<K, T>, 
     board.bar(id).is_ok()
 }
 
-/// Takes a bar in right after another one, on a board that was lent. Whatever was done with the board before, another board's
-/// anchor changes nothing.
+/// Inserts a bar right after another one, on a board that you are lent. Whatever was done with the board before, another board's anchor
+/// changes nothing.
 pub fn stand_after<K: ProgressTracker, T: TermLike + Drop>(
     board: &mut Board<K, T>,
     anchor: BarId,
@@ -144,8 +144,8 @@ pub fn stand_after<K: ProgressTracker, T: TermLike + Drop>(
     }
 }
 
-/// Plays calls on a board that was lent, and answers how many there were. A bar that none of them removes, drops or tells
-/// something keeps its record, also where memory was refused.
+/// Makes calls of a board that you are lent, and returns their number. A bar that none of them removes, drops or commands keeps its record,
+/// even if memory was refused.
 pub fn play_on<K: ProgressTracker, T: TermLike + Drop>(
     board: &mut Board<K, T>,
     calls: Vec<(Call<K>, Moment)>,

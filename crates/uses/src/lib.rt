@@ -1,24 +1,24 @@
 //! Small callers of the libraries. Each is proved from the public contracts alone, which shows that these say enough.
 //!
-//! - `answers`: exact answers of a bar or a board that was lent.
-//! - `texts`: a line's rows, an amount and a range as texts, and what is no template.
-//! - `drawings`: what a terminal shows after one drawing.
+//! - `answers`: exact answers of a bar or a board that you are lent.
+//! - `texts`: a line's rows, an amount and a range as texts, and a text that is no template.
+//! - `drawings`: what a terminal shows after one draw.
 //! - `runs`: what a terminal shows after a list of calls of a bar.
-//! - `rows`: the same where rows are left to the terminal.
-//! - `any_width`: which rows stand on a terminal whose width nobody knows.
+//! - `rows`: the same if the terminal ends rows.
+//! - `any_width`: which rows stand on a terminal of unknown width.
 //! - `boards`: what a terminal shows after a list of calls of a board.
-//! - `engines`: what engines show of fixed lines, and how often a limiter allows at once.
+//! - `engines`: what engines show of fixed lines, and how many draws a limiter allows at once.
 //! - `orders`: which bars stand in the order of a board.
 //! - `histories`: what a board's history holds of a call.
-//! - `fronts`: what is known of shared bars and boards, and of lists and pieces that threads work on.
+//! - `fronts`: what is proved about shared bars and boards, and about lists and pieces that threads work on.
 //! - `logs`: that a logged line stands, whatever is drawn after it.
 //! - `loops`: what a loop makes of the bar that shows its progress.
-//! - `lent`: what is known of a bar or a board that was lent.
-//! - `plain`: what stands, and what is written, where the texts are plain, with no premise on states.
-//! - `sizes`: that another size takes no memory where nothing stands.
-//! - `programs`: what a program prints, where its words and its input are known.
+//! - `lent`: what is proved about a bar or a board that you are lent.
+//! - `plain`: the rows and the bytes if the texts are plain, without a premise on states.
+//! - `sizes`: that another size takes no memory if nothing stands.
+//! - `programs`: what a program prints, if its words and its input are known.
 //! - `sums`: what threads add up to.
-//! - `warnings`: that a warning on a board is one log of its line, and that a line stands above the bars or elsewhere.
+//! - `warnings`: that a warning on a board is one log of its line, and that a line is written above the bars or elsewhere.
 #![tactic(auto)]
 
 pub mod answers;

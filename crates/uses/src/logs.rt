@@ -23,10 +23,10 @@ use indicatif_term::in_memory::InMemoryTerm;
 use indicatif_term::laws::an_opening_shows_nothing;
 use indicatif_text::columns::{Moment, Refusal};
 
-/// The texts of the rows that stand once a line was logged above a bar and any calls were made after it: below the rows that were
-/// not the bar's the line's own stand first, since nothing that is drawn later writes over them.
+/// The texts of the rows that stand after a line was logged above a bar and any calls were made after it: below the rows that were not the
+/// bar's the line's own rows come first, since nothing that is drawn later overwrites them.
 ///
-/// Refused: what the log was refused, or `Memory`; or the terminal's failure, where it broke a call off.
+/// Refused: as the log, or `Memory`; or the terminal's failure, if it broke a call off.
 pub fn log_stands<K: ProgressTracker>(
     term: InMemoryTerm,
     bar: BarState<K>,

@@ -5,8 +5,8 @@ ghost use Rattle.indicatif.specs.Moves.{after_bar_move, Advance};
 use indicatif::{Moves, ProgressBarIter};
 use std::vec::IntoIter;
 
-/// Passes over so many items of a list, and answers whether there were as many: then a bar that tells where it stands has gone on
-/// by their number.
+/// Takes `count` items of a list, and returns whether there were as many: then a bar whose position can be read has advanced by their
+/// number.
 pub fn skip<T: Drop, P: Moves + Drop>(
     list: &mut ProgressBarIter<IntoIter<T>, P>,
     count: u64,

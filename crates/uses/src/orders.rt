@@ -8,7 +8,7 @@ use indicatif_term::term_like::TermLike;
 use indicatif_text::columns::{Drawn, Moment, Refusal};
 use std::alloc::Global;
 
-/// Two bars, each taken in at the top: the second stands there, though its slot is the second one.
+/// Two bars, each inserted at the top: the second stands there, although its slot is the second one.
 pub fn second_at_the_top(alloc: Global) -> Result<MultiState, Refusal>
     ensures { IfOk result (λ state. state.order ≡ 1 ∷ 0 ∷ []) }
 {
@@ -18,7 +18,7 @@ pub fn second_at_the_top(alloc: Global) -> Result<MultiState, Refusal>
     Ok(state)
 }
 
-/// Takes the rows of bars back that nobody owns any more. If that was done, none of these bars stands in the order.
+/// Clears the rows of bars without an owner. If that was done, none of these bars stands in the order.
 pub fn take_back_ownerless<K: ProgressTracker, T: TermLike + Drop>(
     board: &mut Board<K, T>,
     now: Moment,

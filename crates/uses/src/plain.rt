@@ -1,4 +1,4 @@
-//! What stands, and what is written, where the texts are plain, with no premise on what the calls lead to.
+//! The rows and the bytes if the texts are plain, without a premise on the outcome of the calls.
 ghost use Rattle.std.specs.Prelude.{◌≡◌, ◌≤◌, ◌∷◌, [], ℕ, List, Some, map, take, replicate, All, IfOk, IfSome, IsTrue, string_bytes, codes};
 ghost use Rattle.indicatif_term.specs.Calls.{TermView};
 ghost use Rattle.indicatif_term.specs.Calm.{is_quiet};
@@ -41,7 +41,7 @@ use indicatif_text::columns::{Drawn, Moment, Refusal};
 use indicatif_text::laws::{columns, template_or_refused};
 use std::alloc::Global;
 
-/// Two names logged on a new terminal of 4 rows and 10 columns, and the texts of the rows that stand then: they, and empty ones.
+/// Two names logged on a new terminal of 4 rows and 10 columns, and the texts of the rows afterwards: they, and empty ones.
 ///
 /// Refused: `Memory`.
 pub fn names_logged(alloc: Global) -> Result<Vec<String>, Refusal>
@@ -69,8 +69,8 @@ pub fn names_logged(alloc: Global) -> Result<Vec<String>, Refusal>
     }
 }
 
-/// A name logged on a new terminal of 4 rows and 10 columns, which has 3 columns then, and another name; and the texts of the rows
-/// that stand: the first name, cut, the other one, and empty ones.
+/// A name logged on a new terminal of 4 rows and 10 columns, which then gets 3 columns, and another name; and the texts of the rows: the
+/// first name, wrapped, the other one, and empty ones.
 ///
 /// Refused: `Memory`.
 pub fn names_cut(alloc: Global) -> Result<Vec<String>, Refusal>
@@ -99,8 +99,8 @@ pub fn names_cut(alloc: Global) -> Result<Vec<String>, Refusal>
     }
 }
 
-/// A bar that says `copying`, with a name logged above it, on a new terminal of 4 rows and 10 columns; and the texts of the rows that
-/// stand then: the name, the bar, and empty ones.
+/// A bar with the message `copying`, with a name logged above it, on a new terminal of 4 rows and 10 columns; and the texts of the rows
+/// afterwards: the name, the bar, and empty ones.
 ///
 /// Refused: `Memory`.
 pub fn name_above_a_bar(alloc: Global) -> Result<Vec<String>, Refusal>
@@ -125,8 +125,8 @@ pub fn name_above_a_bar(alloc: Global) -> Result<Vec<String>, Refusal>
     }
 }
 
-/// A bar on a board that says `copying`, with a name logged above it, on a new terminal of 4 rows and 10 columns; and the texts of the
-/// rows that stand then: the name, the bar, and empty ones.
+/// A bar on a board, with the message `copying`, with a name logged above it, on a new terminal of 4 rows and 10 columns; and the texts of
+/// the rows afterwards: the name, the bar, and empty ones.
 ///
 /// Refused: `Memory`.
 pub fn name_above_a_board(alloc: Global) -> Result<Vec<String>, Refusal>
@@ -153,10 +153,10 @@ pub fn name_above_a_board(alloc: Global) -> Result<Vec<String>, Refusal>
     }
 }
 
-/// A name logged above a bar on a new terminal of 4 rows and 10 columns, then any calls with plain texts, whatever they answer; and the
-/// texts of the rows that stand then. The name is the first, also where the terminal broke some of the calls off.
+/// A name logged above a bar on a new terminal of 4 rows and 10 columns, then any calls with plain texts, whatever their answers; and the
+/// texts of the rows afterwards. The name is the first, even if the terminal broke some of the calls off.
 ///
-/// Refused: `Memory`, or what the log was refused.
+/// Refused: `Memory`, or as the log.
 pub fn name_stands<K: ProgressTracker>(
     alloc: Global,
     bar: BarState<K>,
@@ -185,9 +185,10 @@ pub fn name_stands<K: ProgressTracker>(
     }
 }
 
-/// The same on a new board: a name is logged there, then any calls are made, whatever they answer.
+/// A name logged on a new board, then any calls with plain texts, whatever their answers; and the texts of the rows afterwards. The name is
+/// the first.
 ///
-/// Refused: `Memory`, or what the log was refused.
+/// Refused: `Memory`, or as the log.
 pub fn name_stands_on<K: ProgressTracker>(
     alloc: Global,
     calls: Vec<(Call<K>, Moment)>,
@@ -246,8 +247,8 @@ pub fn name_between_bytes(alloc: Global) -> Result<(usize, Vec<u8>), Refusal>
     Ok((slice.len(), all))
 }
 
-/// Any calls with plain texts on a new board behind a writer, whatever they answer, and the bytes that its terminal has got. No ASCII
-/// control character is among them but CR, LF, and ESC; behind each ESC stands `[`, CR or nothing.
+/// Any calls with plain texts on a new board behind a writer, whatever their answers, and the bytes that its terminal got. No ASCII control
+/// character is among them but CR, LF, and ESC; each ESC is followed by `[`, CR or nothing.
 ///
 /// Refused: `Memory`.
 pub fn bytes_are_quiet<K: ProgressTracker>(
@@ -269,7 +270,7 @@ pub fn bytes_are_quiet<K: ProgressTracker>(
     bytes_of(alloc, &board)
 }
 
-/// What the terminal of a board has got.
+/// The bytes that a board's terminal got.
 fn bytes_of<K: ProgressTracker>(
     alloc: Global,
     board: &Board<K, Term<Vec<u8>>>,
@@ -285,8 +286,8 @@ fn bytes_of<K: ProgressTracker>(
     }
 }
 
-/// Logs a text above a bar that is lent. Whatever was done with the bar before: where its texts, its trackers' and this one are plain,
-/// the call paints what the bar's rows come to.
+/// Logs a text above a bar that you are lent. Whatever was done with the bar before: if its texts, its trackers' and this one are plain,
+/// the call paints the bar's rows.
 pub fn log_above_lent<K: ProgressTracker, T: TermLike + Drop>(
     bar: &mut LoneBar<K, T>,
     text: &str,
@@ -303,7 +304,7 @@ pub fn log_above_lent<K: ProgressTracker, T: TermLike + Drop>(
     bar.println(text, now)
 }
 
-/// Takes a bar in behind all others.
+/// Inserts a bar after all others.
 fn first_bar(
     board: &mut Board<NoTracker, InMemoryTerm>,
     bar: BarState<NoTracker>,

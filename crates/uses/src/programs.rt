@@ -1,4 +1,4 @@
-//! What the program `bars run` prints, where its words and its input are known.
+//! What the program `bars run` prints, if its words and its input are known.
 ghost use Rattle.std.specs.Prelude.{◌≡◌, ◌++◌, ◌∷◌, [], IfOk, map, string_bytes, codes};
 
 use bars_run::cases::prints;
@@ -8,7 +8,7 @@ use indicatif_text::columns::Refusal;
 use indicatif_text::laws::columns;
 use std::alloc::Global;
 
-/// What `bars run 4 10` prints of a bar that says `x`, with a name logged above it: the name and the bar, and nothing else.
+/// What `bars run 4 10` prints for a bar with the message `x`, with a name logged above it: the name and the bar, and nothing else.
 ///
 /// Refused: `Memory`.
 pub fn name_printed(alloc: Global) -> Result<Vec<u8>, Refusal>
@@ -27,7 +27,7 @@ pub fn name_printed(alloc: Global) -> Result<Vec<u8>, Refusal>
     }
 }
 
-/// Runs it with these words on this input. Answers the program's status.
+/// Runs it with these words on this input. Returns the program's status.
 fn print_name(alloc: Global, words: &[String], input: &[u8], out: &mut Vec<u8>) -> u8
     requires words { map (λ word. string_bytes word) words.now ≡ codes "run" ∷ codes "4" ∷ codes "10" ∷ [] }
     requires input { input.now ≡ codes "add x\ntick 1\nlog a.txt\n" }

@@ -1,4 +1,4 @@
-//! What a terminal shows whose rows are left to it.
+//! What a terminal shows that ends its own rows.
 ghost use Rattle.std.specs.Prelude.{◌++◌, map, take, Some, None, Option, List, Result, IfOk, string_bytes};
 ghost use Rattle.indicatif_text.specs.declared.refusal.Drawn.{Drawn as Answered};
 ghost use Rattle.indicatif_text.specs.declared.refusal.Refusal.{Refusal as Refused};
@@ -23,10 +23,10 @@ use indicatif_term::laws::{an_opening_shows_nothing, what_own_rows_tell};
 use indicatif_term::term_like::OwnRows;
 use indicatif_text::columns::{Moment, Refusal};
 
-/// The texts of the rows that stand after these calls of a bar, which begins on an `OwnRows` that leaves rows to this terminal: those of
-/// the same bar on the terminal itself.
+/// The texts of the rows that stand after these calls of a bar, which begins on an `OwnRows` whose rows this terminal ends: those of the
+/// same bar on the terminal itself.
 ///
-/// Refused: `Memory`; or the terminal's failure, where it broke a call off.
+/// Refused: `Memory`; or the terminal's failure, if it broke a call off.
 pub fn picture_after<K: ProgressTracker>(
     term: InMemoryTerm,
     bar: BarState<K>,

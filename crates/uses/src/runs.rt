@@ -37,7 +37,7 @@ pub fn unbroken(answers: &[Result<Drawn, Refusal>]) -> Result<(), Refusal>
 
 /// The texts of the rows that stand after these calls of a bar, which begins on this terminal.
 ///
-/// Refused: `Memory`; or the terminal's failure, where it broke a call off.
+/// Refused: `Memory`; or the terminal's failure, if it broke a call off.
 pub fn picture_after<K: ProgressTracker>(
     term: InMemoryTerm,
     bar: BarState<K>,

@@ -1,4 +1,4 @@
-//! That another size takes no memory where nothing stands that it cuts, on a terminal that takes none itself.
+//! That another size takes no memory if nothing stands that it wraps, on a terminal that takes none itself.
 ghost use Rattle.std.specs.Prelude.{◌≢◌, Err};
 
 use indicatif_bar::laws::what_a_lone_bar_answers;
@@ -26,7 +26,7 @@ pub fn sized_at_first<K: ProgressTracker, W: Write + Drop>(
     Ok(bar)
 }
 
-/// A bar behind a writer, which was lent, gets another size once its rows were taken back.
+/// A bar behind a writer, which you are lent, gets another size after its rows were cleared.
 pub fn sized_behind_clear<K: ProgressTracker, W: Write + Drop>(
     now: Moment,
     bar: &mut LoneBar<K, Term<W>>,

@@ -1,4 +1,4 @@
-//! What a line takes, what an amount and a range read, and what is no template.
+//! The rows of a line, the texts of an amount and a range, and a text that is no template.
 ghost use Rattle.std.specs.Prelude.{◌≡◌, ◌⊎◌, ◌↔◌, ◌++◌, ◌∷◌, Ok, Err, IfOk, IfErr, OnOk, IsTrue, length, chars, codes, string_bytes};
 ghost use Rattle.indicatif_text.specs.Columns.{rows_of};
 ghost use Rattle.indicatif_text.specs.Format.{binary_bytes};
@@ -9,7 +9,7 @@ use indicatif_text::format::HumanBytes;
 use indicatif_text::template::{Template, TemplateError};
 use std::alloc::Global;
 
-/// Whether a line takes one row of a terminal of so many columns.
+/// Whether a line takes one row of a terminal of `width` columns.
 pub fn takes_one_row(line: &str, width: usize) -> Result<bool, Refusal>
     ensures { IfOk result (λ one. IsTrue one ↔ (length (rows_of width (chars line.now)) ≡ 1)) }
 {
@@ -17,7 +17,7 @@ pub fn takes_one_row(line: &str, width: usize) -> Result<bool, Refusal>
     Ok(metrics.height == 1)
 }
 
-/// How much of a whole is there, as `1.50 KiB of 2.00 KiB`.
+/// An amount of a whole, as in `1.50 KiB of 2.00 KiB`.
 pub fn amount(alloc: Global, there: u64, whole: u64) -> Result<String, Refusal>
     ensures text { IfOk result (λ text. string_bytes text ≡ binary_bytes there ++ codes " of " ++ binary_bytes whole) }
     ensures memory { IfErr result (λ e. e ≡ Refusal.Memory) }
@@ -26,7 +26,7 @@ pub fn amount(alloc: Global, there: u64, whole: u64) -> Result<String, Refusal>
     Ok(text)
 }
 
-/// The rows of four characters of two columns each on a terminal of three: one each, since none is cut. Its columns by division would
+/// The rows of four characters of two columns each on a terminal of three: one each, since none is split. Its columns by division would
 /// make three.
 pub fn rows_of_wide_ones() -> Result<usize, Refusal>
     ensures { result ≡ Ok 4 }
@@ -44,14 +44,14 @@ pub fn nearly_a_mebibyte(alloc: Global) -> Result<String, Refusal>
     Ok(text)
 }
 
-/// Appends the first column of a bold `ab`. The sequence behind it stays too, so that what follows isn't bold.
+/// Appends the first column of a bold `ab`. The sequence after it stays too, so that what follows isn't bold.
 pub fn first_column(out: &mut String) -> Result<(), Refusal>
     ensures { OnOk result (string_bytes out.new ≡ string_bytes out.old ++ (27 ∷ codes "[1ma" ++ 27 ∷ codes "[0m")) }
 {
     write_ansi_range("\u{1b}[1mab\u{1b}[0m", 0, 1, out)
 }
 
-/// A template with a single closing brace, which is no literal text: it is refused, if not for memory.
+/// A template with a single closing brace, which is no literal text: it is refused, unless memory is.
 pub fn single_brace(alloc: Global) -> Result<Template, TemplateError>
     ensures { (result ≡ Err (TemplateError.Unexpected 120 TemplateState.DoubleClose)) ⊎ (result ≡ Err TemplateError.Memory) }
 {

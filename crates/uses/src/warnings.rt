@@ -1,4 +1,4 @@
-//! That a warning on a board is one log of its line, and nothing else; and that a line stands above the bars or elsewhere.
+//! That a warning on a board is one log of its line, and nothing else; and that a line is written above the bars or elsewhere.
 ghost use Rattle.std.specs.Prelude.{◌≡◌, ◌⊎◌, ◌++◌, ◌∷◌, [], Ok, Err, codes};
 ghost use Rattle.std.specs.Io.KnownBytes.{Appends};
 ghost use Rattle.indicatif_board.specs.Boards.{Log, says};
@@ -15,8 +15,8 @@ use log::Level;
 use std::alloc::Global;
 use std::io::Write;
 
-/// Warns above the bars of a board that the disk is low: the line `WARN  low disk` is logged, or memory was refused for it and
-/// nothing has changed; each bar's record is as before.
+/// Logs a warning above the bars of a board that the disk is low: the line `WARN  low disk` is logged, or memory was refused for it and
+/// nothing has changed; each bar's record is unchanged.
 pub fn warn_of_low_disk<K: ProgressTracker, T: TermLike + Drop>(
     alloc: Global,
     board: &mut Board<K, T>,
@@ -31,8 +31,8 @@ pub fn warn_of_low_disk<K: ProgressTracker, T: TermLike + Drop>(
     emit(alloc, board, Level::Warn, "low disk", now)
 }
 
-/// Says a line above the bars of a board, or in a writer where they are hidden. After `Yes` the line was logged, and the writer is as before;
-/// after `Hidden` the writer got it, if it tells its bytes. So a line is lost only where the call is refused.
+/// Writes a line above the bars of a board, or to a writer if they are hidden. After `Yes` the line was logged, and the writer is
+/// unchanged; after `Hidden` the writer got it, if its bytes can be read. So a line is lost only if the call is refused.
 pub fn say<K: ProgressTracker, T: TermLike + Drop, W: Write>(
     alloc: Global,
     board: &mut Board<K, T>,

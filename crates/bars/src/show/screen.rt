@@ -1,4 +1,4 @@
-//! The terminal's own file, or cells in its place.
+//! The terminal's own file, or cells instead.
 use indicatif::machine::{MachineClock, StreamSetup, StreamTerm, UntilGone, facts_of};
 use indicatif::{Cells, Clock, DEFAULT_RATE, OwnRows, ProgressDrawTarget, Refusal, Setup, Term};
 use std::alloc::Global;
@@ -8,7 +8,7 @@ use std::io::{self, BufWriter, ErrorKind, IsTerminal, Write};
 /// Rows and columns of the cells.
 const SIZE: (u16, u16) = (12, 79);
 
-/// What bars are drawn on.
+/// What bars draw on.
 #[derive(Drop)]
 pub enum Screen {
     /// The terminal's own file.
@@ -18,7 +18,7 @@ pub enum Screen {
 }
 
 impl Screen {
-    /// What stands in the cells.
+    /// The rows of the cells.
     pub fn contents(&self, alloc: Global) -> Result<String, Refusal> {
         match self {
             Screen::Terminal(_) => Ok(String::new(alloc)),
@@ -55,8 +55,8 @@ impl Write for Screen {
     }
 }
 
-/// A target on the terminal with its clock, if there is one that bars can be drawn on. `rt try` gives a program no variables: a terminal of
-/// whose kind nothing is told counts as one that has moves.
+/// A target on the terminal with its clock, if there is one that bars can draw on. `rt try` gives a program no variables: a terminal of
+/// unknown kind counts as one with cursor moves.
 pub fn on_terminal(rt: &HostRuntime) -> Result<Option<StreamSetup<Screen, HostRuntime>>, Refusal> {
     let Some(file) = terminal(rt) else {
         return Ok(None);
@@ -84,7 +84,7 @@ pub fn on_cells(alloc: Global) -> Result<StreamTerm<Screen>, Refusal> {
     Ok(OwnRows::left_to_terminal(behind(alloc, cells, rows, cols)?))
 }
 
-/// A terminal behind a screen, written to in blocks.
+/// A terminal behind a screen, with buffered writes.
 fn behind(
     alloc: Global,
     screen: Screen,

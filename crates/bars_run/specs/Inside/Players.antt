@@ -1,4 +1,4 @@
--- A board on which lines were played.
+-- A board after lines were played on it.
 use Rattle.std.specs.Prelude.{◌≡◌, ℕ, ◌<◌, IsFalse, List, [], ◌∷◌, ◌++◌, map, replicate, Option, Some, None, All}
 use Rattle.indicatif_term.specs.Terminal.{blank_terminal}
 use Rattle.indicatif_term.specs.DrawTargets.{is_bottom}
@@ -29,13 +29,13 @@ abbrev pub unanswered : Step → Step
 unanswered (Called calls answers) = Called calls []
 unanswered (Size columns rows) = Size columns rows
 
--- a step was made, and no call of it refused: whatever state the board may have been in, it led from that to one that it is in now
+-- a step was made, and none of its calls was refused: from each state that the board may have been in, it led to one that it is in now
 abbrev pub Makes : Step → Played → Played → Type 0
 Makes step old new =
     (s : BoardState Bar) → IsIn 0 old s → (made : Step) × (unanswered made ≡ step) × IsFalse (any_refused (made ∷ []))
     × (next : BoardState Bar) × IsIn 0 new next × Plays machine sizing (made ∷ []) (known view_of old) s (known view_of new) next
 
--- a command stands for a step, and that was made
+-- a command has a step, and that was made
 abbrev pub Obeys : Spelled → Played → Played → Type 0
 Obeys command old new = (step : Step) × (step_of command ≡ Some step) × Makes step old new
 
@@ -47,7 +47,7 @@ pub record HasPlayed (asked : Asked) (lines : List (List ℕ)) (b : Played) : Ty
   pub commands_are : each spelled lines ≡ Some commands
   pub steps : List Step
   pub steps_are : each step_of commands ≡ Some steps
-  -- the steps with the answers that they got
+  -- the steps with their answers
   pub made : List Step
   pub made_are : map unanswered made ≡ script_of asked steps
   pub done : IsFalse (any_refused made)
@@ -55,7 +55,7 @@ pub record HasPlayed (asked : Asked) (lines : List (List ℕ)) (b : Played) : Ty
   pub holds : IsIn 0 b next
   pub plays : Plays machine sizing made (Some (view_of (empty_memory asked))) (opening_board None) (known view_of b) next
 
--- the texts that stand once the lines of an input were played
+-- the rows that stand after the lines of an input were played
 pub record Stands (asked : Asked) (input : List ℕ) (texts : List (List ℕ)) : Type 0 where
   pub commands : List Spelled
   pub commands_are : each spelled (lines_of input) ≡ Some commands
@@ -66,7 +66,7 @@ pub record Stands (asked : Asked) (input : List ℕ) (texts : List (List ℕ)) :
   pub done : IsFalse (any_refused (played asked steps).0)
   pub shown : All IsPlain commands → (blank : ℕ) × (texts ≡ map row_text (rows_after asked steps) ++ replicate blank [])
 
--- why a line of this number wasn't played
+-- why the line with this number wasn't played
 abbrev pub LineEnds : ℕ → List ℕ → Fault → Type 0
 LineEnds number line (BadCommand n) = (n ≡ number) × (spelled line ≡ None)
 LineEnds number line (Line n refusal) = (n ≡ number) × (command : Spelled) × (spelled line ≡ Some command)

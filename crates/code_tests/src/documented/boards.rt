@@ -20,13 +20,13 @@ fn board_of(rt: &impl Abort, alloc: Global) -> Bars {
     board
 }
 
-/// A bar that shows this text.
+/// A bar with this text.
 fn bar_saying(rt: &impl Abort, alloc: Global, text: &str) -> BarState<NoTracker> {
     let style = ProgressStyle::with_template(alloc, text).granted(rt);
     BarState::styled(alloc, style, None, 0).granted(rt)
 }
 
-/// A board's terminal shows this.
+/// Ends the test if a board's terminal shows something else.
 fn shows(rt: &impl Abort, board: Bars, contents: &str) {
     let term = board.term().granted(rt);
     same!(rt; term.contents().granted(rt).as_str(), contents);
@@ -43,7 +43,7 @@ fn texts_on_fewer_columns(rt: HostRuntime) {
     shows(rt, board, "a.t\nxt\nhel\nlo");
 }
 
-/// A candidate is copied, and a bar of another board isn't taken out.
+/// A candidate is copied, and a bar of another board isn't removed.
 #[test]
 fn order_of_bars(rt: HostRuntime) {
     let rt = &rt;
@@ -61,7 +61,7 @@ fn order_of_bars(rt: HostRuntime) {
     holds!(rt; matches!(board.remove(elsewhere), Err(Refusal::ForeignBar)));
 }
 
-/// Takes a bar in, which stays first when it is inserted there.
+/// Inserts a bar, which stays first when it is inserted there again.
 fn take_in(rt: &impl Abort, alloc: Global, board: &mut Bars) -> BarId {
     let bar = bar_saying(rt, alloc, "a");
     let id = board
@@ -72,7 +72,7 @@ fn take_in(rt: &impl Abort, alloc: Global, board: &mut Bars) -> BarId {
     id
 }
 
-/// Refuses a bar behind one of another board.
+/// Refuses a bar after one of another board.
 fn turn_away(rt: &impl Abort, alloc: Global, board: &mut Bars) {
     let id = BarId { mark: 9, number: 0 };
     let bar = bar_saying(rt, alloc, "b");
@@ -81,7 +81,7 @@ fn turn_away(rt: &impl Abort, alloc: Global, board: &mut Bars) {
     }
 }
 
-/// Takes a bar in, and then one above it.
+/// Inserts a bar, and then one above it.
 fn stack(rt: &impl Abort, alloc: Global, board: &mut Bars) {
     let now = 0;
     let bar = bar_saying(rt, alloc, "lower");

@@ -7,7 +7,7 @@ use indicatif_term::in_memory::InMemoryTerm;
 use std::alloc::Global;
 use std::process::Abort;
 
-/// A frame of one bar of one line.
+/// A frame of one bar with one line.
 fn frame_of(rt: &impl Abort, alloc: Global) -> Vec<Segment> {
     let line = LineType::Text(String::from_str(alloc, "fetched").granted(rt));
     holds!(rt; line.is_text("fetched"));
@@ -16,7 +16,7 @@ fn frame_of(rt: &impl Abort, alloc: Global) -> Vec<Segment> {
     frame
 }
 
-/// This stands on the engine's terminal.
+/// Ends the test if something else stands on the engine's terminal.
 fn shows(rt: &impl Abort, engine: Engine<InMemoryTerm>, contents: &str) {
     same!(rt; engine.term().contents().granted(rt).as_str(), contents);
 }
@@ -38,7 +38,7 @@ fn drawn_logged_and_kept(rt: HostRuntime) {
     shows(rt, engine, "done\nfetch\ned");
 }
 
-/// What is drawn then is as tall, so that no row above it is blank.
+/// The next draw is as tall, so no row above it is blank.
 #[test]
 fn terminal_of_a_new_size(rt: HostRuntime) {
     let rt = &rt;

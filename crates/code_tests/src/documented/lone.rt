@@ -12,7 +12,7 @@ use std::process::Abort;
 
 type Bar = LoneBar<NoTracker, InMemoryTerm>;
 
-/// A bar's terminal shows this.
+/// Ends the test if a bar's terminal shows something else.
 fn shows(rt: &impl Abort, bar: &Bar, contents: &str) {
     let term = bar.term().granted(rt);
     same!(rt; term.contents().granted(rt).as_str(), contents);
@@ -31,7 +31,7 @@ fn shown(rt: &impl Abort, alloc: Global) -> Box<Bar> {
     Box::new(alloc, bar).granted(rt)
 }
 
-/// Draws a bar at the moment that a clock tells.
+/// Draws a bar at the moment of a clock.
 fn draws_now(rt: &impl Abort, bar: &mut Bar) {
     let second: Moment = 1_000_000_000;
     let mut clock = StepClock {
@@ -86,7 +86,7 @@ fn calls_style_time_and_target(rt: HostRuntime) {
     same!(rt; drawn, Drawn::Hidden);
 }
 
-/// A bar of a text of 13 columns on 10 of them.
+/// A bar with a text of 13 columns on 10 columns.
 fn wide(rt: &impl Abort, alloc: Global) -> Box<Bar> {
     let style = ProgressStyle::with_template(alloc, "progress bars").granted(rt);
     let record = BarState::styled(alloc, style, None, 0).granted(rt);

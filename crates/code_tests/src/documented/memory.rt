@@ -1,4 +1,4 @@
-//! Examples of the terminals in memory. What stands on them is told by rows (`terminals.txt`); here is where their cursor stands.
+//! Examples of the terminals in memory. Their contents are in rows of data (`terminals.txt`); here is the cursor.
 use crate::checks::Granted;
 use indicatif_term::in_memory::{Cells, InMemoryTerm};
 use indicatif_term::term_like::{Resize, TermLike};
@@ -41,7 +41,7 @@ fn cells_with_written_spaces(rt: HostRuntime) {
     same!(rt; text.as_str(), "Cells { cursor: (1, 1), .. }");
 }
 
-/// Behind them comes a character of two columns, in two halves.
+/// Then comes a character of two columns, in two halves.
 #[test]
 fn cells_of_fewer_columns_and_of_more_again(rt: HostRuntime) {
     let rt = &rt;
@@ -56,7 +56,7 @@ fn cells_of_fewer_columns_and_of_more_again(rt: HostRuntime) {
     same!(rt; cells.cursor(), (2, 5));
 }
 
-/// It goes up by two rows where it stands in the second one. Behind a reset come spaces that are written.
+/// It goes up by two rows from the second one. After a reset come written spaces.
 #[test]
 fn texts_and_moves_of_a_terminal(rt: HostRuntime) {
     let rt = &rt;
@@ -84,7 +84,7 @@ fn character_behind_a_full_row(rt: HostRuntime) {
     same!(rt; term.cursor(), (1, 1));
 }
 
-/// A row that is emptied, and then one that leaves at the top.
+/// A row that is emptied, and then one that scrolls away.
 #[test]
 fn rows_that_go(rt: HostRuntime) {
     let rt = &rt;

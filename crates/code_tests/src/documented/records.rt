@@ -1,4 +1,4 @@
-//! Examples of a bar's record, its style and a tracker. `values` has those of a room of lines, `keyed` that of a key of one's own.
+//! Examples of a bar's record, its style and a tracker. `values` has those of spare lines, `keyed` that of your own key.
 ghost use Rattle.std.specs.Prelude.{◌-◌, if◌then◌else◌, codes, decimal, nat_lt, string_bytes};
 
 use crate::checks::Granted;
@@ -23,12 +23,12 @@ fn bar_at(rt: &impl Abort, alloc: Global, position: u64) -> Box<BarState<NoTrack
     bar
 }
 
-/// A bar's lines are one, of this text.
+/// Ends the test if a bar has other lines than this one.
 fn says<K: ProgressTracker>(rt: &impl Abort, bar: &BarState<K>, text: &str) {
     is_shown(rt, &bar.lines(0, 80).granted(rt), text);
 }
 
-/// A copy of a command. The command itself is given up.
+/// A copy of a command. The command itself is dropped.
 fn copy_of(
     rt: &impl Abort,
     alloc: Global,
@@ -65,7 +65,7 @@ fn commands_and_copies(rt: HostRuntime) {
     same!(rt; (bar.message(), ask), ("copying", Ask::Unforced));
 }
 
-/// The rate since a reset; what asks for draws; and a finish that leaves the bar.
+/// The rate since a reset; commands that ask for draws; and a finish that leaves the bar.
 #[test]
 fn rate_draws_and_finish(rt: HostRuntime) {
     let rt = &rt;
@@ -102,7 +102,7 @@ fn style_made_from_another(rt: HostRuntime) {
     same!(rt; ask, Ask::Unforced);
 }
 
-/// Tells the same text always.
+/// Always gives the same text.
 #[derive(Drop)]
 struct Always {
     text: String,
@@ -116,7 +116,7 @@ impl TellsText for Always {
     }
 }
 
-/// Tells `ready` always.
+/// Always gives `ready`.
 fn ready(rt: &impl Abort, alloc: Global) -> FnTracker<Always> {
     let tracker = FnTracker::new(
         alloc,
@@ -128,7 +128,7 @@ fn ready(rt: &impl Abort, alloc: Global) -> FnTracker<Always> {
     tracker
 }
 
-/// A bar that says that it is ready.
+/// A bar that shows that it is ready.
 #[test]
 fn key_with_a_text(rt: HostRuntime) {
     let rt = &rt;
@@ -142,7 +142,7 @@ fn key_with_a_text(rt: HostRuntime) {
     says(rt, &bar, "ready!");
 }
 
-/// Tells how many files of so many are left, and `done` behind the last.
+/// Says how many of the files are left, and `done` after the last.
 #[derive(Drop)]
 struct FilesLeft {
     alloc: Global,
@@ -160,7 +160,7 @@ impl TellsText for FilesLeft {
     }
 }
 
-/// A bar that says so at three positions.
+/// A bar that shows this at three positions.
 #[test]
 fn key_with_a_condition(rt: HostRuntime) {
     let rt = &rt;

@@ -16,7 +16,7 @@ fn text_without_its_colours(rt: HostRuntime) {
     same!(rt; out.as_str(), "ab");
 }
 
-/// Whether a template begins with a placeholder whose text stands at the right.
+/// Whether a template begins with a placeholder whose text is right-aligned.
 fn is_right(template: &Template) -> bool {
     match template.part(0) {
         Some(Part::Placeholder { align, .. }) => align == Alignment::Right,
@@ -24,7 +24,7 @@ fn is_right(template: &Template) -> bool {
     }
 }
 
-/// A template's literals, and the names of its keys, of which the first stands at the right.
+/// A template's literals, and the names of its keys, of which the first is right-aligned.
 #[test]
 fn parts_in_their_order(rt: HostRuntime) {
     let rt = &rt;

@@ -4,7 +4,7 @@ use crate::fronts::{Bar, setup};
 use indicatif::{Drawn, ProgressBar, ProgressBarIter};
 use std::io::Write;
 
-/// What one owner does, another tells; a writer, a template, a weak owner and a ticker.
+/// One owner's changes are seen by another; a writer, a template, a weak owner and a ticker.
 #[test]
 fn owners_of_a_bar(rt: HostRuntime) {
     let rt = &rt;

@@ -1,4 +1,4 @@
-//! What is asked of the machine.
+//! The module `machine`.
 use crate::checks::Granted;
 use indicatif::machine::{
     MachineClock, Shares, StderrBar, StderrBoard, StderrSetup, StreamTerm, TerminalSetup,
@@ -25,7 +25,7 @@ fn facts_that_are_told(rt: HostRuntime) {
     same!(rt; setup.target.is_hidden(), hides);
 }
 
-/// What is told of a terminal without a name.
+/// The facts of a terminal without a name.
 fn unnamed() -> Facts {
     let facts = Facts {
         rows: 24,
@@ -36,7 +36,7 @@ fn unnamed() -> Facts {
     facts
 }
 
-/// A terminal that is told another size; two letters, and what ends their row; and a terminal without a name, which is hidden.
+/// A terminal that gets another size; two letters, and what ends their row; and a terminal without a name, which is hidden.
 #[test]
 fn rows_of_their_own(rt: HostRuntime) {
     let rt = &rt;
@@ -62,8 +62,8 @@ fn rows_of_their_own(rt: HostRuntime) {
     holds!(rt; text.as_str().starts_with("OwnRows { term: InMemoryTerm { "));
 }
 
-/// Two letters, and nothing of a synchronized update; the same on the second of three rows, which goes up by one and back, and empties its row
-/// behind the told columns before that; and a target on standard error that is told one column less than the terminal has, where it is one.
+/// Two letters, without a synchronized update; the same on the second of three rows, which goes up by one and back, and empties its row
+/// after the given columns before that; and a target on standard error with one column less than the terminal has, if it is one.
 #[test]
 fn rows_beside_others(rt: HostRuntime) {
     let rt = &rt;
@@ -85,8 +85,8 @@ fn rows_beside_others(rt: HostRuntime) {
     same!(rt; target.is_hidden(), hides);
 }
 
-/// A row that is left for the one above is emptied behind the told columns, and the cursor goes on in its column. A cursor that was at the front
-/// of a row is there when the drawing has ended.
+/// A row that is left for the one above is emptied after the given columns, and the cursor stays in its column. A cursor that was at the
+/// front of a row is there when the draw has ended.
 #[test]
 fn rows_that_are_left(rt: HostRuntime) {
     let rt = &rt;
@@ -104,7 +104,7 @@ fn rows_that_are_left(rt: HostRuntime) {
     holds!(rt; own.term().writer().as_slice() == wanted.as_bytes());
 }
 
-/// The bytes of a drawing of two letters.
+/// The bytes of a draw of two letters.
 fn drawn<R: Abort>(rt: &R, term: OwnRows<Term<Vec<u8>>>) -> Vec<u8> {
     let mut own = term;
     own.write_str("ab").granted(rt);
@@ -128,7 +128,7 @@ fn a_style_for_standard_error(rt: HostRuntime) {
 }
 
 /// A setup for a terminal without a name, which is hidden; a bar that stands alone; a target of another size on standard output, which is
-/// hidden too; and a list with a bar of its own.
+/// hidden too; and a list with its own bar.
 #[test]
 fn bars_of_one_owner_on_standard_error(rt: HostRuntime) {
     let rt = &rt;
@@ -155,7 +155,7 @@ fn copy<R: Shares>(bar: &StderrBar<R>) -> Result<Drawn, Refusal> {
     bar.inc(1)
 }
 
-/// Goes on by so many steps, one each millisecond.
+/// Advances by the given number of steps, one each millisecond.
 fn work<R: Shares>(rt: &R, bar: &StderrBar<R>, steps: u64) -> Result<(), Refusal> {
     for _ in 0..steps {
         bar.inc(1)?;
@@ -176,7 +176,7 @@ fn board_on<R: Shares>(rt: R, setup: StderrSetup) -> Result<StderrBoard<R>, Refu
     MultiProgress::new(rt, rt.alloc(), setup, 1)
 }
 
-/// A bar that goes on by three, and a board, hidden as its setup is, whose terminal gets another size.
+/// A bar that advances by three, and a board, hidden as its setup is, whose terminal gets another size.
 #[test]
 fn shared_bars_on_standard_error(rt: HostRuntime) {
     let rt = &rt;

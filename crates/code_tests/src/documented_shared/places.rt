@@ -1,4 +1,4 @@
-//! Where wrapped readers stand.
+//! The places of wrapped readers.
 use indicatif::{MaxRingBuf, SeekMax};
 
 /// The greatest of the last place, and of the last of seeks.

@@ -1,4 +1,4 @@
-//! A board that is shared, and its history.
+//! A shared board, and its history.
 use crate::checks::Granted;
 use crate::fronts::{board_shows, setup};
 use indicatif::style::Tracks;

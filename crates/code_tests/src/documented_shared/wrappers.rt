@@ -11,7 +11,7 @@ use std::process::Abort;
 use std::sync::Wait;
 use tokio::io::{AsyncRead, AsyncWrite};
 
-/// Wraps a stream, and what is read and written by polls. (Rows look at what each of them does.)
+/// Wraps a stream, and what is read and written by polls. (Rows of data check each of them.)
 pub fn polled<S: Stream + Drop, I: AsyncRead + Drop, O: AsyncWrite + Drop, R: Wait + Clone + Drop>(
     rt: &impl Abort,
     bar: &Bar<R>,
@@ -25,7 +25,7 @@ pub fn polled<S: Stream + Drop, I: AsyncRead + Drop, O: AsyncWrite + Drop, R: Wa
     let mut wrapped = bar.wrap_async_write(socket).expect(rt, "granted");
 }
 
-/// A bar of two steps, of its own, made from parts.
+/// A bar of two steps with its own clock, made from parts.
 fn own_of_two<R: Abort>(rt: &R, alloc: Global) -> OwnedBar<NoTracker, InMemoryTerm, StepClock> {
     let Setup { target, clock: _ } = setup(rt, alloc, 20);
     let state = BarState::new(alloc, Some(2), 0).granted(rt);
@@ -44,7 +44,7 @@ fn two_items<R: Abort>(rt: &R, alloc: Global) -> Vec<u64> {
     vec![in alloc; 7u64, 8].granted(rt)
 }
 
-/// Goes through all items with a bar of any kind; how many there are, and the bar.
+/// Takes all items with a bar of any kind; how many there are, and the bar.
 fn looped<P: Moves + Drop>(items: Vec<u64>, bar: P) -> (u64, P) {
     let mut wrapped = ProgressBarIter::new(items.into_iter(), bar);
     let mut count: u64 = 0;
@@ -55,7 +55,7 @@ fn looped<P: Moves + Drop>(items: Vec<u64>, bar: P) -> (u64, P) {
     (count, bar)
 }
 
-/// The first item, and a bar of any kind that has gone on by it.
+/// The first item, and a bar of any kind that has advanced by it.
 fn first_of<P: Moves + Drop>(list: Vec<u64>, bar: P) -> (Option<u64>, P) {
     let mut wrapped = ProgressBarIter::new(list.into_iter(), bar);
     let first = wrapped.next();
@@ -79,7 +79,7 @@ fn a_bar_of_its_own_is_moved(rt: HostRuntime) {
     holds!(rt; bar.finished());
 }
 
-/// (Rows have all items of such lists.)
+/// (Rows of data have all items of such lists.)
 #[test]
 fn first_item_of_a_list(rt: HostRuntime) {
     let rt = &rt;

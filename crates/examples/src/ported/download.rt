@@ -1,4 +1,4 @@
-//! A download with its bytes, its rate and the time that is left.
+//! A download with its bytes, its rate and the time left.
 use anyhow::Result;
 use indicatif::ProgressBar;
 use indicatif::machine::{Shares, StderrBar, on_stderr, style_on_stderr};

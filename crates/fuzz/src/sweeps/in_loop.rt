@@ -1,4 +1,4 @@
-//! A wrapped loop that makes the calls of a script: each is its next item, whose draw is what it answers.
+//! A wrapped loop that makes the calls of a script: each is its next item, whose draw gives the answer.
 use indicatif::{
     Drawn, NoTracker, OwnedBar, ProgressBarIter, ProgressDrawTarget, Refusal, Setup, StepClock,
 };
@@ -16,7 +16,7 @@ pub struct InLoop {
 }
 
 impl InLoop {
-    /// A loop whose bar is drawn on this terminal.
+    /// A loop whose bar draws on this terminal.
     pub fn new(alloc: Global, term: Behind) -> Result<InLoop, Refusal> {
         let setup = Setup {
             target: ProgressDrawTarget::term_like(term),

@@ -28,7 +28,7 @@ pub enum Kind {
     Loop,
 }
 
-/// All of them.
+/// All parts.
 pub const KINDS: &[Kind] = &[
     Kind::Board,
     Kind::Moving,
@@ -39,7 +39,7 @@ pub const KINDS: &[Kind] = &[
     Kind::Loop,
 ];
 
-/// The calls of a loop over five items, the last of which finds its end.
+/// The calls of a loop over five items, the last of which is its end.
 const LOOP: [Step; 6] = [Step::Tick(0); 6];
 
 impl Kind {
@@ -68,7 +68,7 @@ impl Kind {
         }
     }
 
-    /// The draw behind it.
+    /// The draw after it.
     fn last(self) -> &'static [Step] {
         match self {
             Kind::Board | Kind::Moving | Kind::Shared => &[Step::Tick(2)],
@@ -79,7 +79,7 @@ impl Kind {
     }
 }
 
-/// What makes the calls of a script.
+/// Makes the calls of a script.
 pub enum Player<R: Wait + Copy + Clone + Drop> {
     Board(OnBoard<Behind>),
     Bar(OnBar<Behind>),
@@ -116,7 +116,7 @@ impl<R: Wait + Copy + Clone + Drop> Stage for Player<R> {
     }
 }
 
-/// What makes the calls of scripts of a kind, on terminals of a size.
+/// Makes the stages of a kind, on terminals of a size.
 #[derive(Drop)]
 pub struct Players<R> {
     pub rt: R,
@@ -144,11 +144,11 @@ impl<R: Runs> Stages for Players<R> {
     }
 }
 
-/// How many bytes a record has room for at first.
+/// The initial room of a record, in bytes.
 const ROOM: usize = 4096;
 
-/// Plays a script on a terminal that fails as planned, and the draw behind it on one that doesn't; how many of the script's calls failed,
-/// and what the writer was given.
+/// Plays a script on a terminal that fails as planned, and the draw after it on one that doesn't; how many of the script's calls failed,
+/// and how much the writer got.
 pub fn run<R: Runs>(rt: R, case: Case) -> Result<(u64, Point), Finding> {
     let Case { kind, size, .. } = case;
     let record = Record::new(rt.alloc(), case.plan, ROOM)?;

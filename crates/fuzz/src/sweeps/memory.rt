@@ -1,4 +1,4 @@
-//! Scripts where memory may be refused once.
+//! Scripts in which memory may be refused once.
 use crate::sweeps::kinds::{Kind, Players};
 use crate::sweeps::printing;
 use crate::sweeps::sweep::Runs;
@@ -9,20 +9,20 @@ use scripts::judged::refused::{Notes, Run, Stages, Where, noted};
 use std::alloc::Global;
 use std::rc::Rc;
 
-/// How many bytes the terminal's writer has room for from the first, where it takes no memory.
+/// The initial room of the terminal's writer, in bytes, if it takes no memory.
 pub const ROOM: usize = 4096;
 
-/// How a script is played. The terminal of `bars run` has a size of its own.
+/// How a script is played. The terminal of `bars run` has its own size.
 #[derive(Drop)]
 pub struct Playing {
     pub size: Size,
-    /// How many bytes the terminal's writer has room for from the first; where that is too little the terminal takes memory, too.
+    /// The initial room of the terminal's writer, in bytes; if that is too little the terminal takes memory, too.
     pub room: usize,
-    /// Whether the script is judged once it was played. If not, it shows how often it takes memory.
+    /// Whether the script is judged after it was played. If not, it shows how often it takes memory.
     pub is_judged: bool,
 }
 
-/// A record with this room of a terminal that doesn't fail; it is made once more where memory was refused.
+/// A record with this room, of a terminal that doesn't fail; it is made again if memory was refused.
 pub fn record_of(alloc: Global, room: usize) -> Result<Rc<Record>, Refusal> {
     match Record::new(alloc, Plan::Never, room) {
         Ok(record) => Ok(record),
@@ -30,7 +30,7 @@ pub fn record_of(alloc: Global, room: usize) -> Result<Rc<Record>, Refusal> {
     }
 }
 
-/// Plays a script, and notes what its calls do; whether there was memory for what plays it.
+/// Plays a script, and notes what its calls do; whether there was memory for its stage.
 fn note<M: Stages>(stages: &M, record: &Rc<Record>, notes: &mut Notes) -> Result<bool, Finding> {
     let mut stage = match stages.on(record) {
         Ok(stage) => stage,
@@ -41,7 +41,7 @@ fn note<M: Stages>(stages: &M, record: &Rc<Record>, notes: &mut Notes) -> Result
     Ok(true)
 }
 
-/// Plays a script, and judges it; once more where the judge finds no memory.
+/// Plays a script, and judges it; again if the judge gets no memory.
 fn played_by<M: Stages>(alloc: Global, stages: &M, playing: &Playing) -> Result<Where, Finding> {
     let record = record_of(alloc, playing.room)?;
     let mut notes = match Notes::new(alloc) {
@@ -85,7 +85,7 @@ pub const PLAYED: &[(&str, Played)] = &[
     ("run", Played::Program),
 ];
 
-/// Where memory was refused in what is played.
+/// Where memory was refused in a run.
 pub fn found<R: Runs>(rt: R, played: Played, playing: &Playing) -> Result<Where, Finding> {
     let size = playing.size;
     match played {

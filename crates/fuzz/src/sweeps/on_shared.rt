@@ -12,10 +12,10 @@ use std::sync::Wait;
 
 type Bar<R> = ProgressBar<Behind, StepClock, R>;
 
-/// A clock that stands.
+/// A clock that stands still.
 const CLOCK: StepClock = StepClock { next: 0, step: 0 };
 
-/// A shared board, its bars in the order in which they came, and what its terminal's writer was given.
+/// A shared board, its bars in the order of insertion, and what its terminal's writer got.
 #[derive(Drop)]
 pub struct OnShared<R: Wait + Copy + Clone + Drop> {
     rt: R,
@@ -46,7 +46,7 @@ impl<R: AllocGlobal + Wait + Copy + Clone + Drop> OnShared<R> {
 }
 
 impl<R: Wait + Copy + Clone + Drop> OnShared<R> {
-    /// A bar that says this and stands on no board.
+    /// A bar with this message that stands on no board.
     fn saying(&self, text: &str) -> Result<Bar<R>, Refusal> {
         let style = ProgressStyle::with_template(self.alloc, "{msg}")?;
         let setup = Setup {
@@ -63,7 +63,7 @@ impl<R: Wait + Copy + Clone + Drop> OnShared<R> {
         }
     }
 
-    /// A new bar that says this comes before another, or last.
+    /// Adds a new bar with this message before another, or last.
     fn add(&mut self, anchor: Option<u64>, text: &str) -> Result<(), Refusal> {
         let new = self.saying(text)?;
         let taken = match anchor {
@@ -73,7 +73,7 @@ impl<R: Wait + Copy + Clone + Drop> OnShared<R> {
         Ok(self.bars.push(Some(taken?))?)
     }
 
-    /// A bar says this text, or is to keep its rows where there is none; it isn't drawn.
+    /// Sets the message of a bar, or lets it keep its rows if there is none; it isn't drawn.
     fn told(&mut self, number: u64, text: Option<&str>) -> Result<(), Refusal> {
         let bar = self.bar(number)?.clone()?;
         let told = match text {
@@ -84,7 +84,7 @@ impl<R: Wait + Copy + Clone + Drop> OnShared<R> {
         Ok(())
     }
 
-    /// The last owner of a bar goes, which answers nothing: it counts as drawn where the writer didn't fail.
+    /// Drops the last owner of a bar, which has no answer: it counts as drawn if the writer didn't fail.
     fn drop_bar(&mut self, number: u64) -> Said {
         let before = self.record.point().failures;
         if let Some(bar) = self.bars.get_mut(number as usize) {

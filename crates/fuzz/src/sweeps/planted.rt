@@ -12,18 +12,18 @@ use std::alloc::Global;
 use std::io::Write;
 use std::rc::Rc;
 
-/// What a call does in the place of what it should.
+/// A wrong body of a call.
 #[derive(Drop)]
 enum Body {
     /// Nothing.
     Nothing,
     /// It writes this.
     Writes(&'static str),
-    /// What another call should.
+    /// It does what another call should.
     Makes(Step),
 }
 
-/// A wrong body of calls of a board's script: whose calls, which of them, what each does, and what it answers.
+/// A wrong body of calls of a board's script: whose calls, which of them, what each does, and its answer.
 #[derive(Drop)]
 pub struct Planted {
     pub name: &'static str,
@@ -33,11 +33,11 @@ pub struct Planted {
     said: Said,
 }
 
-/// What a call answers that found no memory.
+/// The answer of a call that got no memory.
 const REFUSED: Said = Err(Refusal::Memory);
 
-/// The first two do what a call may that finds no memory: nothing, or what it does before its draw. The last six are of a script with sizes:
-/// a draw of no line comes before the calls of the numbers 29 to 32, so that rows are kept.
+/// The first two do what a call that gets no memory may do: nothing, or what it does before its draw. The last six are for a script with
+/// sizes: a draw without lines comes before the calls with the numbers 29 to 32, so that rows are kept.
 pub const PLANTED: &[Planted] = &[
     Planted {
         name: "a draw does nothing",
@@ -146,10 +146,10 @@ pub const PLANTED: &[Planted] = &[
     },
 ];
 
-/// A size on which the bars' rows are as many as on the largest terminal, and filled with more blanks.
+/// A size on which the bars have as many rows as on the largest terminal, filled with more blanks.
 const WIDE: Step = Step::Size(Size { rows: 4, cols: 20 });
 
-/// A board with a wrong body, what its terminal is given, and how many calls it made.
+/// A board with a wrong body, what its terminal got, and how many calls it made.
 #[derive(Drop)]
 struct OnPlanted {
     board: OnBoard<Behind>,
@@ -184,7 +184,7 @@ impl Stage for OnPlanted {
     }
 }
 
-/// What the judge of refused memory finds of a board's script with this body.
+/// What the judge of refused memory finds for a board's script with this body.
 pub fn found<R: Runs>(rt: R, planted: &'static Planted) -> Result<Where, Finding> {
     let record = Record::new(rt.alloc(), Plan::Never, 4096)?;
     let mut notes = Notes::new(rt.alloc())?;

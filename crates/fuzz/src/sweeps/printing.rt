@@ -1,4 +1,4 @@
-//! `bars run` before an output that fails.
+//! `bars run` with an output that fails.
 use crate::sweeps::memory::record_of;
 use crate::sweeps::sweep::{SIZES, Tally, size_of};
 use anyhow::Result;
@@ -19,7 +19,7 @@ const PRINTED: &[u8] = b"one\ntwo\nc\n";
 /// The size on which it prints that.
 const WIDE: Size = Size { rows: 4, cols: 10 };
 
-/// How many bytes the output has room for from the first.
+/// The initial room of the output, in bytes.
 const ROOM: usize = 64;
 
 /// The program's words, for a terminal of this size.
@@ -33,7 +33,7 @@ fn words(alloc: Global, size: Size) -> Result<Vec<String>, Refusal> {
     Ok(args)
 }
 
-/// What a run of the program did: its status, what its output was given, what it printed and what it said.
+/// The result of a run of the program: its status, what its output got, what it printed and its message.
 #[derive(Drop)]
 struct Ran {
     status: u8,
@@ -43,7 +43,7 @@ struct Ran {
 }
 
 impl Ran {
-    /// Runs the program with these words before an output that fails so.
+    /// Runs the program with these words and an output that fails as planned.
     fn new(alloc: Global, args: &[String], plan: Plan) -> Result<Ran> {
         let record = Record::new(alloc, plan, ROOM)?;
         let mut output = Wire(record.clone()?);
@@ -58,7 +58,7 @@ impl Ran {
         })
     }
 
-    /// Whether it printed a beginning of what the other one did, said that its output failed, and asked no more of it.
+    /// Whether it printed a prefix of the other's output, reported that its output failed, and wrote no more.
     fn is_beginning_of(&self, whole: &Ran) -> bool {
         self.status == 2
             && self.point.failures == 1
@@ -67,7 +67,7 @@ impl Ran {
     }
 }
 
-/// Counts a run where the output fails so.
+/// Counts a run with an output that fails as planned.
 fn fails(
     tally: &mut Tally,
     alloc: Global,
@@ -108,7 +108,7 @@ fn fails_at_calls(
     Ok(())
 }
 
-/// Counts the runs on a terminal of this size: one where nothing fails and nothing is said, which it gives, and those where the output fails.
+/// Counts the runs on a terminal of this size: one without a failure or a message, which it returns, and those with an output that fails.
 fn runs_at(tally: &mut Tally, alloc: Global, size: Size) -> Result<Ran> {
     let args = words(alloc, size)?;
     let whole = Ran::new(alloc, &args, Plan::Never)?;
@@ -118,7 +118,7 @@ fn runs_at(tally: &mut Tally, alloc: Global, size: Size) -> Result<Ran> {
     Ok(whole)
 }
 
-/// All runs, on terminals of one to four rows and one to six columns, and on the wide one, where it prints what it should.
+/// All runs, on terminals of one to four rows and one to six columns, and on the wide one, where it prints the expected rows.
 pub fn each_failure(alloc: Global) -> Result<Tally> {
     let mut tally = Tally::default();
     for number in 0..SIZES {
@@ -129,7 +129,7 @@ pub fn each_failure(alloc: Global) -> Result<Tally> {
     Ok(tally)
 }
 
-/// Where memory was refused in a run, in which the output has room for all: it prints that, or says which line it was, or that it was none.
+/// Where memory was refused in a run whose output has room for everything: it prints that, or names the line, or reports that it was none.
 pub fn refused(alloc: Global) -> Result<Where, Finding> {
     let args = match words(alloc, WIDE) {
         Ok(args) => args,
@@ -153,7 +153,7 @@ pub fn refused(alloc: Global) -> Result<Where, Finding> {
     }
 }
 
-/// Where memory was refused by what is said on standard error: in a line, or before the first and behind the last.
+/// Where memory was refused, by the message on standard error: in a line, or before the first or after the last.
 fn named(said: &[u8]) -> Result<Where, Finding> {
     let Some(rest) = said.strip_prefix(b"bars: ") else {
         return Err(Finding::Answer);

@@ -4,7 +4,7 @@ use scripts::judged::judge::{Finding, Look};
 use scripts::judged::record::{Plan, Point, Size};
 use std::sync::Wait;
 
-/// A run: what plays its script, on a terminal of this size that fails so, and how closely it is looked at.
+/// A run: what plays its script, on a terminal of this size that fails as planned, and at which bytes rows are checked.
 #[derive(Clone, Copy, Drop)]
 pub struct Case {
     pub kind: Kind,
@@ -14,7 +14,7 @@ pub struct Case {
 }
 
 impl Case {
-    /// Whether so many of its calls may fail.
+    /// Whether this many of its calls may fail.
     fn admits(self, failed: u64) -> bool {
         match self.plan {
             Plan::Never => failed == 0,
@@ -25,7 +25,7 @@ impl Case {
     }
 }
 
-/// How many runs there were, how many weren't as they should be, and what the first of these was found to be where it is a script's.
+/// How many runs there were, how many were wrong, and what was found in the first of these if it is a script's.
 #[derive(Default, Drop)]
 pub struct Tally {
     pub runs: u64,
@@ -33,16 +33,16 @@ pub struct Tally {
     pub first: Option<(Case, Found)>,
 }
 
-/// What a run was found to be.
+/// The result of a run.
 #[derive(Debug, Drop)]
 pub enum Found {
-    /// Not as it should be.
+    /// Wrong.
     Wrong(Finding),
-    /// So many of its calls failed.
+    /// This many of its calls failed.
     Failed(u64),
 }
 
-/// What is asked of the runtime.
+/// What it needs from the runtime.
 pub trait Runs: AllocGlobal + Wait + Copy + Clone + Drop {}
 
 impl<R: AllocGlobal + Wait + Copy + Clone + Drop> Runs for R {}
@@ -56,7 +56,7 @@ impl Tally {
         }
     }
 
-    /// Plays this case, and counts it; what the writer was given, nothing where the run isn't as it should be.
+    /// Plays this case, and counts it; how much the writer got, nothing if the run is wrong.
     fn plays<R: Runs>(&mut self, rt: R, case: Case) -> Point {
         let found = match run(rt, case) {
             Ok((failed, point)) if case.admits(failed) => {
@@ -73,7 +73,7 @@ impl Tally {
         Point::default()
     }
 
-    /// Makes the runs in which this call fails, and one behind it, each up to the last.
+    /// Makes the runs in which this call and a later one fail, for each later one up to the last.
     fn with_each_later<R: Runs>(&mut self, rt: R, case: Case, (first, last): (u64, u64)) {
         for second in first.saturating_add(1)..=last {
             let plan = Plan::Both(first, second);
@@ -82,14 +82,14 @@ impl Tally {
     }
 }
 
-/// Where a terminal fails in the runs of a script. Before them the script is played once where nothing fails.
+/// Where a terminal fails in the runs of a script. Before them the script is played once without a failure.
 #[derive(Clone, Copy, Drop)]
 pub enum Sweep {
     /// At each call, once; it takes nothing.
     EachCall,
-    /// At each byte, once; what stands before it in its call is taken.
+    /// At each byte, once; the bytes before it in its call are taken.
     EachByte,
-    /// From each call on at all.
+    /// From each call on.
     FromEachCall,
     /// At each two calls.
     EachPair,
@@ -101,7 +101,7 @@ pub const LARGEST: Size = Size { rows: 4, cols: 6 };
 /// How many sizes terminals have: one to four rows, and one to six columns.
 pub const SIZES: u16 = 24;
 
-/// The size of a number below that.
+/// The size with a number below that.
 pub fn size_of(number: u16) -> Size {
     Size {
         rows: (number / LARGEST.cols).saturating_add(1),
@@ -120,8 +120,8 @@ impl Sweep {
         }
     }
 
-    /// Makes the runs at one size, and counts them. Where two calls fail, bytes are looked at behind each call; else behind each byte from
-    /// the first failure on, but on smaller terminals only while a failure isn't drawn over.
+    /// Makes the runs at one size, and counts them. If two calls fail, rows are checked after each call; otherwise after each byte from the
+    /// first failure on, but on smaller terminals only until a failure is drawn over.
     pub fn at<R: Runs>(self, rt: R, kind: Kind, size: Size, tally: &mut Tally) {
         let unfailed = Case {
             kind,
@@ -147,7 +147,7 @@ impl Sweep {
         }
     }
 
-    /// Makes the runs that fail at so many places, counted from 0.
+    /// Makes the runs that fail at the given number of places, counted from 0.
     fn each<R: Runs>(self, rt: R, case: Case, places: u64, tally: &mut Tally) {
         for place in 0..places {
             let plan = match self {

@@ -1,13 +1,13 @@
-//! Random frames, each like the one before, and calls.
+//! Random frames, each like the last one, and calls.
 use crate::numbers::Numbers;
 use indicatif_term::draw_target::{LineType, Segment};
 use indicatif_text::columns::Refusal;
 use std::alloc::Global;
 
-/// A call to an engine; a draw and a log have the frame beside them.
+/// A call of an engine; a draw and a log also take the frame.
 #[derive(Drop)]
 pub enum Call {
-    /// The first bars, so many, pass.
+    /// A draw, with the given number of bars from the first on dropped.
     Draw(usize),
     Log(String),
     Clear,
@@ -51,7 +51,7 @@ impl Frame {
         }
     }
 
-    /// A new bar of up to three lines.
+    /// Adds a new bar of up to three lines.
     fn add(&mut self, at: usize, numbers: &mut Numbers) -> Result<(), Refusal> {
         let mut lines = Vec::new(self.alloc);
         for _ in 0..numbers.below(4) {
@@ -64,14 +64,14 @@ impl Frame {
         Ok(())
     }
 
-    /// One bar less.
+    /// Removes a bar.
     fn take(&mut self, at: usize) {
         if at < self.bars.len() {
             self.bars.remove(at);
         }
     }
 
-    /// One more line of a bar.
+    /// Adds a line to a bar.
     fn lengthen(&mut self, at: usize, numbers: &mut Numbers) -> Result<(), Refusal> {
         if at < self.bars.len() {
             let line = line(self.alloc, numbers)?;
@@ -82,7 +82,7 @@ impl Frame {
         Ok(())
     }
 
-    /// Another text of a line.
+    /// Sets another text of a line.
     fn rewrite(&mut self, at: usize, numbers: &mut Numbers) -> Result<(), Refusal> {
         if at < self.bars.len() {
             let line = match numbers.below(2) {
@@ -97,7 +97,7 @@ impl Frame {
         Ok(())
     }
 
-    /// A call that suits it.
+    /// A call that fits the frame.
     pub fn call(&mut self, numbers: &mut Numbers) -> Result<Call, Refusal> {
         Ok(match numbers.below(16) {
             0 | 1 => Call::Log(text(self.alloc, numbers)?),
@@ -111,7 +111,7 @@ impl Frame {
         })
     }
 
-    /// Bars that passed or were kept are gone.
+    /// Removes the bars that were dropped or kept.
     pub fn follow(&mut self, call: &Call) {
         match call {
             Call::Draw(pass) => {
@@ -165,7 +165,7 @@ fn progress(alloc: Global, numbers: &mut Numbers) -> Result<String, Refusal> {
     Ok(text)
 }
 
-/// Some characters: narrow, wide and joined ones, and colours. The first isn't a joined one.
+/// Some characters: narrow, wide and joined ones, and colours. The first isn't a zero-width one.
 fn characters(alloc: Global, numbers: &mut Numbers) -> Result<String, Refusal> {
     let mut text = String::new(alloc);
     for at in 0..numbers.below(10) {

@@ -1,10 +1,10 @@
-//! A terminal that keeps colours: one in memory on which a character with colours stands as another one of its width.
+//! A terminal that keeps colours: one in memory that shows a character with colours as another one of its width.
 use indicatif_term::in_memory::Cells;
 use indicatif_text::columns::Refusal;
 use scripts::judged::record::Size;
 use std::alloc::Global;
 
-/// The colours that are on: whether letters are bold, and the colour's number, 0 for none.
+/// The open colours: whether letters are bold, and the colour's number, 0 for none.
 #[derive(Clone, Copy, Drop)]
 struct Look {
     is_bold: bool,
@@ -18,7 +18,7 @@ const PLAIN: Look = Look {
 };
 
 impl Look {
-    /// After a parameter of a colour sequence.
+    /// The colours after a parameter of a colour sequence.
     fn told(self, parameter: &str) -> Look {
         match parameter.parse::<u8>() {
             Ok(1) => Look {
@@ -33,7 +33,7 @@ impl Look {
         }
     }
 
-    /// What stands for a character with these colours: a character of private use for one of ASCII, a wide one for a wide one.
+    /// The character that shows this one with these colours: one of private use for an ASCII one, a wide one for a wide one.
     fn shown(self, c: char) -> char {
         let number = u32::from(self.colour) + if self.is_bold { 9 } else { 0 };
         let other = match c {
@@ -46,7 +46,7 @@ impl Look {
     }
 }
 
-/// What a terminal shows with its colours, of which `0`, `1` and the eight of `30` to `37` are known.
+/// A terminal with its colours, of which `0`, `1` and the eight of `30` to `37` are known.
 #[derive(Drop)]
 pub struct Coloured {
     cells: Cells,
@@ -55,7 +55,7 @@ pub struct Coloured {
     read: usize,
     /// What was read of a sequence.
     sequence: String,
-    /// What the cells are fed with.
+    /// The bytes for the cells.
     fed: String,
 }
 
@@ -70,7 +70,7 @@ impl Coloured {
         })
     }
 
-    /// Reads on in what was written; whether it could be read.
+    /// Reads what was written since; whether it could be read.
     pub fn read_on(&mut self, written: &[u8]) -> Result<bool, Refusal> {
         let Ok(text) = str::from_utf8(written.get(self.read..).unwrap_or(&[])) else {
             return Ok(false);
@@ -96,7 +96,7 @@ impl Coloured {
         Ok(())
     }
 
-    /// A colour sequence tells colours; the cells get any other.
+    /// A colour sequence sets colours; the cells get any other.
     fn end_sequence(&mut self) -> Result<(), Refusal> {
         let sequence = self.sequence.as_str();
         match sequence
@@ -111,7 +111,7 @@ impl Coloured {
         Ok(())
     }
 
-    /// Whether both show the same rows in the same colours, with their cursors in the same place.
+    /// Whether both show the same rows in the same colours, with the same cursor.
     pub fn is_as(&self, other: &Coloured) -> Result<bool, Refusal> {
         Ok(
             self.cells.cursor() == other.cells.cursor()

@@ -1,4 +1,4 @@
-//! An engine that writes whole frames: it takes all rows back, and writes all lines anew.
+//! An engine that writes whole frames: it erases all rows, and writes all lines again.
 use indicatif_term::draw_target::{Keep, LineType, MultiProgressAlignment, Segment};
 use indicatif_term::term_like::TermLike;
 use indicatif_text::columns::{Refusal, wrapped};
@@ -13,7 +13,7 @@ struct BarRows {
     rows: usize,
 }
 
-/// What of a frame is shown: lines from its front, and how many rows each bar has of them.
+/// The shown part of a frame: lines from its front, and how many rows each bar has of them.
 #[derive(Drop)]
 struct Shown<'a> {
     lines: Vec<&'a str>,
@@ -30,7 +30,7 @@ pub struct WholeFrames<T: TermLike + Drop> {
     bars: Vec<BarRows>,
     /// How many rows were reached.
     reach: usize,
-    /// Whether the cursor is at the front of the row below all these; else it waits at the end of the last.
+    /// Whether the cursor is at the front of the row below all these; otherwise it waits at the end of the last.
     below: bool,
 }
 
@@ -51,7 +51,7 @@ impl<T: TermLike + Drop> WholeFrames<T> {
         &self.term
     }
 
-    /// Writes a frame in the place of the last rows, so many; above it a text of so many rows, if one is given.
+    /// Writes a frame over the last rows; above it a text, if one is given.
     fn replace(
         &mut self,
         taken: usize,
@@ -78,7 +78,7 @@ impl<T: TermLike + Drop> WholeFrames<T> {
         Ok(())
     }
 
-    /// Draws a frame in the place of the live rows; the rows of its first bars, so many, are kept.
+    /// Draws a frame over the live rows; the rows of its first bars are kept.
     pub fn draw(
         &mut self,
         frame: &[Segment],
@@ -97,7 +97,7 @@ impl<T: TermLike + Drop> WholeFrames<T> {
         self.rest()
     }
 
-    /// Writes a text above a frame, in the place of all rows.
+    /// Writes a text above a frame, over all rows.
     pub fn log(
         &mut self,
         text: &str,
@@ -113,7 +113,7 @@ impl<T: TermLike + Drop> WholeFrames<T> {
         self.rest()
     }
 
-    /// Takes all rows back.
+    /// Erases all rows.
     pub fn clear(&mut self) -> Result<(), Refusal> {
         self.take_back(self.kept.saturating_add(self.live()))?;
         self.kept = 0;
@@ -172,7 +172,7 @@ impl<T: TermLike + Drop> WholeFrames<T> {
         Ok(rows)
     }
 
-    /// As many lines from the front as have at most the terminal's rows together.
+    /// As many lines from the front as fit on the terminal's rows.
     fn shown<'a>(&self, frame: &'a [Segment]) -> Result<Shown<'a>, Refusal> {
         let mut shown = Shown {
             lines: Vec::new(self.alloc),
@@ -185,7 +185,7 @@ impl<T: TermLike + Drop> WholeFrames<T> {
         Ok(shown)
     }
 
-    /// The same of a bar, in the room that is left: none once a line found too little.
+    /// As many lines of a bar as fit on the rows that are left: none after a line that didn't fit.
     fn show<'a>(
         &self,
         bar: &'a Segment,
@@ -210,7 +210,7 @@ impl<T: TermLike + Drop> WholeFrames<T> {
         Ok(())
     }
 
-    /// Takes the last rows back, so many: the cursor is at the front of the first then.
+    /// Erases the last rows: the cursor is at the front of the first afterwards.
     fn take_back(&mut self, rows: usize) -> Result<(), Refusal> {
         if rows == 0 {
             return Ok(());
@@ -227,7 +227,7 @@ impl<T: TermLike + Drop> WholeFrames<T> {
         Ok(())
     }
 
-    /// Writes lines, each on a row of its own, and fills the last row.
+    /// Writes lines, each on its own row, and fills the last row.
     fn put(
         &mut self,
         text: Option<(&str, usize)>,
@@ -275,7 +275,7 @@ impl<T: TermLike + Drop> WholeFrames<T> {
         Ok(())
     }
 
-    /// Goes below the rows where no live one is left, and rows below them were reached.
+    /// Goes below the rows if no live one is left, and rows below them were reached.
     fn rest(&mut self) -> Result<(), Refusal> {
         let goes_below = self.live() == 0 && self.reach > self.kept;
         if goes_below && !self.below {

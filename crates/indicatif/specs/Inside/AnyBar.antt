@@ -1,4 +1,4 @@
--- What a call makes of a shared bar, alone or on a board, and what is read of it.
+-- What a call changes in a shared bar, alone or on a board, and what can be read from it.
 use Rattle.std.specs.Prelude.{◌≡◌, ◌⊎◌, ℕ, IsTrue, IsFalse, false, Option, Some, IfSome, Result, Ok, Err}
 use Rattle.indicatif_text.specs.declared.refusal.Refusal.{Refusal}
 use Rattle.indicatif_text.specs.declared.refusal.Refusal.TheVariants.{Memory}
@@ -25,40 +25,40 @@ abbrev pub LoneIsSomewhere : {K T : Type 0} → LoneBar K T → Type 0
 LoneIsSomewhere {K} b = (s : LoneState (BarRecord K)) × LoneIsIn b s
 
 module _ {K T : Type 0} (m : Tracking K) (view : T → TermView) where
-  -- a bar that was in a state made a call at this moment, with this answer: what became of its record, and its step
+  -- a bar in some state made this call at this moment, with this answer: its record afterwards, and its step
   pub record MadeBy (old new : LoneBar K T) (call : LoneCall (Command K)) (now : ℕ) (answer : Result Drawn Refusal) : Type 0 where
     pub was : LoneIsSomewhere old
     pub done : CallDone m old new call now answer
     pub leads : LoneLeadsBy m view old new call now answer
 
-  -- the same at some moment of its clock
+  -- a bar made this call, with this answer, at some moment of its clock
   abbrev pub Makes : LoneBar K T → LoneBar K T → LoneCall (Command K) → Result Drawn Refusal → Type 0
   Makes old new call answer = (now : ℕ) × MadeBy old new call now answer
 
 module _ {K T C : Type 0} where
-  -- what a call with this answer made of a bar: alone, it made the call; on a board, it stays there, and the board can answer so
+  -- a bar after a call with this answer: alone, it made the call; on a board, it stays there, and the board can give this answer
   abbrev pub BarMakes : Tracking K → (T → TermView) → AnyBar K T C → LoneCall (Command K) → Result Drawn Refusal → AnyBar K T C → Type 0
   BarMakes m view (Alone old) call answer new = (bar : LoneBar K T) × (new ≡ Alone bar) × Makes m view old bar call answer
   BarMakes m view (Member member) call answer new = (new ≡ Member member) × SharedDraws K (on_board (id_of member.id) call) answer
 
-  -- the same of the bar's end: alone, one that is finished stays as it is
+  -- a bar after its end, with this answer: alone, a finished one stays as it is
   abbrev pub BarEnds : Tracking K → (T → TermView) → AnyBar K T C → Result Drawn Refusal → AnyBar K T C → Type 0
   BarEnds m view (Alone old) answer new =
       (IsTrue (is_finished (record_of old).progress) → new ≡ Alone old)
       × (IsFalse (is_finished (record_of old).progress) → (bar : LoneBar K T) × (new ≡ Alone bar) × Makes m view old bar (Obey FinishUsingStyle) answer)
   BarEnds m view (Member member) answer new = (new ≡ Member member) × SharedDraws K (Drop (id_of member.id)) answer
 
-  -- what was read of the bar's state: alone, of the one there; on a board, of some bar's, if the board has the bar
+  -- what was read from the bar's state: alone, from its own; on a board, from some bar's, if the board has the bar
   abbrev pub ReadsBy : {A : Type 0} → (Progress → A → Type 0) → AnyBar K T C → Option A → Type 0
   ReadsBy {A} R (Alone bar) found = (a : A) × (found ≡ Some a) × R (record_of bar).progress a
   ReadsBy R (Member member) found = IfSome found (λ a. (shown : Progress) × R shown a)
 
-  -- a measure of the bar at some moment; on a board, of some bar
+  -- a value read from the bar at some moment; on a board, from some bar
   abbrev pub Measures : {A : Type 0} → (Progress → ℕ → A) → AnyBar K T C → A → Type 0
   Measures measure (Alone bar) found = (now : ℕ) × (found ≡ measure (record_of bar).progress now)
   Measures measure (Member member) found = (p : Progress) × (now : ℕ) × (found ≡ measure p now)
 
-  -- a bar that stands alone looks so
+  -- a bar that stands alone has this style
   abbrev pub LooksSo : AnyBar K T C → BarStyle K → Type 0
   LooksSo (Alone bar) style = style ≡ (record_of bar).style
   LooksSo (Member member) style = Unit {0}
@@ -68,24 +68,24 @@ module _ {K T C : Type 0} where
   IsUnfinished (Alone bar) = is_finished (record_of bar).progress ≡ false
   IsUnfinished (Member member) = Unit {0}
 
-  -- what a closure answered of the bar's state; on a board, of some bar's, or nothing where the board hasn't the bar
+  -- what a closure returned for the bar's state; on a board, for some bar's, or nothing if the board hasn't the bar
   abbrev pub IsOf : (Progress → Changed → Type 0) → AnyBar K T C → Changed → Type 0
   IsOf R (Alone bar) change = R (record_of bar).progress change
   IsOf R (Member member) change = ((shown : Progress) × R shown change) ⊎ (change ≡ unchanged)
 
-  -- a board's bar was to have another target: it stands alone on that, and the others were drawn; or it stays where it was
+  -- a board's bar was given another target: it stands alone there, and the others were drawn; or it keeps its place
   abbrev pub BarLeaves : AnyBar K T C → Option T → Result Drawn Refusal → AnyBar K T C → Type 0
   BarLeaves old term answer new =
       ((bar : LoneBar K T) × (new ≡ Alone bar) × (lone_terminal bar ≡ term) × CanDraw answer)
       ⊎ ((e : Refusal) × (answer ≡ Err e) × (new ≡ old) × IsMissing e)
 
-  -- another target was asked for: alone, the bar is as it was, on that; a board's bar leaves its board for it
+  -- a bar was given another target: alone, it is unchanged, on that target; a board's bar leaves its board for it
   abbrev pub BarTurns : AnyBar K T C → Option T → Result Drawn Refusal → AnyBar K T C → Type 0
   BarTurns (Alone old) term answer new =
       (bar : LoneBar K T) × (new ≡ Alone bar) × (record_of bar ≡ record_of old) × (lone_terminal bar ≡ term) × (answer ≡ Ok Limited)
   BarTurns (Member member) term answer new = BarLeaves (Member member) term answer new
 
-  -- a text of the bar isn't told: there is no memory for it, or the board hasn't the bar
+  -- why a text of the bar can't be read: there is no memory for it, or the board hasn't the bar
   abbrev pub IsUntold : AnyBar K T C → Refusal → Type 0
   IsUntold (Alone bar) e = e ≡ Memory
   IsUntold (Member member) e = IsMissing e

@@ -3,7 +3,7 @@ use Rattle.indicatif_bar.specs.Commands.{Command, Inc, Dec, SetPosition}
 use Rattle.indicatif.specs.declared.shared.position_change.PositionChange.{PositionChange}
 use Rattle.indicatif.specs.declared.shared.position_change.PositionChange.TheVariants as change
 
--- the position goes up or down, or becomes this one
+-- the position goes up or down, or is set
 abbrev pub position_command : {K : Type 0} → PositionChange → Command K
 position_command (change.Up delta) = Inc delta
 position_command (change.Down delta) = Dec delta

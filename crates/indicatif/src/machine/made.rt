@@ -1,4 +1,4 @@
-//! Shared bars of standard error, whose types need no other word.
+//! Shared bars on standard error, with short type names.
 ghost use Rattle.std.specs.Prelude.{◌≡◌, IfErr};
 
 use crate::machine::{MachineClock, Shares, StderrBar, on_stderr};
@@ -6,13 +6,13 @@ use crate::shared::ProgressBar;
 use indicatif_bar::style::{ProgressStyle, Tracks};
 use indicatif_text::columns::Refusal;
 
-/// A bar of this length or of none on standard error, in this style: `ProgressBar::styled` with the setup of `on_stderr`.
+/// A bar on standard error with this length or none, in this style: `ProgressBar::styled` with the setup of `on_stderr`.
 ///
 /// ```
 /// let bar = styled_on_stderr(rt, host, style, Some(100))?;
 /// ```
 ///
-/// Refused: `Memory`; the style is given up.
+/// Refused: `Memory`; the style is dropped.
 pub fn styled_on_stderr<R: Shares, K: Tracks>(
     rt: R,
     host: &HostRuntime,
@@ -24,7 +24,7 @@ pub fn styled_on_stderr<R: Shares, K: Tracks>(
     ProgressBar::styled(rt, rt.alloc(), style, len, on_stderr(host)?)
 }
 
-/// A bar without a length that a board of standard error may take in: `ProgressBar::hidden`, which fits any terminal, of a board there.
+/// A hidden bar without a length, which a board on standard error may take in: `ProgressBar::hidden` with that board's type.
 ///
 /// ```
 /// let bar = board.add(hidden_bar(rt, host)?)?;

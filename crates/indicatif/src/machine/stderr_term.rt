@@ -8,9 +8,9 @@ use indicatif_term::term_like::{OwnRows, Resize, Term, TermLike};
 use indicatif_text::columns::Refusal;
 use std::io::{self, BufWriter, Stderr};
 
-/// The terminal behind standard error: an `OwnRows` over a `Term` behind a buffer, in a type without parameters. A proof compares it by
-/// its name alone. So each function that calls a bar on it is proved faster than one whose bar is on a `StreamTerm`. It tells what that
-/// `OwnRows` tells: of standard error nothing but its size and its faults, since that tells no bytes. Once the terminal has gone, what is
+/// The terminal behind standard error: an `OwnRows` over a `Term` behind a buffer, in a type without parameters. A proof compares it by its
+/// name alone, so each function that calls a bar on it is proved faster than one whose bar is on a `StreamTerm`. It gives what that
+/// `OwnRows` gives: on standard error only its size and its faults, since no bytes can be read back. Once the terminal is gone, what is
 /// written is dropped, and each call succeeds (`UntilGone`).
 ///
 /// ```
@@ -22,7 +22,7 @@ pub struct StderrTerm {
 }
 
 impl StderrTerm {
-    /// A target on an `OwnRows` over standard error, as one on a `StderrTerm`.
+    /// A target on an `OwnRows` over standard error, as a target on a `StderrTerm`.
     pub(crate) fn target(
         target: ProgressDrawTarget<OwnRows<Term<BufWriter<UntilGone<Stderr>>>>>,
     ) -> ProgressDrawTarget<StderrTerm>
@@ -36,7 +36,7 @@ impl StderrTerm {
         }
     }
 
-    /// Whether a drawing has found that the terminal has gone.
+    /// Whether a draw has found that the terminal is gone.
     ///
     /// ```
     /// let is_gone = bar.with_term(|term| term.is_some_and(|shown| shown.is_gone()));
@@ -94,7 +94,7 @@ impl TermLike for StderrTerm {
     }
 }
 
-/// As an `OwnRows` takes it: no byte is written. Of one that `on_stderr` made, tell it one column less than there are.
+/// As `OwnRows` does it: no byte is written. To one that `on_stderr` made, give one column less than the terminal has.
 impl Resize for StderrTerm {
     ghost takes_memory = { false };
 

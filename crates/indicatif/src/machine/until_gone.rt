@@ -1,18 +1,18 @@
-//! A writer that outlives whoever reads it.
+//! A writer that outlives its reader.
 ghost use Rattle.std.specs.Prelude.{◌≡◌, ◌↔◌, IsTrue, IsOk, Ok, IfErr, length, false};
 ghost use Rattle.std.specs.Io.{WritesAtMost};
 ghost use Rattle.indicatif.specs.UntilGone.{IsGone};
 
 use std::io::{self, ErrorKind, Write};
 
-/// A writer to a terminal that may go away before the program ends, as its window is closed. Then a write fails. From that one on
-/// all that is written is dropped, and each call succeeds: what a program works for doesn't end since its bars can't be drawn.
+/// A writer to a terminal that may go away before the program ends, for instance because its window is closed. Then a write fails. From
+/// that write on, everything written is dropped, and each call succeeds: a program needn't end because its bars can't be drawn.
 ///
-/// A terminal has gone if a write fails with `BrokenPipe` or `ConnectionReset`, or by an input or output error (`EIO`), which is what
-/// Linux answers once a terminal is closed. One that doesn't take a byte now, and doesn't let the program wait (`WouldBlock`), counts as
-/// gone as well: part of a drawing stands there, and nobody knows which. Another failure, such as a full disk, is handed on.
+/// A terminal is gone if a write fails with `BrokenPipe` or `ConnectionReset`, or with an input/output error (`EIO`), which Linux gives
+/// once a terminal is closed. A terminal that would block (`WouldBlock`) counts as gone too: an unknown part of a draw stands there. Any
+/// other failure, such as a full disk, is handed on.
 ///
-/// Contracts see nothing of the bytes.
+/// Contracts don't see the bytes.
 ///
 /// ```
 /// let writer = BufWriter::new(alloc, UntilGone::new(rt.stderr()))?;
@@ -25,7 +25,7 @@ pub struct UntilGone<W> {
 }
 
 impl<W> UntilGone<W> {
-    /// This writer, whose reader is there.
+    /// Wraps a writer whose reader is there.
     pub fn new(writer: W) -> UntilGone<W>
         ensures { result ≡ record { writer = writer; gone = false } }
     {
@@ -42,7 +42,7 @@ impl<W> UntilGone<W> {
         &self.writer
     }
 
-    /// Whether a write has found nobody who reads.
+    /// Whether a write has found that the reader is gone.
     ///
     /// ```
     /// let is_gone = term.writer().get_ref().is_gone(); // of a `Term` behind a `BufWriter`
@@ -89,10 +89,10 @@ impl<W: Write> Write for UntilGone<W> {
     }
 }
 
-/// Linux's number of an input or output error, which has no kind of its own.
+/// Linux's number of an input/output error, which has no `ErrorKind` of its own.
 const EIO: i32 = 5;
 
-/// Whether a failure says that nobody reads any more.
+/// Whether an error means that the reader is gone.
 fn says_gone(error: &io::Error) -> bool
     ensures { IsTrue result ↔ IsGone error.now }
 {

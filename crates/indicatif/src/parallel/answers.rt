@@ -1,4 +1,4 @@
-//! What threads answer at the items of a list.
+//! The answers of threads at the items of a list.
 ghost use Rattle.std.specs.Prelude.{◌≡◌, ◌≤◌, ◌<◌, [], ℕ, Err, IfOk, IfErr, OnOk, length, All};
 ghost use Rattle.std.specs.List.{AllZip};
 ghost use Rattle.std.specs.Fn.{FnReturnsAt};
@@ -144,7 +144,7 @@ fn pieces_in_order<T, A: Drop, F: Fn(&T) -> A, P: Moves + Drop>(
     Ok(pieces)
 }
 
-// The answers at the parts that so many other threads took.
+// The answers at the parts that the given number of other threads took.
 #[cycle(halves)]
 fn pieces_of<R: Threads + Sync, T: Sync, A: Send + Drop, F: Fn(&T) -> A + Sync>(
     rt: &R,

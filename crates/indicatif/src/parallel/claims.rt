@@ -1,4 +1,4 @@
-//! What threads take of a list, and how far they are with it.
+//! The parts of a list that threads take, and their progress.
 ghost use Rattle.std.specs.Prelude.{◌≡◌, ◌≤◌, ◌<◌, IfSome};
 
 use std::sync::atomic::{AtomicU64, Ordering};
@@ -16,12 +16,12 @@ pub struct Claim {
     ghost ordered: { start ≤ end },
 }
 
-/// A list of which each thread takes the next part that is left. Which one that is, is told by no contract.
+/// A list of which each thread takes the next part that is left. No contract says which one that is.
 #[derive(Drop)]
 pub struct Claims {
-    /// The items of the list.
+    /// The number of items of the list.
     pub items: usize,
-    /// The items of each part but the last.
+    /// The number of items of each part but the last.
     each: usize,
     taken: AtomicU64,
     met: AtomicU64,
@@ -29,7 +29,7 @@ pub struct Claims {
 }
 
 impl Claims {
-    /// Of a list of so many items, of which nothing is taken.
+    /// A list of `items` items, of which nothing is taken.
     pub fn new(items: usize) -> Claims
         ensures { result.items ≡ items }
     {
@@ -71,13 +71,13 @@ impl Claims {
         }
     }
 
-    /// The items of this part were met.
+    /// Marks the items of this part as met.
     pub fn tell(&self, part: &Claim) {
         let count = part.end - part.start;
         self.met.fetch_add(count as u64, Ordering::SeqCst);
     }
 
-    /// How many items were met, as far as the threads have told.
+    /// How many items the threads have marked as met.
     pub fn met(&self) -> usize
         ensures { result ≤ self.now.items }
     {

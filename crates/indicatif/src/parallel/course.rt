@@ -8,13 +8,13 @@ use crate::wrappers::moves::Moves;
 use rayon::current_num_threads;
 use std::thread::Threads;
 
-/// The most items of a block.
+/// The maximum number of items of a block.
 const BLOCK: usize = 4096;
 
-/// How many blocks a list is cut into that is no longer than one.
+/// How many blocks a list is cut into if it fits in one.
 const PARTS: usize = 10;
 
-/// How many items each block has but the last of a list of so many: as many as a block may have; of a list that is no longer a tenth,
+/// The number of items of each block but the last, in a list of `items` items: the maximum; if the list is no longer than that, a tenth,
 /// and at least one for each processor.
 fn block_of<R: Threads>(rt: &R, items: usize) -> usize
     ensures { (0 < result) × (result ≤ block_length) }
@@ -33,16 +33,16 @@ fn block_of<R: Threads>(rt: &R, items: usize) -> usize
 pub struct Course<P: Drop> {
     /// The bar.
     pub bar: P,
-    /// Over so many items it was advanced.
+    /// The number of items by which it was advanced.
     pub done: usize,
-    /// The items of each block but the last.
+    /// The number of items of each block but the last.
     block: usize,
     ghost some: { 0 < block },
     ghost most: { block ≤ block_length },
 }
 
 impl<P: Moves + Drop> Course<P> {
-    /// Before the first block of a list of so many items.
+    /// Before the first block of a list of `items` items.
     pub fn new<R: Threads>(rt: &R, bar: P, items: usize) -> Course<P>
         ensures bar { result.bar ≡ bar }
         ensures done { result.done ≡ 0 }
@@ -54,7 +54,7 @@ impl<P: Moves + Drop> Course<P> {
         }
     }
 
-    /// Advances the bar to the end of its block, though not past this item.
+    /// Advances the bar to the end of its block, but not past this item.
     fn step(&mut self, item: usize)
         requires before { self.old.done < item }
         ensures farther { self.old.done < self.new.done }
@@ -67,7 +67,7 @@ impl<P: Moves + Drop> Course<P> {
         self.done += n;
     }
 
-    /// Advances the bar to this item, with a stop behind each block; not at all where it is farther.
+    /// Advances the bar to this item, with a stop after each block; not at all if it is farther.
     pub fn reach(&mut self, item: usize)
         ensures reached { self.old.done ≤ item → self.new.done ≡ item }
         ensures farther { item ≤ self.old.done → self.new.done ≡ self.old.done }
@@ -78,8 +78,7 @@ impl<P: Moves + Drop> Course<P> {
         }
     }
 
-    /// Advances the bar to so many items that were met, where it may stop within a block; else to the end of the last block that
-    /// they fill.
+    /// Advances the bar to `met` items, if it may stop within a block; otherwise to the end of the last block that they fill.
     fn follow(&mut self, met: usize)
         ensures within { (self.new.done ≡ self.old.done) ⊎ (self.new.done ≤ met) }
         ensures goes { GoesOn P.stands P.leads self.old.done self.old.bar self.new.done self.new.bar }
@@ -91,7 +90,7 @@ impl<P: Moves + Drop> Course<P> {
         }
     }
 
-    /// The items of a part were met by the thread that has the bar: the bar follows what all have met.
+    /// The thread that has the bar met the items of a part: the bar follows what all threads have met.
     pub fn follow_part(&mut self, claims: &Claims, part: &Claim)
         ensures within { self.old.done ≤ claims.now.items → self.new.done ≤ claims.now.items }
         ensures goes { GoesOn P.stands P.leads self.old.done self.old.bar self.new.done self.new.bar }

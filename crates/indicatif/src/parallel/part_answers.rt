@@ -38,7 +38,7 @@ impl<A: Drop> PartAnswers<A> {
         })
     }
 
-    /// Puts the answers behind those at all items before this place, if it is theirs; the place behind.
+    /// Puts the answers after those at all items before this place, if they are next; the place after them.
     fn put_behind(self, made: &mut Vec<A>, place: usize) -> Result<usize, AllocError>
         ensures { IfOk result (λ end. ((end ≡ place) × (made.new.items ≡ made.old.items))
             ⊎ ((self.start ≡ place) × (self.end ≡ end) × (made.new.items ≡ made.old.items ++ self.answers.items))) }
@@ -57,7 +57,7 @@ impl<A: Drop> PartAnswers<A> {
     }
 }
 
-/// The answers of `f` at items.
+/// The answers of `f` at these items.
 pub fn answers_of<T, A: Drop, F: Fn(&T) -> A>(
     alloc: Global,
     items: &[T],
@@ -73,7 +73,7 @@ pub fn answers_of<T, A: Drop, F: Fn(&T) -> A>(
     Ok(made)
 }
 
-/// What two threads made, that of the first in front.
+/// The results of two threads, the first one's in front.
 pub fn together<X: Drop>(
     first: Result<Vec<X>, AllocError>,
     second: Result<Vec<X>, AllocError>,
@@ -86,8 +86,8 @@ pub fn together<X: Drop>(
     Ok(made)
 }
 
-/// The answers of pieces in the list's order, put where there is room for them. Threads that took each part of the list once have left
-/// none out. What is left out all the same at the end is found here.
+/// The answers of parts in the list's order, in memory that was taken before. Threads that took each part once have left none out. Any that
+/// is missing at the end is computed here.
 pub fn in_order<T, A: Drop, F: Fn(&T) -> A>(
     alloc: Global,
     room: Vec<A>,

@@ -10,7 +10,7 @@ use crate::wrappers::moves::Moves;
 use rayon::current_num_threads;
 use std::thread::{Threads, join};
 
-/// Calls `f` with each item; the bar, which is moved while the threads work.
+/// Calls `f` with each item, and returns the bar, which is moved while the threads work.
 pub fn visit_in_threads<R: Threads + Sync, T: Sync, F: Fn(&T) + Sync, P: Moves + Drop>(
     rt: &R,
     items: &[T],
@@ -75,7 +75,7 @@ fn own_visits<T, F: Fn(&T), P: Moves + Drop>(
     course
 }
 
-// Calls `f` with the items of the parts that so many other threads take.
+// Calls `f` with the items of the parts that the given number of other threads take.
 #[cycle(halves)]
 fn visited<R: Threads + Sync, T: Sync, F: Fn(&T) + Sync>(
     rt: &R,

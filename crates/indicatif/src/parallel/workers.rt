@@ -1,6 +1,6 @@
 //! Pieces of work that threads do, with a bar.
 //!
-//! - `crew`: threads that do the same work at the same time; `pieces`: pieces, of which each thread takes the next, and what they come to.
+//! - `crew`: threads that do the same work at the same time; `pieces`: pieces, of which each thread takes the next, and their results.
 ghost use Rattle.std.specs.Prelude.{◌≡◌, ◌≤◌, ℕ, IfOk, IfErr, OnOk, length, ◌⊎◌, ◌↔◌, Err};
 ghost use Rattle.std.specs.List.{AllZip};
 ghost use Rattle.std.specs.Fn.{FnReturnsAt};
@@ -31,11 +31,11 @@ use std::thread::Threads;
 /// impl Gate for Open { fn pass(&self, piece: usize) {} }
 /// ```
 pub trait Gate: Sync {
-    /// The piece of this number passes, from 0.
+    /// Lets the piece with this number pass; the first is 0.
     fn pass(&self, piece: usize);
 
-    /// Whether all pieces have to run at the same time. A gate at which one piece waits for another says so; else the other may come
-    /// only after it, and both wait for ever. A gate doesn't say so unless it has this method.
+    /// Whether all pieces have to run at the same time. Return `true` if one piece waits for another: otherwise the other may come only
+    /// after it, and both deadlock. The default is `false`.
     ///
     /// ```
     /// fn needs_all_at_once(&self) -> bool { true }
@@ -45,21 +45,21 @@ pub trait Gate: Sync {
     }
 }
 
-/// What `f` answers at each item of each piece, the pieces in their order, and each one's answers in its items' order. At the end the bar
+/// What `f` returns for each item of each piece: the pieces in their order, and each one's answers in its items' order. At the end the bar
 /// is advanced once, by all items that were met.
 ///
-/// There are as many threads as processors, but no more than pieces, and the one that calls is one of them. If the gate needs all at once
-/// (`Gate::needs_all_at_once`), there are as many as pieces. They are all started before the first piece begins. Each takes the next
-/// piece, until none is left.
+/// There are as many threads as processors, but no more than pieces; the caller is one of them. If the gate needs all pieces at once
+/// (`Gate::needs_all_at_once`), there are as many threads as pieces. All threads are started before the first piece begins. Each takes the
+/// next piece, until none is left.
 ///
 /// ```
 /// let made = run_workers(&rt, alloc, pieces.as_slice(), |x: &u32| x.wrapping_mul(2), &Open, &bar)?;
 /// ```
 ///
-/// Refused: `ZeroPieces` where there is no piece, and nothing is done. `Memory`. Where a thread can't be started, no piece begins, those
-/// that were started are waited for, and the bar stays as it was. So it is where the lists find no memory that are made before the first
-/// piece begins; where a list that grows later finds none, the other threads go on first. Where a piece finds none for its answers, the
-/// others go on, and the bar is advanced by the items that were met.
+/// Refused: `ZeroPieces` if there is no piece, and nothing is done. `Memory`. If a thread can't be started, no piece begins, the started
+/// ones are joined, and the bar is unchanged. The same holds if there is no memory for the lists that are made before the first piece
+/// begins; if a list that grows later gets none, the other threads go on first. If a piece gets none for its answers, the others go on, and
+/// the bar is advanced by the items that were met.
 pub fn run_workers<
     R: Threads + Wait + Sync,
     T: Sync,
@@ -91,7 +91,7 @@ pub fn run_workers<
     answers.ok_or(Refusal::Memory)
 }
 
-/// The same with a bar of one's own, or one that isn't shared.
+/// As `run_workers`, with a bar of your own type, or one that isn't shared.
 ///
 /// ```
 /// let made = run_workers_with(&rt, alloc, pieces.as_slice(), |x: &u32| x.wrapping_mul(2), &Open, &mut bar)?;
@@ -129,7 +129,7 @@ pub fn run_workers_with<
     answers.ok_or(Refusal::Memory)
 }
 
-// How many threads work on so many pieces.
+// The number of threads for `pieces` pieces.
 fn threads_for<R: Threads, G: Gate>(rt: &R, gate: &G, pieces: usize) -> usize {
     if gate.needs_all_at_once() {
         return pieces;

@@ -23,7 +23,7 @@ pub enum AnyBar<K: Tracks, T: Drop, C> {
     Member(MemberBar<K, T, C>),
 }
 
-/// What a closure finds of a bar's state, if there is a bar.
+/// What a closure returns for a bar's state, if there is a bar.
 fn found_of<K: Tracks, F: FnOnce(&ProgressState) -> A, A>(
     bar: Result<&BarState<K>, Refusal>,
     f: F,
@@ -38,7 +38,7 @@ fn found_of<K: Tracks, F: FnOnce(&ProgressState) -> A, A>(
 }
 
 impl<K: Tracks, T: TermLike + Drop, C: Clock + Drop> AnyBar<K, T, C> {
-    /// What the closure finds of the bar's state; `None` where its board hasn't the bar.
+    /// What the closure returns for the bar's state; `None` if its board hasn't the bar.
     pub fn read<R: Wait, F: FnOnce(&ProgressState) -> A, A>(&self, rt: &R, f: F) -> Option<A>
         requires { F.IsAlwaysCallable f }
         ensures { ReadsBy (FnOnceReturnsAt F.FnOnce f) self.now result }
@@ -60,7 +60,7 @@ impl<K: Tracks, T: TermLike + Drop, C: Clock + Drop> AnyBar<K, T, C> {
         finished.unwrap_or(true)
     }
 
-    /// How many spaces stand for a tab; 8 where its board hasn't the bar.
+    /// The tab width; 8 if its board hasn't the bar.
     pub fn tab_width<R: Wait>(&self, rt: &R) -> usize {
         match self {
             AnyBar::Alone(bar) => bar.bar().tab_width(),
@@ -99,7 +99,7 @@ impl<K: Tracks, T: TermLike + Drop, C: Clock + Drop> AnyBar<K, T, C> {
         }
     }
 
-    /// A style equal to the bar's; that of a new bar where its board hasn't the bar.
+    /// A style equal to the bar's; that of a new bar if its board hasn't the bar.
     pub fn style<R: Wait>(&self, rt: &R, alloc: Global) -> Result<ProgressStyle<K>, Refusal>
         ensures style { IfOk result (λ style. LooksSo self.now style) }
         ensures memory { IfErr result (λ e. e ≡ Refusal.Memory) }
@@ -113,7 +113,7 @@ impl<K: Tracks, T: TermLike + Drop, C: Clock + Drop> AnyBar<K, T, C> {
         }
     }
 
-    /// Whether the target is hidden, that of its board where it stands on one.
+    /// Whether the target is hidden; on a board, the board's target.
     pub fn is_hidden<R: Wait>(&self, rt: &R) -> bool {
         match self {
             AnyBar::Alone(bar) => bar.is_hidden(),
@@ -121,7 +121,7 @@ impl<K: Tracks, T: TermLike + Drop, C: Clock + Drop> AnyBar<K, T, C> {
         }
     }
 
-    /// Lends the terminal to `f`; `None` where the target is hidden.
+    /// Lends the terminal to `f`; `None` if the target is hidden.
     pub fn with_term<R: Wait, F: FnOnce(Option<&T>) -> A, A>(&self, rt: &R, f: F) -> A
         requires { F.IsAlwaysCallable f }
         ensures { (shown : _) × F.post f shown result }
@@ -139,7 +139,7 @@ impl<K: Tracks, T: TermLike + Drop, C: Clock + Drop> AnyBar<K, T, C> {
         }
     }
 
-    /// The bar's number on its board; `None` where it stands alone.
+    /// The bar's number on its board; `None` if it stands alone.
     pub fn id(&self) -> Option<BarId> {
         match self {
             AnyBar::Alone(_) => None,
@@ -147,7 +147,7 @@ impl<K: Tracks, T: TermLike + Drop, C: Clock + Drop> AnyBar<K, T, C> {
         }
     }
 
-    /// Its board; `None` where it stands alone, or another owner of the board finds no memory.
+    /// Its board; `None` if it stands alone, or there is no memory for another owner of the board.
     pub fn board(&self) -> Option<SharedBoard<K, T, C>> {
         match self {
             AnyBar::Alone(_) => None,
@@ -155,7 +155,7 @@ impl<K: Tracks, T: TermLike + Drop, C: Clock + Drop> AnyBar<K, T, C> {
         }
     }
 
-    /// What is to be taken in on a board: the bar that stands on one, or another one that is equal to it.
+    /// What to insert on a board: the bar that stands on one, or another bar equal to this one.
     pub fn candidate(&self) -> Result<Candidate<K>, Refusal>
         ensures { IfErr result (λ e. e ≡ Refusal.Memory) }
     {

@@ -29,7 +29,7 @@ pub enum AnyBoard<K: Tracks, T: Drop> {
 
 /// A call follows one of `order`, or of `replays`, which tells that the board is in some state: clauses speak of that.
 impl<K: Tracks, T: TermLike + Drop> AnyBoard<K, T> {
-    /// Makes a call. A bar that is removed or turned away is given up.
+    /// Makes a call. A bar that is removed or refused is dropped.
     pub fn call(&mut self, call: Call<K>, now: Moment) -> Answer
         ensures made { BoardMakes K.means T.view self.old (call_of call) now (answer_of result) self.new }
         ensures can { SharedAnswers K (call_of call) (answer_of result) }
@@ -54,7 +54,7 @@ impl<K: Tracks, T: TermLike + Drop> AnyBoard<K, T> {
         drawn_of(self.call(call, now))
     }
 
-    /// A call of a bar that is on the board. Its text is copied, by `alloc`, only where a history keeps it.
+    /// A call of a bar on the board. Its text is copied, by `alloc`, only if a history keeps it.
     pub fn tell<S: Text>(
         &mut self,
         id: BarId,
@@ -82,7 +82,7 @@ impl<K: Tracks, T: TermLike + Drop> AnyBoard<K, T> {
         }
     }
 
-    /// Lines of text above the bars. The text is copied, by `alloc`, only where a history keeps it.
+    /// Lines of text above the bars. The text is copied, by `alloc`, only if a history keeps it.
     pub fn println(&mut self, text: &str, alloc: Global, now: Moment) -> Result<Drawn, Refusal>
         ensures made { BoardDraws K.means T.view self.old (Log text.now) now result self.new }
         ensures can { SharedDraws K (Log text.now) result }
@@ -96,7 +96,7 @@ impl<K: Tracks, T: TermLike + Drop> AnyBoard<K, T> {
         }
     }
 
-    /// A call that a history keeps, if there was memory for it: else nothing is done.
+    /// A call for the history, if there was memory for it: otherwise nothing is done.
     fn draw_kept(&mut self, kept: Result<Call<K>, Refusal>, now: Moment) -> Result<Drawn, Refusal>
         ensures made { IfOk kept (λ call. BoardDraws K.means T.view self.old (call_of call) now result self.new) }
         ensures can { IfOk kept (λ call. SharedDraws K (call_of call) result) }
@@ -108,7 +108,7 @@ impl<K: Tracks, T: TermLike + Drop> AnyBoard<K, T> {
         }
     }
 
-    /// Takes a bar in.
+    /// Inserts a bar.
     pub fn insert(
         &mut self,
         at: InsertLocation,
@@ -122,7 +122,7 @@ impl<K: Tracks, T: TermLike + Drop> AnyBoard<K, T> {
         id_given(self.call(Call::Insert { at, candidate }, now))
     }
 
-    /// Takes a bar out of the order and hands it back; `None` where it isn't there.
+    /// Removes a bar from the order and returns it; `None` if it isn't there.
     pub fn remove(&mut self, id: BarId, now: Moment) -> Result<Option<BarState<K>>, Refusal>
         ensures made { MatchResult result (λ _. BoardRemoves K.means T.view self.old (id_of id) now None self.new) (λ e. BoardRemoves K.means T.view self.old (id_of id) now (Some e) self.new) }
         ensures can { IfErr result (λ e. SharedAnswers K (Remove (id_of id)) (Refused e)) }
@@ -139,7 +139,7 @@ impl<K: Tracks, T: TermLike + Drop> AnyBoard<K, T> {
         }
     }
 
-    /// Another target; the old one is given up. A board with its history keeps its target.
+    /// Sets the target; the old one is dropped. A board with its history keeps its target.
     pub fn set_draw_target(&mut self, target: ProgressDrawTarget<T>) -> Result<(), Refusal>
         ensures turns { BoardTurns self.old target result self.new }
         ensures refused { IfErr result (λ e. (e ≡ Refusal.RecordedTarget) × (self.new ≡ self.old)) }
@@ -153,8 +153,8 @@ impl<K: Tracks, T: TermLike + Drop> AnyBoard<K, T> {
         }
     }
 
-    /// Takes the bars' rows back, whatever that answers, and is on another target from now on; the old one is given up. A board with its
-    /// history keeps its rows and its target.
+    /// Clears the bars' rows and sets the target, whatever the clear answers; the old target is dropped. A board with its history keeps its
+    /// rows and its target.
     #[tactic(auto, unfolding(crate::specs::Inside::SharedBoards::SharedDraws))]
     pub fn move_to(&mut self, target: ProgressDrawTarget<T>, now: Moment) -> Result<Drawn, Refusal>
         ensures moves { BoardMovesTo K.means T.view self.old target now result self.new }
@@ -168,7 +168,7 @@ impl<K: Tracks, T: TermLike + Drop> AnyBoard<K, T> {
         cleared
     }
 
-    /// Whether draws write over what stands, by moves of the cursor alone. A board with its history isn't told.
+    /// Sets whether draws write over what stands, by cursor moves alone. A board with its history refuses.
     pub fn set_move_cursor(&mut self, on: bool) -> Result<(), Refusal>
         ensures moves { BoardMoves self.old on result self.new }
         ensures refused { IfErr result (λ e. (e ≡ Refusal.RecordedTarget) × (self.new ≡ self.old)) }
@@ -190,7 +190,7 @@ impl<K: Tracks, T: TermLike + Drop> AnyBoard<K, T> {
         }
     }
 
-    /// The board with its history, which is one run; `None` where it keeps none.
+    /// The board with its history, which is one run; `None` if it keeps none.
     pub fn as_recorded(&self) -> Option<&Recorded<K, T>>
         ensures run { IfSome result (λ r. IsOneRun K.means r.now) }
     {
@@ -211,7 +211,7 @@ fn log_of<K: Tracks>(text: &str, alloc: Global) -> Result<Call<K>, Refusal>
     Ok(Call::Log(String::from_str(alloc, text)?))
 }
 
-/// The same as a value that a history keeps, with a text of its own.
+/// A bar's call, as a value that a history keeps, with its own text.
 fn call_of_bar<K: Tracks, S: Text>(
     id: BarId,
     call: &LoneCall<K, S>,
@@ -229,14 +229,14 @@ fn call_of_bar<K: Tracks, S: Text>(
 /// What a board with its history answered.
 type Answered<K> = (Answer, Option<BarState<K>>);
 
-/// The answer; a bar that was handed back is given up.
+/// The answer; a bar that came back is dropped.
 fn answer_alone<K: Drop>(answered: Answered<K>) -> Answer
     ensures { result ≡ answered.0 }
 {
     answered.0
 }
 
-/// The bar that was handed back, unless the call was refused.
+/// The bar that came back, unless the call was refused.
 fn bar_unless_refused<K: Drop>(answered: Answered<K>) -> Result<Option<BarState<K>>, Refusal>
     ensures { MatchResult result (λ _. refused_with (answer_of answered.0) ≡ None) (λ e. answered.0 ≡ Answer.Refused e) }
 {
@@ -247,7 +247,7 @@ fn bar_unless_refused<K: Drop>(answered: Answered<K>) -> Result<Option<BarState<
     }
 }
 
-/// What an answer tells of a draw.
+/// What an answer says of a draw.
 fn drawn_of(answer: Answer) -> Result<Drawn, Refusal>
     ensures { result ≡ drawn_of (answer_of answer) }
 {
@@ -258,7 +258,7 @@ fn drawn_of(answer: Answer) -> Result<Drawn, Refusal>
     }
 }
 
-/// What an answer gives of a bar that was to be taken in; an insertion gives a bar or refuses it.
+/// What an answer says of a bar to insert; an insertion gives a bar or a refusal.
 fn id_given(answer: Answer) -> Result<BarId, Refusal>
     ensures ok { IfOk result (λ id. given_by (answer_of answer) ≡ Ok (id_of id)) }
     ensures err { IfErr result (λ e. given_by (answer_of answer) ≡ Err e) }

@@ -12,8 +12,8 @@ use std::alloc::Global;
 use std::io::Write;
 use std::sync::Wait;
 
-/// What a call of `println` returned. If that is `Hidden`, its text is written to `out`, with a line end and by one write: so no line is
-/// lost. For a bar or a board without a lock; a shared one has `println_or`.
+/// Passes on what a call of `println` returned; if that is `Hidden`, writes its text to `out`, with a line end and in one write: so no line
+/// is lost. For a bar or a board without a lock; a shared one has `println_or`.
 ///
 /// ```
 /// let drawn = board.println("a.txt", now);
@@ -38,7 +38,7 @@ pub fn written_if_hidden<W: Write>(
     drawn
 }
 
-/// Writes a text and a line end, by one write where the writer takes all.
+/// Writes a text and a line end, in one write if the writer takes all.
 fn write_line<W: Write>(alloc: Global, text: &str, out: &mut W) -> Result<(), Refusal>
     ensures written { IfOk result (λ _. Appends (W.contents out.old) (W.contents out.new) (text.now ++ 0x0a ∷ [])) }
     ensures refused { IfErr result (λ e. CanDraw (Err e)) }
@@ -56,14 +56,14 @@ impl<T: TermLike + Drop, C: Clock + Drop, R: Wait + Clone + Drop, K: Tracks> Mul
     R,
     K,
 > {
-    /// Writes the text's lines above the bars, as `println`. Where the target is hidden they go to `out`, with a line end: so a program's
-    /// own lines aren't lost where standard error is no terminal.
+    /// Writes the text's lines above the bars, as `println`. If the target is hidden they go to `out`, with a line end: so a program's own
+    /// lines aren't lost if standard error is no terminal.
     ///
     /// ```
     /// board.println_or("five files are copied", &mut host.stderr())?; // above the bars, or a line of its own
     /// ```
     ///
-    /// Refused: as `println`; where the target is hidden, `Terminal` with the kind of the writer's failure.
+    /// Refused: as `println`; if the target is hidden, `Terminal` with the kind of the writer's failure.
     #[tactic(auto, using(crate::proofs::FrontLemmas::line_drawn))]
     pub fn println_or<W: Write>(&self, text: &str, out: &mut W) -> Result<Drawn, Refusal>
         ensures drawn { CanDraw result }
@@ -80,13 +80,13 @@ impl<T: TermLike + Drop, C: Clock + Drop, R: Wait + Clone + Drop, K: Tracks> Pro
     R,
     K,
 > {
-    /// Writes the text's lines above the bar, as `println`. Where the target is hidden they go to `out`, with a line end.
+    /// Writes the text's lines above the bar, as `println`. If the target is hidden they go to `out`, with a line end.
     ///
     /// ```
     /// bar.println_or("a.txt is copied", &mut host.stderr())?; // above the bar, or a line of its own
     /// ```
     ///
-    /// Refused: as `println`; where the target is hidden, `Terminal` with the kind of the writer's failure.
+    /// Refused: as `println`; if the target is hidden, `Terminal` with the kind of the writer's failure.
     #[tactic(auto, using(crate::proofs::FrontLemmas::line_answers))]
     pub fn println_or<W: Write>(&self, text: &str, out: &mut W) -> Result<Drawn, Refusal>
         ensures drawn { CanAnswer K (Lone.Log text.now) result }

@@ -21,7 +21,7 @@ pub struct BoardCell<K: Tracks, T: Drop, C> {
 pub type SharedBoard<K, T, C> = Arc<BoardCell<K, T, C>, Global>;
 
 impl<K: Tracks, T: Drop, C> BoardCell<K, T, C> {
-    /// A board under its lock.
+    /// Puts a board into a lock.
     pub fn new(board: LockedBoard<K, T, C>) -> BoardCell<K, T, C> {
         BoardCell {
             lock: Mutex::new(board),
@@ -29,18 +29,18 @@ impl<K: Tracks, T: Drop, C> BoardCell<K, T, C> {
         }
     }
 
-    /// The board, out of its lock.
+    /// Takes the board out of its lock.
     pub fn into_inner(self) -> LockedBoard<K, T, C> {
         let BoardCell { lock, resumed: _ } = self;
         lock.into_inner()
     }
 
-    /// The board, also in a pause: for what draws nothing.
+    /// Locks the board, also in a pause: for calls that draw nothing.
     pub fn lock<R: Wait>(&self, rt: &R) -> MutexGuard<'_, LockedBoard<K, T, C>> {
         self.lock.lock(rt)
     }
 
-    /// The board once it isn't in a pause.
+    /// Waits until the board isn't in a pause, and locks it.
     pub fn turn<R: Wait>(&self, rt: &R) -> MutexGuard<'_, LockedBoard<K, T, C>> {
         let locked = self.lock.lock(rt);
         if !locked.is_paused() {
@@ -50,7 +50,7 @@ impl<K: Tracks, T: Drop, C> BoardCell<K, T, C> {
             .wait_while(rt, locked, |locked| locked.is_paused())
     }
 
-    /// The board, unless it is in a pause.
+    /// Locks the board, unless it is in a pause.
     pub fn try_turn<R: Wait>(&self, rt: &R) -> Option<MutexGuard<'_, LockedBoard<K, T, C>>> {
         let locked = self.lock.lock(rt);
         if locked.is_paused() {
@@ -72,7 +72,7 @@ impl<K: Tracks, T: TermLike + Drop, C: Clock + Drop> BoardCell<K, T, C> {
         self.run(rt, pause, f)
     }
 
-    /// The same at this moment.
+    /// `suspend` at this moment.
     pub fn suspend_at<R: Wait, F: FnOnce() -> A, A>(
         &self,
         rt: &R,

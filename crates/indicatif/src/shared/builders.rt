@@ -1,4 +1,4 @@
-//! What is said of a shared bar before it moves.
+//! Builders, which set up a shared bar before it moves.
 ghost use Rattle.std.specs.Prelude.{IfErr, Err};
 ghost use Rattle.indicatif_bar.specs.Commands as Command;
 ghost use Rattle.indicatif_bar.specs.Finishes.{finish_of};
@@ -13,16 +13,16 @@ use indicatif_term::term_like::TermLike;
 use indicatif_text::columns::{Clock, Refusal};
 use std::sync::Wait;
 
-/// What is said of a bar before it moves: each gives it back.
+/// Builders, which set up a bar before it moves: each returns it.
 impl<T: TermLike + Drop, C: Clock + Drop, R: Wait + Clone + Drop, K: Tracks> ProgressBar<
     T,
     C,
     R,
     K,
 > {
-    /// With this style, in which it is drawn next. Asks for no draw.
+    /// Sets the style; the next draw uses it. Asks for no draw.
     ///
-    /// Refused: `Memory`; this owner is given up.
+    /// Refused: `Memory`; this owner is dropped.
     pub fn with_style(self, style: ProgressStyle<K>) -> Result<Self, Refusal>
         ensures { IfErr result (λ e. CanAnswer K (Lone.Obey (Command.SetStyle style)) (Err e)) }
     {
@@ -32,9 +32,9 @@ impl<T: TermLike + Drop, C: Clock + Drop, R: Wait + Clone + Drop, K: Tracks> Pro
         }
     }
 
-    /// With so many spaces for a tab, in the message, the prefix and the style.
+    /// Sets the tab width of the message, the prefix and the style, in spaces. Asks for no draw.
     ///
-    /// Refused: `Memory`; this owner is given up.
+    /// Refused: `Memory`; this owner is dropped.
     pub fn with_tab_width(self, tab: usize) -> Result<Self, Refusal>
         ensures { IfErr result (λ e. CanAnswer K (Lone.Obey (Command.WithTabWidth tab)) (Err e)) }
     {
@@ -44,9 +44,9 @@ impl<T: TermLike + Drop, C: Clock + Drop, R: Wait + Clone + Drop, K: Tracks> Pro
         }
     }
 
-    /// With this prefix, which shows only where the template has `{prefix}`. No draw is asked.
+    /// Sets the prefix, which shows only if the template has `{prefix}`. Asks for no draw.
     ///
-    /// Refused: `Memory`; this owner is given up.
+    /// Refused: `Memory`; this owner is dropped.
     pub fn with_prefix(self, text: &str) -> Result<Self, Refusal>
         ensures { IfErr result (λ e. CanAnswer K (Lone.Obey (Command.WithPrefix text.now)) (Err e)) }
     {
@@ -56,9 +56,9 @@ impl<T: TermLike + Drop, C: Clock + Drop, R: Wait + Clone + Drop, K: Tracks> Pro
         }
     }
 
-    /// With this message, which shows only where the template has `{msg}` or `{wide_msg}`. No draw is asked.
+    /// Sets the message, which shows only if the template has `{msg}` or `{wide_msg}`. Asks for no draw.
     ///
-    /// Refused: `Memory`; this owner is given up.
+    /// Refused: `Memory`; this owner is dropped.
     pub fn with_message(self, text: &str) -> Result<Self, Refusal>
         ensures { IfErr result (λ e. CanAnswer K (Lone.Obey (Command.WithMessage text.now)) (Err e)) }
     {
@@ -68,10 +68,10 @@ impl<T: TermLike + Drop, C: Clock + Drop, R: Wait + Clone + Drop, K: Tracks> Pro
         }
     }
 
-    /// At this position, for work that was begun before. Asks for no draw.
+    /// Sets the position, for work that has already begun. Asks for no draw.
     ///
-    /// The rate counts from 0 all the same: at 80, and five steps in the next second, it is 85 a second. `tick` and then `reset_eta` begin
-    /// the count here.
+    /// The rate still counts from 0: at position 80, after five steps in the next second, it is 85 a second. `tick` and then `reset_eta`
+    /// start the count here.
     ///
     /// ```
     /// let bar = bar.with_position(80)?.with_elapsed(60_000_000_000)?; // one minute ago, 80 steps
@@ -79,7 +79,7 @@ impl<T: TermLike + Drop, C: Clock + Drop, R: Wait + Clone + Drop, K: Tracks> Pro
     /// bar.reset_eta()?; // five steps in the next second are 5 a second
     /// ```
     ///
-    /// Refused: on a board alone, as each command there; this owner is given up.
+    /// Refused: only on a board, as each command there; this owner is dropped.
     pub fn with_position(self, position: u64) -> Result<Self, Refusal>
         ensures { IfErr result (λ e. CanAnswer K (Lone.Obey (Command.WithPosition position)) (Err e)) }
     {
@@ -89,10 +89,10 @@ impl<T: TermLike + Drop, C: Clock + Drop, R: Wait + Clone + Drop, K: Tracks> Pro
         }
     }
 
-    /// As `set_elapsed`. Until the bar is finished, neither its rate nor its time left counts these nanoseconds. A finished bar shows its
-    /// position over all of the elapsed time. Where a position comes with them, see `with_position`.
+    /// Sets the time since the start, as `set_elapsed`. Until the bar is finished, neither its rate nor its time left counts these
+    /// nanoseconds. A finished bar shows its position over all of the elapsed time. If you also set a position, see `with_position`.
     ///
-    /// Refused: `ElapsedBeyondClock`, where that is more than the moment; this owner is given up.
+    /// Refused: `ElapsedBeyondClock`, if that is more than the moment; this owner is dropped.
     pub fn with_elapsed(self, nanos: u64) -> Result<Self, Refusal>
         ensures { IfErr result (λ e. CanAnswer K (Lone.Obey (Command.SetElapsed nanos)) (Err e)) }
     {
@@ -102,10 +102,10 @@ impl<T: TermLike + Drop, C: Clock + Drop, R: Wait + Clone + Drop, K: Tracks> Pro
         }
     }
 
-    /// With this stored finish. It ends the bar when the last owner is gone, when a wrapped loop is over, or by `finish_using_style`. The
+    /// Sets the stored finish. It ends the bar when the last owner is gone, when a wrapped loop is over, or by `finish_using_style`. The
     /// default is `AndClear`.
     ///
-    /// Refused: on a board alone, as each command there; this owner is given up.
+    /// Refused: only on a board, as each command there; this owner is dropped.
     pub fn with_finish(self, finish: ProgressFinish) -> Result<Self, Refusal>
         ensures { IfErr result (λ e. CanAnswer K (Lone.Obey (Command.WithFinish (finish_of finish))) (Err e)) }
     {

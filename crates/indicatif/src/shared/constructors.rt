@@ -1,4 +1,4 @@
-//! How shared bars are made.
+//! Constructors of shared bars.
 ghost use Rattle.std.specs.Prelude.{◌≡◌, IfErr};
 
 use crate::shared::ProgressBar;
@@ -13,30 +13,31 @@ use indicatif_text::columns::{Clock, Refusal};
 use std::alloc::Global;
 use std::sync::{Arc, Condvar, Mutex, Wait};
 
-/// Bars whose styles have no keys of the caller's own.
+/// Bars whose styles have no keys of your own.
 impl<T: TermLike + Drop, C: Clock + Drop, R: Wait + Clone + Drop> ProgressBar<T, C, R> {
     /// A bar of this length in the style `{wide_bar} {pos}/{len}`, which draws nothing yet.
     ///
-    /// Refused: `Memory`; nothing is made, and what was handed in is given up.
+    /// Refused: `Memory`; nothing is made, and the arguments are dropped.
     pub fn new(rt: R, alloc: Global, len: u64, setup: Setup<T, C>) -> Result<Self, Refusal>
         ensures { IfErr result (λ e. e ≡ Refusal.Memory) }
     {
         ProgressBar::plain(rt, alloc, Some(len), setup)
     }
 
-    /// A bar without a length in the same style, which draws nothing yet: it stays empty, and `{len}` shows the position.
+    /// A bar without a length in the style `{wide_bar} {pos}/{len}`, which draws nothing yet: it stays empty, and `{len}` shows the
+    /// position.
     ///
-    /// Refused: `Memory`; nothing is made, and what was handed in is given up.
+    /// Refused: `Memory`; nothing is made, and the arguments are dropped.
     pub fn no_length(rt: R, alloc: Global, setup: Setup<T, C>) -> Result<Self, Refusal>
         ensures { IfErr result (λ e. e ≡ Refusal.Memory) }
     {
         ProgressBar::plain(rt, alloc, None, setup)
     }
 
-    /// A bar without a length on no terminal, in the style `{wide_bar} {pos}/{len}`. It is drawn once a board takes it in or it
-    /// has another target.
+    /// A hidden bar without a length, in the style `{wide_bar} {pos}/{len}`. It is drawn once a board takes it in or it gets another
+    /// target.
     ///
-    /// Refused: `Memory`; nothing is made, and what was handed in is given up.
+    /// Refused: `Memory`; nothing is made, and the arguments are dropped.
     pub fn hidden(rt: R, alloc: Global, clock: C) -> Result<Self, Refusal>
         ensures { IfErr result (λ e. e ≡ Refusal.Memory) }
     {
@@ -46,16 +47,16 @@ impl<T: TermLike + Drop, C: Clock + Drop, R: Wait + Clone + Drop> ProgressBar<T,
 
     /// A bar without a length in the style `{spinner} {msg}`, which draws nothing yet.
     ///
-    /// Refused: `Memory`; nothing is made, and what was handed in is given up.
+    /// Refused: `Memory`; nothing is made, and the arguments are dropped.
     pub fn new_spinner(rt: R, alloc: Global, setup: Setup<T, C>) -> Result<Self, Refusal>
         ensures { IfErr result (λ e. e ≡ Refusal.Memory) }
     {
         ProgressBar::spinning(rt, alloc, setup)
     }
 
-    /// A bar of this length or of none on this target, by this clock, in the style `{wide_bar} {pos}/{len}`. It draws nothing yet.
+    /// A bar with this length or none on this target, with this clock, in the style `{wide_bar} {pos}/{len}`. It draws nothing yet.
     ///
-    /// Refused: `Memory`; nothing is made, and what was handed in is given up.
+    /// Refused: `Memory`; nothing is made, and the arguments are dropped.
     pub fn with_draw_target(
         rt: R,
         alloc: Global,
@@ -75,13 +76,13 @@ impl<T: TermLike + Drop, C: Clock + Drop, R: Wait + Clone + Drop, K: Tracks> Pro
     R,
     K,
 > {
-    /// A bar of this length or of none in this style, which may have keys of one's own. It draws nothing yet.
+    /// A bar with this length or none in this style, which may have keys of your own. It draws nothing yet.
     ///
     /// ```
     /// let bar = ProgressBar::styled(rt, alloc, style.with_key("left", left)?, Some(10), setup)?;
     /// ```
     ///
-    /// Refused: `Memory`; nothing is made, and what was handed in is given up.
+    /// Refused: `Memory`; nothing is made, and the arguments are dropped.
     pub fn styled(
         rt: R,
         alloc: Global,

@@ -12,18 +12,18 @@ use indicatif_term::term_like::TermLike;
 use indicatif_text::columns::{Clock, Drawn, Refusal};
 use std::sync::Wait;
 
-/// Threads that count for this bar. A step of a bar that is shared takes its lock; a worker's `add` takes none, and the bar
-/// moves once, when it absorbs the sum.
+/// Threads that count for this bar. Each call of a shared bar takes its lock; a worker's `add` takes none, and the bar moves once, when it
+/// absorbs the sum.
 impl<T: TermLike + Drop, C: Clock + Drop, R: Wait + Clone + Drop, K: Tracks> ProgressBar<
     T,
     C,
     R,
     K,
 > {
-    /// A sum of 0, and the worker that has the whole share of it; each thread adds by a worker of its own, split off from it. The
-    /// bar isn't touched until it absorbs the sum, nor need it ever: the sum is no part of it.
+    /// A sum of 0, and a worker that holds the whole share of it; split off a worker for each thread. The bar doesn't change until it
+    /// absorbs the sum, and it needn't absorb it: the sum isn't part of the bar.
     ///
-    /// Refused: `Memory`, and nothing is made.
+    /// Refused: `Memory`, nothing is made.
     ///
     /// ```
     /// let (done, worker) = bar.worker()?;
@@ -39,8 +39,8 @@ impl<T: TermLike + Drop, C: Clock + Drop, R: Wait + Clone + Drop, K: Tracks> Pro
         Done::new(self.alloc)
     }
 
-    /// Adds what workers have counted to the position, modulo 2^64; otherwise as `inc`. The sum is closed. The worker has the whole share:
-    /// every other worker of this sum was joined to it. It needn't be a sum that this bar made.
+    /// Adds what workers have counted to the position, modulo 2^64; otherwise as `inc`. The sum is closed. The worker must hold the whole
+    /// share: every other worker of this sum was joined to it. The sum may come from another bar.
     pub fn absorb(&self, done: Done, worker: BarWorker) -> Result<Drawn, Refusal>
         requires of { worker.adds_to ≡ done }
         requires whole { worker.account.parts ≡ whole_share }

@@ -1,4 +1,4 @@
-//! What the lock of a shared bar keeps.
+//! What the lock of a shared bar protects.
 ghost use Rattle.std.specs.Prelude.{◌≡◌, ◌≢◌, ◌<◌, ◌-◌, ℕ, Some, None, Ok, Err, true, false, IsTrue, IsFalse, IfOk, IfErr, MatchResult};
 ghost use Rattle.std.specs.Fn.{FnOnceReturnsAt};
 ghost use Rattle.indicatif_term.specs.DrawTargets.{term_of};
@@ -34,7 +34,7 @@ use indicatif_text::columns::{Clock, Drawn, Moment, Refusal};
 use std::alloc::Global;
 use std::sync::{Arc, Wait};
 
-/// A bar, its clock and ticker, how many own it, and whether it is in a pause of its own.
+/// A bar, its clock and ticker, its number of owners, and whether it is in a pause of its own.
 pub struct LockedBar<K: Tracks, T: Drop, C> {
     owners: u64,
     pub ticker: Ticker,
@@ -69,12 +69,12 @@ impl<K: Tracks, T: Drop, C> LockedBar<K, T, C> {
         }
     }
 
-    /// Whether it is in a pause of its own: what draws waits then.
+    /// Whether it is in a pause of its own: then calls that draw wait.
     pub fn is_paused(&self) -> bool {
         self.paused
     }
 
-    /// One owner more; not where there is none left, or the count is at its end.
+    /// Adds an owner; refuses if there is none left, or the count is at its maximum.
     pub fn join(&mut self) -> bool
         ensures { OwnerJoins result self.old.owners self.new.owners }
     {
@@ -85,7 +85,7 @@ impl<K: Tracks, T: Drop, C> LockedBar<K, T, C> {
         true
     }
 
-    /// One owner less.
+    /// Removes an owner.
     fn leave(&mut self)
         ensures owners { self.new.owners ≡ self.old.owners - 1 }
         ensures bar { self.new.bar ≡ self.old.bar }
@@ -94,13 +94,13 @@ impl<K: Tracks, T: Drop, C> LockedBar<K, T, C> {
     }
 }
 
-/// What a pause of a bar begins with.
+/// How a pause of a bar begins.
 pub enum Halt<K: Tracks, T: Drop, C> {
     /// The bar stands alone, and its pause has begun.
     Alone(Pause),
-    /// It stands on this board, whose pause is to begin at this moment.
+    /// The bar stands on this board, whose pause has to begin at this moment.
     OnBoard(Moment, SharedBoard<K, T, C>),
-    /// There is no memory to hand its board out.
+    /// There is no memory for another owner of its board.
     NoMemory,
 }
 
@@ -130,7 +130,7 @@ impl<K: Tracks, T: TermLike + Drop, C: Clock + Drop> LockedBar<K, T, C> {
         }
     }
 
-    /// Whether a ticker is installed, which asks for no draw: it is told so also in a pause of its board.
+    /// Sets whether a ticker is installed. It asks for no draw, and so doesn't wait for the end of a pause of its board.
     fn set_ticker<R: Wait>(&mut self, rt: &R, installed: bool) -> Result<Drawn, Refusal>
         ensures bar { BarMakes K.means T.view self.old.bar (Lone.Obey (SetTicker installed)) result self.new.bar }
         ensures ticker { self.new.ticker ≡ self.old.ticker }
@@ -145,7 +145,7 @@ impl<K: Tracks, T: TermLike + Drop, C: Clock + Drop> LockedBar<K, T, C> {
         }
     }
 
-    /// A change of the position, unless the bar or its board is in a pause.
+    /// Changes the position, unless the bar or its board is in a pause.
     #[inline(always)]
     pub fn move_by<R: Wait>(
         &mut self,
@@ -169,7 +169,7 @@ impl<K: Tracks, T: TermLike + Drop, C: Clock + Drop> LockedBar<K, T, C> {
         }
     }
 
-    /// The position becomes the place after `n` more from it, as `seeks` says; it counts from 0 where its board hasn't the bar.
+    /// Moves the position `n` further, as `seeks` says; counts from 0 if its board hasn't the bar.
     pub fn place_after<R: Wait>(
         &mut self,
         rt: &R,
@@ -189,7 +189,7 @@ impl<K: Tracks, T: TermLike + Drop, C: Clock + Drop> LockedBar<K, T, C> {
         }
     }
 
-    /// Sets what the closure answers of the state that it is shown; then as a tick. Where its board hasn't the bar, the closure isn't
+    /// Makes the changes that the closure returns for the bar's state; then as a tick. If its board hasn't the bar, the closure isn't
     /// called.
     pub fn update<R: Wait, F: FnOnce(&ProgressState) -> Change>(
         &mut self,
@@ -210,7 +210,7 @@ impl<K: Tracks, T: TermLike + Drop, C: Clock + Drop> LockedBar<K, T, C> {
         }
     }
 
-    /// Begins a pause of a bar that stands alone: its rows are taken back. Of a board's bar the board is handed out, for a pause of that.
+    /// Begins a pause of a bar that stands alone: its rows are cleared. For a board's bar the board is returned, for a pause of that.
     pub fn halt(&mut self) -> Halt<K, T, C>
         ensures { BarHalts K.means T.view self.old.bar result self.new.bar }
     {
@@ -227,8 +227,8 @@ impl<K: Tracks, T: TermLike + Drop, C: Clock + Drop> LockedBar<K, T, C> {
         }
     }
 
-    /// Ends the pause of a bar that stands alone: it is drawn again by force, at the moment at which the pause began. Where the clear was
-    /// refused, nothing is drawn, and the answer is that refusal.
+    /// Ends the pause of a bar that stands alone, by a forced draw at the moment at which the pause began. If the clear was refused,
+    /// nothing is drawn, and the answer is that refusal.
     pub fn resume<R: Wait>(&mut self, rt: &R, pause: Pause) -> Result<Drawn, Refusal>
         ensures { MatchResult pause.cleared (λ _. BarRedraws K.means T.view self.old.bar result self.new.bar)
             (λ e. (result ≡ Err e) × (self.new.bar ≡ self.old.bar)) }
@@ -241,7 +241,7 @@ impl<K: Tracks, T: TermLike + Drop, C: Clock + Drop> LockedBar<K, T, C> {
         }
     }
 
-    /// Draws the bar, or all bars of its board, by force.
+    /// Forces a draw of the bar, or of all bars of its board.
     fn redraw<R: Wait>(&mut self, rt: &R, now: Moment) -> Result<Drawn, Refusal>
         ensures { BarRedraws K.means T.view self.old.bar result self.new.bar }
     {
@@ -254,7 +254,7 @@ impl<K: Tracks, T: TermLike + Drop, C: Clock + Drop> LockedBar<K, T, C> {
         }
     }
 
-    /// One owner less; whether it was the last, and then the bar ends too.
+    /// Removes an owner, and returns whether it was the last; then the bar ends too.
     pub fn release<R: Wait>(&mut self, rt: &R) -> Tried<bool, ()>
         ensures owners { MatchTried result (λ last. OwnerLeaves last self.old.owners self.new.owners) (λ _. self.new.owners ≡ self.old.owners) }
         ensures last { result ≡ Tried.Made true → (answer : _) × BarEnds K.means T.view self.old.bar answer self.new.bar }
@@ -273,7 +273,8 @@ impl<K: Tracks, T: TermLike + Drop, C: Clock + Drop> LockedBar<K, T, C> {
         }
     }
 
-    /// What the last owner runs: a bar that stands alone and isn't finished is finished by its stored finish, a board's is dropped.
+    /// Ends the bar with its last owner: a bar that stands alone and isn't finished is finished by its stored finish, a board's bar is
+    /// dropped.
     fn end<R: Wait>(&mut self, rt: &R) -> Tried<Result<Drawn, Refusal>, ()>
         ensures ends { MatchTried result (λ answer. BarEnds K.means T.view self.old.bar answer self.new.bar) (λ _. self.new.bar ≡ self.old.bar) }
         ensures owners { self.new.owners ≡ self.old.owners }
@@ -285,7 +286,7 @@ impl<K: Tracks, T: TermLike + Drop, C: Clock + Drop> LockedBar<K, T, C> {
         }
     }
 
-    /// The ticker of this number in the place of any other. Where the bar can't be told so, the ticker stays as it is.
+    /// Installs the ticker with this number in place of any other. If that is refused, the ticker stays as it is.
     pub fn install_ticker<R: Wait>(&mut self, rt: &R, number: u64) -> Result<(), Refusal>
         requires { number < self.old.ticker.next }
         ensures installed { IfOk result (λ _. (self.new.ticker.installed ≡ Some number)
@@ -298,7 +299,7 @@ impl<K: Tracks, T: TermLike + Drop, C: Clock + Drop> LockedBar<K, T, C> {
         Ok(())
     }
 
-    /// No ticker from now on. Where the bar can't be told so, the ticker stays as it is.
+    /// Removes the ticker. If that is refused, the ticker stays as it is.
     pub fn disable_ticker<R: Wait>(&mut self, rt: &R) -> Result<(), Refusal>
         ensures disabled { IfOk result (λ _. (self.new.ticker.installed ≡ None)
             × ((drawn : _) × BarMakes K.means T.view self.old.bar (Lone.Obey (SetTicker false)) (Ok drawn) self.new.bar)) }
@@ -310,7 +311,7 @@ impl<K: Tracks, T: TermLike + Drop, C: Clock + Drop> LockedBar<K, T, C> {
         Ok(())
     }
 
-    /// Whether the ticker of this number goes on: it is the installed one, the bar is not finished, and it has an owner.
+    /// Whether the ticker with this number goes on: it is the installed one, the bar is not finished, and it has an owner.
     pub fn ticks_by<R: Wait>(&self, rt: &R, number: u64) -> bool
         ensures installed { (result ≡ true) → self.now.ticker.installed ≡ Some number }
         ensures owned { (result ≡ true) → 0 < self.now.owners }
@@ -319,7 +320,7 @@ impl<K: Tracks, T: TermLike + Drop, C: Clock + Drop> LockedBar<K, T, C> {
         self.awaits(number) && !self.bar.is_finished(rt)
     }
 
-    /// Whether the ticker of this number waits for its next tick: it is the installed one, and the bar has an owner.
+    /// Whether the ticker with this number waits for its next tick: it is the installed one, and the bar has an owner.
     pub fn awaits(&self, number: u64) -> bool
         ensures installed { (result ≡ true) → self.now.ticker.installed ≡ Some number }
         ensures owned { (result ≡ true) → 0 < self.now.owners }
@@ -334,7 +335,7 @@ impl<K: Tracks, T: TermLike + Drop, C: Clock + Drop> LockedBar<K, T, C> {
         &self.bar
     }
 
-    /// The nanoseconds that are left, by the rate so far.
+    /// The nanoseconds that are left, at the rate up to the current moment.
     #[tactic(auto, using(crate::proofs::FrontLemmas::no_eta))]
     pub fn eta<R: Wait>(&mut self, rt: &R) -> u64
         ensures measure { Measures eta self.old.bar result }
@@ -345,7 +346,7 @@ impl<K: Tracks, T: TermLike + Drop, C: Clock + Drop> LockedBar<K, T, C> {
         told.unwrap_or(0)
     }
 
-    /// The rate so far.
+    /// The rate up to the current moment.
     #[tactic(auto, using(crate::proofs::FrontLemmas::no_rate))]
     pub fn per_sec<R: Wait>(&mut self, rt: &R) -> Rate
         ensures measure { Measures per_sec self.old.bar result }
@@ -356,7 +357,7 @@ impl<K: Tracks, T: TermLike + Drop, C: Clock + Drop> LockedBar<K, T, C> {
         told.unwrap_or(NO_RATE)
     }
 
-    /// The nanoseconds that all of it takes.
+    /// The nanoseconds that the whole work takes.
     #[tactic(auto, using(crate::proofs::FrontLemmas::no_duration))]
     pub fn duration<R: Wait>(&mut self, rt: &R) -> u64
         ensures measure { Measures duration self.old.bar result }
@@ -378,15 +379,15 @@ impl<K: Tracks, T: TermLike + Drop, C: Clock + Drop> LockedBar<K, T, C> {
         told.unwrap_or(0)
     }
 
-    /// The bar stands so from now on; how it stood before is given up.
+    /// Replaces the bar; the old one is dropped.
     fn stand(&mut self, bar: AnyBar<K, T, C>)
         ensures { self.new.bar ≡ bar }
     {
         self.bar = bar;
     }
 
-    /// Another target; the old one is given up. A board's bar leaves its board first, which is drawn anew by force, and stands alone
-    /// from now on; the answer is that draw's. Where it can't leave, it stays.
+    /// Sets the target; the old one is dropped. A board's bar leaves its board first, whose other bars a forced draw shows, and stands
+    /// alone afterwards; the answer is that of the draw. If it can't leave, it keeps its place.
     pub fn set_draw_target<R: Wait>(
         &mut self,
         rt: &R,
@@ -408,7 +409,7 @@ impl<K: Tracks, T: TermLike + Drop, C: Clock + Drop> LockedBar<K, T, C> {
         }
     }
 
-    /// The same, but a bar that stands alone is cleared first, whatever that answers; the answer is the clear's.
+    /// As `set_draw_target`, but a bar that stands alone is cleared first, whatever the clear answers; the answer is that of the clear.
     pub fn move_to<R: Wait>(
         &mut self,
         rt: &R,
@@ -452,7 +453,7 @@ impl<K: Tracks, T: TermLike + Drop, C: Clock + Drop> LockedBar<K, T, C> {
         }
     }
 
-    /// Takes the bar in on a board. A bar that is on one stays.
+    /// Inserts the bar on a board. A bar that is on one keeps its place.
     #[tactic(auto, using(crate::proofs::AnswerLemmas::not_taken, crate::proofs::FrontLemmas::memory_missing))]
     pub fn take_in<R: Wait>(
         &mut self,
@@ -477,7 +478,7 @@ impl<K: Tracks, T: TermLike + Drop, C: Clock + Drop> LockedBar<K, T, C> {
         Ok(())
     }
 
-    /// Takes the bar out of the order of a board; it stands alone from now on, and is hidden. One that stands alone stays.
+    /// Removes the bar from a board; it stands alone afterwards, and is hidden. One that stands alone is unchanged.
     #[tactic(auto, using(crate::proofs::AnswerLemmas::removed_so))]
     pub fn take_out<R: Wait>(&mut self, rt: &R, board: &BoardCell<K, T, C>) -> Result<(), Refusal>
         ensures { IfErr result MemoryOrForeign }
@@ -498,7 +499,7 @@ impl<K: Tracks, T: TermLike + Drop, C: Clock + Drop> LockedBar<K, T, C> {
 }
 
 impl<K: Tracks, T: Drop, C: Drop> LockedBar<K, T, C> {
-    /// The bar, out of its lock; its clock is given up.
+    /// Takes the bar out of its lock; its clock is dropped.
     pub fn into_bar(self) -> AnyBar<K, T, C>
         ensures { result ≡ self.bar }
     {
@@ -513,7 +514,7 @@ impl<K: Tracks, T: Drop, C: Drop> LockedBar<K, T, C> {
     }
 }
 
-/// Takes the rows of a bar back that stands alone.
+/// Clears the rows of a bar that stands alone.
 fn pause_of<K: Tracks, T: TermLike + Drop>(bar: &mut LoneBar<K, T>, now: Moment) -> Pause
     ensures made { MadeBy K.means T.view bar.old bar.new Lone.Clear now result.cleared }
     ensures now { result.now ≡ now }
@@ -523,7 +524,7 @@ fn pause_of<K: Tracks, T: TermLike + Drop>(bar: &mut LoneBar<K, T>, now: Moment)
     Pause { now, cleared }
 }
 
-/// A bar that stands alone and isn't finished is finished by its stored finish.
+/// Finishes a bar that stands alone and isn't finished by its stored finish.
 fn finish_unfinished<K: Tracks, T: TermLike + Drop>(
     bar: &mut LoneBar<K, T>,
     now: Moment,
@@ -537,5 +538,5 @@ fn finish_unfinished<K: Tracks, T: TermLike + Drop>(
     bar.call(LoneCall::Bar(BarCommand::FinishUsingStyle), now)
 }
 
-/// No steps in no time.
+/// The rate of a bar that the board hasn't: no steps.
 const NO_RATE: Rate = Rate { steps: 0, nanos: 1 };

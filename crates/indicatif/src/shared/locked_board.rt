@@ -1,4 +1,4 @@
-//! What the lock of a shared board keeps.
+//! What the lock of a shared board protects.
 ghost use Rattle.std.specs.Prelude.{◌≡◌, IfOk, IfErr, Err};
 ghost use Rattle.indicatif_board.specs.Boards.{Clear, Redraw};
 ghost use Rattle.indicatif.specs.Fronts.{CanDraw};
@@ -29,14 +29,14 @@ impl<K: Tracks, T: Drop, C> LockedBoard<K, T, C> {
         }
     }
 
-    /// Whether it is in a pause: what draws waits then.
+    /// Whether it is in a pause: then calls that draw wait.
     pub fn is_paused(&self) -> bool {
         self.paused
     }
 }
 
 impl<K: Tracks, T: Drop, C: Drop> LockedBoard<K, T, C> {
-    /// The board, out of its lock; its clock is given up.
+    /// Takes the board out of its lock; its clock is dropped.
     pub fn into_board(self) -> AnyBoard<K, T>
         ensures { result ≡ self.board }
     {
@@ -61,14 +61,14 @@ impl<K: Tracks, T: Drop, C: Clone> LockedBoard<K, T, C> {
 }
 
 impl<K: Tracks, T: TermLike + Drop, C: Clock + Drop> LockedBoard<K, T, C> {
-    /// The moment that its clock tells.
+    /// The moment of its clock.
     pub fn now(&mut self) -> Moment
         ensures { self.new.board ≡ self.old.board }
     {
         self.clock.now()
     }
 
-    /// Begins a pause: the bars' rows are taken back.
+    /// Begins a pause: the bars' rows are cleared.
     pub fn pause(&mut self) -> Pause
         ensures { BoardDraws K.means T.view self.old.board Clear result.now result.cleared self.new.board }
     {
@@ -76,7 +76,7 @@ impl<K: Tracks, T: TermLike + Drop, C: Clock + Drop> LockedBoard<K, T, C> {
         self.pause_at(now)
     }
 
-    /// The same at this moment.
+    /// `suspend` at this moment.
     #[tactic(auto, unfolding(crate::specs::Inside::SharedBoards::SharedDraws))]
     pub fn pause_at(&mut self, now: Moment) -> Pause
         ensures made { BoardDraws K.means T.view self.old.board Clear now result.cleared self.new.board }
@@ -87,8 +87,8 @@ impl<K: Tracks, T: TermLike + Drop, C: Clock + Drop> LockedBoard<K, T, C> {
         Pause { now, cleared }
     }
 
-    /// Ends a pause: the bars are drawn again by force, at the moment at which it began. Where the clear was refused, nothing is drawn, and
-    /// the answer is that refusal.
+    /// Ends a pause by a forced draw, at the moment at which the pause began. If the clear was refused, nothing is drawn, and the answer is
+    /// that refusal.
     #[tactic(auto, using(crate::proofs::AnswerLemmas::clear_is_draw), unfolding(crate::specs::Inside::SharedBoards::SharedDraws))]
     pub fn resume(&mut self, pause: Pause) -> Result<Drawn, Refusal>
         ensures drawn { IfOk pause.cleared (λ _. BoardDraws K.means T.view self.old.board Redraw pause.now result self.new.board) }

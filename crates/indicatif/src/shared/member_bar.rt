@@ -1,4 +1,4 @@
-//! A shared bar that is on a board.
+//! A shared bar on a board.
 ghost use Rattle.std.specs.Prelude.{◌≡◌, ◌⊎◌, ℕ};
 ghost use Rattle.std.specs.Fn.{FnOnceReturnsAt};
 ghost use Rattle.indicatif_bar.specs.Commands.{Update, SetPosition, SetTicker};
@@ -24,7 +24,7 @@ use indicatif_text::columns::{Clock, Drawn, Moment, Refusal};
 use std::alloc::Global;
 use std::sync::Wait;
 
-/// A bar on a board: the board, the bar's number there, and what copies of its texts for a history are made by.
+/// A bar on a board: the board, the bar's number there, and the allocator for copies of its texts in a history.
 pub struct MemberBar<K: Tracks, T: Drop, C> {
     pub board: SharedBoard<K, T, C>,
     pub id: BarId,
@@ -41,7 +41,7 @@ impl<K: Tracks, T: Drop, C: Drop> Drop for MemberBar<K, T, C> {
     }
 }
 
-/// What a closure answers of the bar's state, or nothing where there is no bar.
+/// The changes that a closure returns for the bar's state; none if there is no bar.
 fn change_by<K: Tracks, F: FnOnce(&ProgressState) -> Change>(
     bar: Result<&BarState<K>, Refusal>,
     f: F,
@@ -58,7 +58,7 @@ fn change_by<K: Tracks, F: FnOnce(&ProgressState) -> Change>(
     }
 }
 
-/// A bar's position, or 0 where there is no bar.
+/// A bar's position, or 0 if there is no bar.
 fn position_of<K: Tracks>(bar: Result<&BarState<K>, Refusal>) -> u64 {
     match bar {
         Ok(bar) => bar.state().pos(),
@@ -66,7 +66,7 @@ fn position_of<K: Tracks>(bar: Result<&BarState<K>, Refusal>) -> u64 {
     }
 }
 
-/// What a closure answers of the state that it is shown.
+/// What a closure returns for a state.
 pub fn told_of<F: FnOnce(&ProgressState) -> A, A>(shown: &ProgressState, f: F) -> A
     requires { F.IsAlwaysCallable f }
     ensures { FnOnceReturnsAt F.FnOnce f shown.now result }
@@ -74,19 +74,19 @@ pub fn told_of<F: FnOnce(&ProgressState) -> A, A>(shown: &ProgressState, f: F) -
     f(shown)
 }
 
-/// What became of a bar that was to leave its board.
+/// The result for a bar that is to leave its board.
 pub enum Leaving<K: Tracks> {
-    /// It has left; what the draw of the others answered.
+    /// It has left; the answer of the draw of the others.
     Left(BarState<K>, Result<Drawn, Refusal>),
     /// It can't leave.
     Stays(Refusal),
-    /// The board is in a pause. Nothing was done.
+    /// The board is in a pause. Nothing has changed.
     Later,
 }
 
-/// Each call is handed back where the board is in a pause.
+/// Each call is handed back if the board is in a pause.
 impl<K: Tracks, T: TermLike + Drop, C: Clock + Drop> MemberBar<K, T, C> {
-    /// Whether a ticker is installed: told also in a pause, since it asks for no draw.
+    /// Sets whether a ticker is installed, also in a pause, since it asks for no draw.
     pub fn set_ticker<R: Wait>(
         &self,
         rt: &R,
@@ -102,7 +102,7 @@ impl<K: Tracks, T: TermLike + Drop, C: Clock + Drop> MemberBar<K, T, C> {
             .tell(self.id, call, self.alloc, now)
     }
 
-    /// Draws the bars of the board by force, also in a pause.
+    /// Forces a draw of the board's bars, also in a pause.
     #[tactic(auto, unfolding(crate::specs::Inside::SharedBoards::SharedDraws))]
     pub fn redraw<R: Wait>(&self, rt: &R, now: Moment) -> Result<Drawn, Refusal>
         ensures { CanDraw result }
@@ -110,7 +110,7 @@ impl<K: Tracks, T: TermLike + Drop, C: Clock + Drop> MemberBar<K, T, C> {
         self.board.lock(rt).board.draw(Call::Redraw, now)
     }
 
-    /// A command that sets what the closure answers of the bar's state, or nothing where the board hasn't the bar.
+    /// A command that makes the changes that the closure returns for the bar's state, or none if the board hasn't the bar.
     pub fn update<R: Wait, F: FnOnce(&ProgressState) -> Change>(
         &self,
         rt: &R,
@@ -131,7 +131,7 @@ impl<K: Tracks, T: TermLike + Drop, C: Clock + Drop> MemberBar<K, T, C> {
         }
     }
 
-    /// The bar is placed after `n` more from its position, as `seeks` says; it counts from 0 where the board hasn't the bar.
+    /// Moves the bar's position `n` further, as `seeks` says; counts from 0 if the board hasn't the bar.
     pub fn place_after<R: Wait>(
         &self,
         rt: &R,
@@ -153,7 +153,7 @@ impl<K: Tracks, T: TermLike + Drop, C: Clock + Drop> MemberBar<K, T, C> {
         }
     }
 
-    /// The bar's owner is gone.
+    /// Tells the board that the bar has no owner left.
     pub fn lose_owner<R: Wait>(&self, rt: &R, now: Moment) -> Tried<Result<Drawn, Refusal>, ()>
         ensures { IfMade result (λ answer. SharedDraws K (Dropped (id_of self.now.id)) answer) }
     {
@@ -163,7 +163,7 @@ impl<K: Tracks, T: TermLike + Drop, C: Clock + Drop> MemberBar<K, T, C> {
         }
     }
 
-    /// Takes the bar out of the order and draws the others by force.
+    /// Removes the bar from the order and forces a draw of the others.
     pub fn leave<R: Wait>(&self, rt: &R, now: Moment) -> Leaving<K>
         ensures { LeavesSo result }
     {
@@ -174,7 +174,7 @@ impl<K: Tracks, T: TermLike + Drop, C: Clock + Drop> MemberBar<K, T, C> {
     }
 }
 
-/// Takes a bar out of a board's order and draws the others by force.
+/// Removes a bar from a board's order and forces a draw of the others.
 #[tactic(auto, using(crate::proofs::AnswerLemmas::stays_so), unfolding(crate::specs::Inside::SharedBoards::SharedDraws))]
 fn left<K: Tracks, T: TermLike + Drop>(
     board: &mut AnyBoard<K, T>,

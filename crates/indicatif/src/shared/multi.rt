@@ -18,17 +18,17 @@ use std::sync::{Arc, Wait};
 
 /// A board that threads share: several bars on one target, in an order. A clone is the same board.
 ///
-/// Each call takes the board's lock and does what the `Board` under it does, at the moment that the board's clock tells, and
-/// answers what that answers; what a call does and refuses is said there. A bar's own calls go on from its clock. A call of a bar
-/// takes the bar's lock first and then the board's, and no call takes them the other way.
+/// Each call locks the board, makes the same call of the `Board` in it, at the moment of the board's clock, and returns its answer; what a
+/// call does and refuses is described there. A bar's own calls use the bar's clock. A call of a bar takes the bar's lock first and then the
+/// board's; no call takes them in the other order.
 ///
-/// Boards are told apart by their marks alone: give those that live at one time marks of their own.
+/// Boards are told apart by their marks alone: give boards that exist at the same time different marks.
 ///
-/// Only a board that keeps its history (`recorded`) takes memory for each call: one entry. Where its history has no room, the call
-/// answers `Memory`, and nothing has changed. On any other board a call takes what `Board` says, and for a text that isn't empty a copy.
+/// Only a board that keeps its history (`recorded`) takes memory for each call: one entry. If its history has no room, the call returns
+/// `Memory`, and nothing has changed. On any other board a call takes what `Board` says, and for a text that isn't empty a copy.
 ///
-/// Its clauses say which answers a call can have, whatever the board is. They don't see which boards keep a history, so they allow
-/// `Memory` of each. That the board under the lock was changed so is what tests show.
+/// The clauses say which answers a call can give, whatever the board is. They don't see which boards keep a history, so they allow `Memory`
+/// for each call. That the board under the lock changes accordingly is tested, not proved.
 ///
 /// ```
 /// let board = MultiProgress::new(rt, rt.alloc(), setup, 1)?;
@@ -57,11 +57,11 @@ impl<T: TermLike + Drop, C: Clock + Drop, R: Wait + Clone + Drop, K: Tracks> Dro
     }
 }
 
-/// Boards whose bars have no keys of the caller's own.
+/// Boards whose bars have no keys of your own.
 impl<T: TermLike + Drop, C: Clock + Drop, R: Wait + Clone + Drop> MultiProgress<T, C, R> {
-    /// A board without bars, of this mark. It writes nothing yet. Its bars come by `new_bar`, `new_spinner` and `add`.
+    /// A board without bars, with this mark. It writes nothing yet. Add bars with `new_bar`, `new_spinner` and `add`.
     ///
-    /// Refused: `Memory`; nothing is made, and what was handed in is given up.
+    /// Refused: `Memory`; nothing is made, and the arguments are dropped.
     pub fn new(rt: R, alloc: Global, setup: Setup<T, C>, mark: u64) -> Result<Self, Refusal>
         ensures { IfErr result (λ e. e ≡ Refusal.Memory) }
     {
@@ -69,9 +69,9 @@ impl<T: TermLike + Drop, C: Clock + Drop, R: Wait + Clone + Drop> MultiProgress<
         MultiProgress::with_draw_target(rt, alloc, target, clock, mark)
     }
 
-    /// A board without bars on this target, by this clock, of this mark.
+    /// A board without bars on this target, with this clock and this mark.
     ///
-    /// Refused: `Memory`; nothing is made, and what was handed in is given up.
+    /// Refused: `Memory`; nothing is made, and the arguments are dropped.
     pub fn with_draw_target(
         rt: R,
         alloc: Global,
@@ -84,9 +84,9 @@ impl<T: TermLike + Drop, C: Clock + Drop, R: Wait + Clone + Drop> MultiProgress<
         MultiProgress::keyed(rt, alloc, Setup { target, clock }, mark)
     }
 
-    /// The same, and the board keeps its history; `with_record` lends it. It grows with each call.
+    /// As `new`, but the board keeps its history, which grows with each call; `with_record` lends it.
     ///
-    /// Refused: `Memory`; nothing is made, and what was handed in is given up.
+    /// Refused: `Memory`; nothing is made, and the arguments are dropped.
     pub fn recorded(
         rt: R,
         alloc: Global,
@@ -106,13 +106,13 @@ impl<T: TermLike + Drop, C: Clock + Drop, R: Wait + Clone + Drop, K: Tracks> Mul
     R,
     K,
 > {
-    /// The same as `new`, for bars whose styles have keys of one's own.
+    /// As `new`, for bars whose styles have keys of your own.
     ///
     /// ```
     /// let board: Several<R> = MultiProgress::keyed(rt, alloc, setup(alloc)?, 1)?; // MultiProgress<InMemoryTerm, StepClock, R, Left>
     /// ```
     ///
-    /// Refused: `Memory`; nothing is made, and what was handed in is given up.
+    /// Refused: `Memory`; nothing is made, and the arguments are dropped.
     pub fn keyed(rt: R, alloc: Global, setup: Setup<T, C>, mark: u64) -> Result<Self, Refusal>
         ensures { IfErr result (λ e. e ≡ Refusal.Memory) }
     {
@@ -121,9 +121,9 @@ impl<T: TermLike + Drop, C: Clock + Drop, R: Wait + Clone + Drop, K: Tracks> Mul
         MultiProgress::shared(rt, alloc, LockedBoard::new(board, clock))
     }
 
-    /// The same as `keyed`, and the board keeps its history; `with_record` lends it. It grows with each call.
+    /// As `keyed`, but the board keeps its history, which grows with each call; `with_record` lends it.
     ///
-    /// Refused: `Memory`; nothing is made, and what was handed in is given up.
+    /// Refused: `Memory`; nothing is made, and the arguments are dropped.
     pub fn keyed_recorded(
         rt: R,
         alloc: Global,
@@ -137,12 +137,12 @@ impl<T: TermLike + Drop, C: Clock + Drop, R: Wait + Clone + Drop, K: Tracks> Mul
         MultiProgress::shared(rt, alloc, LockedBoard::new(board, clock))
     }
 
-    /// What its texts are made by.
+    /// The allocator of its texts.
     pub(crate) fn alloc(&self) -> Global {
         self.alloc
     }
 
-    /// Its board, what its texts are made by, and its runtime.
+    /// Its board, the allocator of its texts, and its runtime.
     pub(crate) fn into_parts(self) -> (SharedBoard<K, T, C>, Global, R)
         ensures { (result.0 ≡ self.board) × (result.1 ≡ self.alloc) × (result.2 ≡ self.rt) }
     {
@@ -150,7 +150,7 @@ impl<T: TermLike + Drop, C: Clock + Drop, R: Wait + Clone + Drop, K: Tracks> Mul
         (board, alloc, rt)
     }
 
-    /// A board under its lock.
+    /// Puts a board into a lock.
     fn shared(rt: R, alloc: Global, board: LockedBoard<K, T, C>) -> Result<Self, Refusal>
         ensures { IfErr result (λ e. e ≡ Refusal.Memory) }
     {
@@ -160,12 +160,12 @@ impl<T: TermLike + Drop, C: Clock + Drop, R: Wait + Clone + Drop, K: Tracks> Mul
         }
     }
 
-    /// Adds a bar after all others, and hands its owner back. A bar that stood alone leaves its target, and what it drew there stays. A
-    /// bar that is already on this board stays where it is.
+    /// Adds a bar after all others, and returns its owner. A bar that stood alone leaves its target, and what it drew there stays. A bar
+    /// that is already on this board keeps its place.
     ///
-    /// Refused: `ForeignBar` for a bar of another board; `NotMember` if that has the same mark, or if the bar was lost to such a one; `Memory`.
-    /// The board is as before then, and this owner is given up as by `ProgressBar::release`: if it was the only one, its bar is finished by
-    /// its stored finish, and leaves the board that has it.
+    /// Refused: `ForeignBar` for a bar of another board; `NotMember` if that board has the same mark, or if the bar was lost to such a
+    /// board; `Memory`. Then the board is unchanged, and this owner is dropped as by `ProgressBar::release`: if it was the only one, its
+    /// bar is finished by its stored finish, and leaves the board that has it.
     ///
     /// ```
     /// let bar = board.add(bar)?; // it is drawn among the board's bars from now on
@@ -176,7 +176,7 @@ impl<T: TermLike + Drop, C: Clock + Drop, R: Wait + Clone + Drop, K: Tracks> Mul
         self.take_in(InsertLocation::End, bar)
     }
 
-    /// Takes a bar in where `index` bars stand before it, or behind all others where there are fewer; else as `add`.
+    /// Inserts a bar after the first `index` bars, or after all others if there are fewer; otherwise as `add`.
     pub fn insert(
         &self,
         index: usize,
@@ -187,7 +187,7 @@ impl<T: TermLike + Drop, C: Clock + Drop, R: Wait + Clone + Drop, K: Tracks> Mul
         self.take_in(InsertLocation::Index(index), bar)
     }
 
-    /// Takes a bar in where `count` bars stand behind it, or before all others where there are fewer; else as `add`.
+    /// Inserts a bar before the last `count` bars, or before all others if there are fewer; otherwise as `add`.
     pub fn insert_from_back(
         &self,
         count: usize,
@@ -198,9 +198,9 @@ impl<T: TermLike + Drop, C: Clock + Drop, R: Wait + Clone + Drop, K: Tracks> Mul
         self.take_in(InsertLocation::FromBack(count), bar)
     }
 
-    /// Takes a bar in right before the anchor; else as `add`.
+    /// Inserts a bar right before the anchor; otherwise as `add`.
     ///
-    /// Refused too: `ForeignBar` for an anchor of another board, `NotMember` for one that stands alone.
+    /// Also refused: `ForeignBar` for an anchor of another board, `NotMember` for an anchor that stands alone.
     pub fn insert_before(
         &self,
         anchor: &ProgressBar<T, C, R, K>,
@@ -214,7 +214,7 @@ impl<T: TermLike + Drop, C: Clock + Drop, R: Wait + Clone + Drop, K: Tracks> Mul
         }
     }
 
-    /// Takes a bar in right after the anchor; else as `insert_before`.
+    /// Inserts a bar right after the anchor; otherwise as `insert_before`.
     pub fn insert_after(
         &self,
         anchor: &ProgressBar<T, C, R, K>,
@@ -228,7 +228,7 @@ impl<T: TermLike + Drop, C: Clock + Drop, R: Wait + Clone + Drop, K: Tracks> Mul
         }
     }
 
-    /// Takes a bar in at a place.
+    /// Inserts a bar at a place.
     #[tactic(auto, using(crate::proofs::FrontLemmas::memory_missing))]
     fn take_in(
         &self,
@@ -244,21 +244,21 @@ impl<T: TermLike + Drop, C: Clock + Drop, R: Wait + Clone + Drop, K: Tracks> Mul
         Ok(bar)
     }
 
-    /// Takes a bar out of the order: it stands alone from now on, and is hidden. What it shows stays until the next draw. A bar that
-    /// stands alone stays as it is.
+    /// Removes a bar from the order: it stands alone afterwards, and is hidden. Its rows stay until the next draw. A bar that stands alone
+    /// is unchanged.
     ///
-    /// Refused: `ForeignBar` for a bar of another board; `Memory`, only of a board that keeps its history, where that has no room. Nothing
-    /// has changed then.
+    /// Refused: `ForeignBar` for a bar of another board; `Memory`, only on a board that keeps its history, if that has no room. Then
+    /// nothing has changed.
     pub fn remove(&self, bar: &ProgressBar<T, C, R, K>) -> Result<(), Refusal>
         ensures { IfErr result MemoryOrForeign }
     {
         bar.take_out(&self.board)
     }
 
-    /// Writes the text's lines above the bars, by force; the bars go on below them. On a hidden target the text is dropped: `println_or`
-    /// writes it elsewhere there.
+    /// Writes the text's lines above the bars, whatever the rate says; the bars go on below them. On a hidden target the text is dropped:
+    /// `println_or` writes it elsewhere there.
     ///
-    /// Refused: as `Board::println`; `Memory` also where a board that keeps its history has no room for it. Nothing has changed then.
+    /// Refused: as `Board::println`; `Memory` also if a board that keeps its history has no room for the call. Then nothing has changed.
     #[tactic(auto, unfolding(crate::specs::Inside::SharedBoards::SharedDraws))]
     pub fn println(&self, text: &str) -> Result<Drawn, Refusal>
         ensures { CanDraw result }
@@ -268,10 +268,10 @@ impl<T: TermLike + Drop, C: Clock + Drop, R: Wait + Clone + Drop, K: Tracks> Mul
         locked.board.println(text, self.alloc, now)
     }
 
-    /// Takes the bars' rows back, by force. The next draw shows the bars again, but for those that were dropped.
+    /// Clears the bars' rows, whatever the rate says. The next draw shows the bars again, but for those that were dropped.
     ///
-    /// Refused: as `Board::clear`, which takes no memory; `Memory`, only of a board that keeps its history, where that has no room. Nothing
-    /// has changed then.
+    /// Refused: as `Board::clear`, which takes no memory; `Memory`, only on a board that keeps its history, if that has no room. Then
+    /// nothing has changed.
     #[tactic(auto, unfolding(crate::specs::Inside::SharedBoards::SharedDraws))]
     pub fn clear(&self) -> Result<Drawn, Refusal>
         ensures { CanClear result }
@@ -281,13 +281,13 @@ impl<T: TermLike + Drop, C: Clock + Drop, R: Wait + Clone + Drop, K: Tracks> Mul
         locked.board.draw(Call::Clear, now)
     }
 
-    /// Takes the bars' rows back, calls `f` once, and draws the bars again by force, at the moment of the clear. Answers what `f` gave, and
-    /// what the draw answered; where the clear was refused, no draw is made, and the answer is that refusal.
+    /// Clears the bars' rows, calls `f` once, and forces a draw, at the moment of the clear. It returns what `f` returned, and the answer
+    /// of the draw. If the clear was refused, `f` is still called, no draw is made, and the answer is that refusal.
     ///
-    /// It is a pause of the board. Meanwhile the readings of the board and of its bars answer, also in `f` itself. A call that draws, or
-    /// changes a bar or how the board is drawn, waits for the end of the pause: from another thread it goes on then, and one that `f` itself
-    /// makes, of this board or of any bar of it, waits for ever. So does another pause of this board in `f`, and the drop of a bar's last
-    /// owner. To take bars in or out, or to set a steady ticker, waits for nothing, and draws nothing before the pause ends.
+    /// It is a pause of the board. Meanwhile the readings of the board and of its bars answer, also inside `f`. A call that draws, or
+    /// changes a bar or how the board is drawn, waits for the end of the pause: a call from another thread goes on then; one inside `f`, of
+    /// this board or of any bar of it, deadlocks. So do another pause of this board inside `f`, and the drop of a bar's last owner.
+    /// Inserting and removing bars and setting a steady ticker don't wait, and nothing is drawn before the pause ends.
     ///
     /// ```
     /// let (position, drawn) = board.suspend(move || other.position()); // another owner of the bar
@@ -300,9 +300,9 @@ impl<T: TermLike + Drop, C: Clock + Drop, R: Wait + Clone + Drop, K: Tracks> Mul
         self.board.suspend(&self.rt, f)
     }
 
-    /// Whether bars stand at the top of what is taken back, or at its bottom, from the next draw on.
+    /// Sets whether the next draws put the bars at the top or at the bottom of the rows that they clear.
     ///
-    /// Refused: `Memory`, only of a board that keeps its history, where that has no room; nothing has changed then.
+    /// Refused: `Memory`, only on a board that keeps its history, if that has no room; then nothing has changed.
     #[tactic(auto, using(crate::proofs::AnswerLemmas::aligned_so))]
     pub fn set_alignment(&self, alignment: MultiProgressAlignment) -> Result<(), Refusal>
         ensures { IfErr result (λ e. e ≡ Refusal.Memory) }
@@ -313,25 +313,24 @@ impl<T: TermLike + Drop, C: Clock + Drop, R: Wait + Clone + Drop, K: Tracks> Mul
         Ok(())
     }
 
-    /// Another target, on which the bars begin anew with their next draw; the old one is given up. Nothing is written to either.
+    /// Sets the target. The bars begin there with their next draw, and the old target is dropped. Nothing is written to either.
     ///
-    /// Refused: `RecordedTarget` for a board that keeps its history; nothing has changed then, and the new target is given up.
+    /// Refused: `RecordedTarget` on a board that keeps its history; then nothing has changed, and the new target is dropped.
     pub fn set_draw_target(&self, target: ProgressDrawTarget<T>) -> Result<(), Refusal>
         ensures { IfErr result (λ e. e ≡ Refusal.RecordedTarget) }
     {
         self.board.turn(&self.rt).board.set_draw_target(target)
     }
 
-    /// Takes the bars' rows back, by force, and goes to another target, on which the bars begin anew with their next draw: one call, so that
-    /// no other thread draws on the old target in between, and nothing of the bars stays there. The old target is given up. Answers what the
-    /// clear answers; whatever that is, the board stands on the new target.
+    /// Clears the bars' rows and sets the target, in one call: no other thread draws on the old target in between, and nothing of the bars
+    /// stays there. The bars begin on the new target with their next draw; the old one is dropped. The answer is that of the clear;
+    /// whatever it is, the board stands on the new target.
     ///
     /// ```
     /// board.move_to(ProgressDrawTarget::hidden())?; // the bars are gone from the terminal
     /// ```
     ///
-    /// Refused: as `clear`; `RecordedTarget` for a board that keeps its history, and nothing has changed then, and the new target is given
-    /// up.
+    /// Refused: as `clear`; `RecordedTarget` on a board that keeps its history: then nothing has changed, and the new target is dropped.
     pub fn move_to(&self, target: ProgressDrawTarget<T>) -> Result<Drawn, Refusal>
         ensures { CanClear result ⊎ (result ≡ Err Refusal.RecordedTarget) }
     {
@@ -340,16 +339,16 @@ impl<T: TermLike + Drop, C: Clock + Drop, R: Wait + Clone + Drop, K: Tracks> Mul
         locked.board.move_to(target, now)
     }
 
-    /// Whether draws write the bars' lines over the old ones, by moves of the cursor alone: up to the first row, to its front, and each
-    /// line with the spaces that fill its last row. It is off at first, and off again on another target. A draw ignores it if it would
-    /// show anything else that way: if it has fewer rows than before, or a row that ends early for a wide character. Logs and clears ignore
-    /// it, too. On a hidden target this does nothing.
+    /// Sets whether draws write the bars' lines over the old ones, by cursor moves alone: up to the first row, to its front, and each line
+    /// with the spaces that fill its last row. It is off at first, and off again on another target. A draw ignores it if the screen would
+    /// differ: if it has fewer rows than the last one, or a row that ends early for a wide character. Logs and clears ignore it, too. On a
+    /// hidden target this does nothing.
     ///
     /// ```
     /// board.set_move_cursor(true)?; // for a terminal that flickers where rows are emptied
     /// ```
     ///
-    /// Refused: `RecordedTarget` for a board that keeps its history; nothing has changed then.
+    /// Refused: `RecordedTarget` on a board that keeps its history; then nothing has changed.
     pub fn set_move_cursor(&self, on: bool) -> Result<(), Refusal>
         ensures { IfErr result (λ e. e ≡ Refusal.RecordedTarget) }
     {
@@ -361,8 +360,8 @@ impl<T: TermLike + Drop, C: Clock + Drop, R: Wait + Clone + Drop, K: Tracks> Mul
         self.board.lock(&self.rt).board.as_board().is_hidden()
     }
 
-    /// Lends the terminal to `f` under the lock; `None` where the target is hidden. A call of this board in `f`, or of any bar of it, waits
-    /// for ever.
+    /// Lends the terminal to `f` under the lock; `None` if the target is hidden. A call of this board inside `f`, or of any bar of it,
+    /// deadlocks.
     pub fn with_term<F: FnOnce(Option<&T>) -> A, A>(&self, f: F) -> A
         requires { F.IsAlwaysCallable f }
         ensures { (shown : _) × F.post f shown result }
@@ -372,8 +371,8 @@ impl<T: TermLike + Drop, C: Clock + Drop, R: Wait + Clone + Drop, K: Tracks> Mul
         f(shown)
     }
 
-    /// Lends the board with its history to the reader under the lock; `None` where it keeps none. What the reader is lent is one run, and
-    /// what it finds of that is what it says (`RecordReader`). A call of this board in the reader, or of any bar of it, waits for ever.
+    /// Lends the board with its history to the reader under the lock; `None` if it keeps none. The history is one run, and the reader
+    /// states what it finds in it (`RecordReader`). A call of this board inside the reader, or of any bar of it, deadlocks.
     pub fn with_record<F: RecordReader<T, K>>(&self, reader: F) -> F::Found
         ensures { (history : Option (Record K T)) × IfSome history (λ r. IsOneRun K.means r) × F.finds reader history result }
     {
@@ -382,21 +381,21 @@ impl<T: TermLike + Drop, C: Clock + Drop, R: Wait + Clone + Drop, K: Tracks> Mul
     }
 }
 
-/// Bars that are made for the board, each by a copy of the board's clock.
+/// Bars that are made for the board, each with a copy of the board's clock.
 impl<T: TermLike + Drop, C: Clock + Clone + Drop, R: Wait + Clone + Drop, K: Tracks> MultiProgress<
     T,
     C,
     R,
     K,
 > {
-    /// A bar of this length after all others, in the style `{wide_bar} {pos}/{len}`, which draws nothing yet. Keep the owner as long as the
-    /// bar should be visible: dropping the last one clears a bar that wasn't finished.
+    /// A bar with this length after all others, in the style `{wide_bar} {pos}/{len}`, which draws nothing yet. Keep the owner as long as
+    /// the bar should be visible: dropping the last one clears a bar that wasn't finished.
     ///
     /// ```
     /// let bar = board.new_bar(100)?;
     /// ```
     ///
-    /// Refused: `Memory`; nothing has changed then.
+    /// Refused: `Memory`; then nothing has changed.
     pub fn new_bar(&self, len: u64) -> Result<ProgressBar<T, C, R, K>, Refusal>
         ensures { IfErr result (λ e. e ≡ Refusal.Memory) }
     {
@@ -409,9 +408,9 @@ impl<T: TermLike + Drop, C: Clock + Clone + Drop, R: Wait + Clone + Drop, K: Tra
         }
     }
 
-    /// A bar without a length behind all others, in the style of a spinner, which draws nothing yet.
+    /// A bar without a length after all others, in the style `{spinner} {msg}`, which draws nothing yet.
     ///
-    /// Refused: `Memory`; nothing has changed then.
+    /// Refused: `Memory`; then nothing has changed.
     pub fn new_spinner(&self) -> Result<ProgressBar<T, C, R, K>, Refusal>
         ensures { IfErr result (λ e. e ≡ Refusal.Memory) }
     {
@@ -424,7 +423,7 @@ impl<T: TermLike + Drop, C: Clock + Clone + Drop, R: Wait + Clone + Drop, K: Tra
         }
     }
 
-    /// Takes a bar in that was just made, after all others: it is on no board, so it is turned away for memory alone.
+    /// Adds a new bar after all others: it is on no board, so only memory can be refused to it.
     fn add_new(&self, bar: ProgressBar<T, C, R, K>) -> Result<ProgressBar<T, C, R, K>, Refusal>
         ensures { IfErr result (λ e. e ≡ Refusal.Memory) }
     {
@@ -434,7 +433,7 @@ impl<T: TermLike + Drop, C: Clock + Clone + Drop, R: Wait + Clone + Drop, K: Tra
         }
     }
 
-    /// What a bar is made with that is on no board yet.
+    /// The setup of a bar that is on no board yet.
     fn setup(&self) -> Result<(R, Setup<T, C>), Refusal>
         ensures { IfErr result (λ e. e ≡ Refusal.Memory) }
     {
@@ -445,9 +444,9 @@ impl<T: TermLike + Drop, C: Clock + Clone + Drop, R: Wait + Clone + Drop, K: Tra
     }
 }
 
-/// What reads a board's history: a closure as a type, with what it holds as its fields. What it is lent is a history of one run, from
-/// the board's opening on (`IsOneRun`), whichever threads made the calls. Law `what_a_history_says` tells what follows from that; a type
-/// of one's own, with an invariant, takes it out of the lock.
+/// Reads a board's history: a closure as a type, with its captures as fields. What it is lent is a history of one run, from the board's
+/// opening on (`IsOneRun`), whichever threads made the calls. The law `what_a_history_says` says what follows from that; your own type,
+/// with an invariant, takes it out of the lock.
 ///
 /// ```
 /// #[derive(Drop)]
@@ -465,13 +464,13 @@ pub trait RecordReader<T: Drop, K: Tracks> {
     ghost use Rattle.std.specs.Prelude.{Option};
     ghost use Rattle.indicatif_board.specs.Recorded.{Record};
 
-    /// What it finds.
+    /// The type of what it finds.
     type Found;
 
-    /// What it says of what it finds in a history, if there is one; nothing, if it doesn't state this.
+    /// What it states about what it finds in a history, if there is one; nothing by default.
     ghost finds: { Self → Option (Record K T) → Self.Found → Type 0 } = { λ _ _ _. Unit {0} };
 
-    /// What it finds of a history, if there is one.
+    /// What it finds in a history, if there is one.
     fn read(self, history: Option<&Recorded<K, T>>) -> Self::Found
         requires { IfSome history (λ r. IsOneRun K.means r.now) }
         ensures { finds self (option_map (λ r. r.now) history.entry) result };

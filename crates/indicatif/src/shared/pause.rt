@@ -1,4 +1,4 @@
-//! A pause, in which a closure runs with rows taken back.
+//! A pause, in which a closure runs while the rows are cleared.
 ghost use Rattle.indicatif.specs.Fronts.{CanClear};
 
 use indicatif_text::columns::{Drawn, Moment, Refusal};

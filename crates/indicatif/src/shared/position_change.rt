@@ -10,19 +10,19 @@ use indicatif_bar::style::Tracks;
 use indicatif_term::term_like::TermLike;
 use indicatif_text::columns::{Drawn, Moment, Refusal};
 
-/// What moves a bar's position, and is told most often: no command is made of it where the bar stands alone.
+/// What moves a bar's position. It is the most frequent call: no command is made of it if the bar stands alone.
 #[derive(Clone, Copy, Drop)]
 pub enum PositionChange {
     /// It goes up, modulo 2^64.
     Up(u64),
     /// It goes down, modulo 2^64.
     Down(u64),
-    /// It becomes this one.
+    /// It is set.
     To(u64),
 }
 
 impl PositionChange {
-    /// The command of a bar on a board.
+    /// As the command of a bar on a board.
     pub fn command<K, S>(self) -> BarCommand<K, S>
         ensures { (bytes : S → List ℕ) → command_as bytes result ≡ position_command self }
     {

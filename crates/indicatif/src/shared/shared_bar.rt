@@ -28,7 +28,7 @@ pub struct SharedBar<K: Tracks, T: Drop, C> {
 }
 
 impl<K: Tracks, T: TermLike + Drop, C: Clock + Drop> SharedBar<K, T, C> {
-    /// The bar once it isn't in a pause of its own: for what draws or changes it.
+    /// Waits until the bar isn't in a pause of its own, and locks it: for calls that draw or change it.
     pub fn turn<R: Wait>(&self, rt: &R) -> MutexGuard<'_, LockedBar<K, T, C>> {
         let locked = self.lock.lock(rt);
         if !locked.is_paused() {
@@ -38,7 +38,7 @@ impl<K: Tracks, T: TermLike + Drop, C: Clock + Drop> SharedBar<K, T, C> {
             .wait_while(rt, locked, |locked| locked.is_paused())
     }
 
-    /// Sets what the closure answers of the bar's state; then as a tick.
+    /// Makes the changes that the closure returns for the bar's state; then as a tick.
     pub fn update<R: Wait, F: FnOnce(&ProgressState) -> Change>(
         &self,
         rt: &R,
@@ -60,7 +60,7 @@ impl<K: Tracks, T: TermLike + Drop, C: Clock + Drop> SharedBar<K, T, C> {
         unreachable!()
     }
 
-    /// The position becomes the place after `n` more from it, as `seeks` says.
+    /// Moves the position `n` further, as `seeks` says.
     pub fn place_after<R: Wait>(
         &self,
         rt: &R,
@@ -79,7 +79,7 @@ impl<K: Tracks, T: TermLike + Drop, C: Clock + Drop> SharedBar<K, T, C> {
         unreachable!()
     }
 
-    /// Another target; the rows on the old one stay.
+    /// Sets the target; the rows on the old one stay.
     #[tactic(auto, using(crate::proofs::FrontLemmas::place_turns))]
     pub fn set_draw_target<R: Wait>(
         &self,
@@ -100,7 +100,7 @@ impl<K: Tracks, T: TermLike + Drop, C: Clock + Drop> SharedBar<K, T, C> {
         unreachable!()
     }
 
-    /// Another target; the rows on the old one are taken back.
+    /// Sets the target; the rows on the old one are cleared.
     #[tactic(auto, using(crate::proofs::FrontLemmas::place_moves))]
     pub fn move_to<R: Wait>(&self, rt: &R, target: ProgressDrawTarget<T>) -> Result<Drawn, Refusal>
         ensures { CanMove result }
@@ -117,7 +117,7 @@ impl<K: Tracks, T: TermLike + Drop, C: Clock + Drop> SharedBar<K, T, C> {
         unreachable!()
     }
 
-    /// One owner less; whether it was the last, which ends the bar as soon as its board isn't in a pause.
+    /// Removes an owner, and returns whether it was the last; then the bar ends as soon as its board isn't in a pause.
     pub fn release<R: Wait>(&self, rt: &R) -> bool {
         for _ in rt.forever() {
             let mut locked = self.lock.lock(rt);
@@ -129,7 +129,7 @@ impl<K: Tracks, T: TermLike + Drop, C: Clock + Drop> SharedBar<K, T, C> {
         unreachable!()
     }
 
-    /// Calls `f` with the bar's rows, or those of all bars of its board, taken back, and draws them again.
+    /// Clears the rows of the bar, or of all bars of its board, calls `f`, and draws them again.
     pub fn suspend<R: Wait, F: FnOnce() -> A, A>(&self, rt: &R, f: F) -> (A, Result<Drawn, Refusal>)
         requires { F.pre f }
         ensures value { F.post f result.0 }
@@ -149,7 +149,7 @@ impl<K: Tracks, T: TermLike + Drop, C: Clock + Drop> SharedBar<K, T, C> {
     }
 }
 
-/// Gives a bar's lock back and waits until its board isn't in a pause.
+/// Unlocks a bar and waits until its board isn't in a pause.
 pub fn wait_for_board<K: Tracks, T: TermLike + Drop, C: Clock + Drop, R: Wait>(
     rt: &R,
     locked: MutexGuard<'_, LockedBar<K, T, C>>,

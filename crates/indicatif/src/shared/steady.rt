@@ -1,4 +1,4 @@
-//! The thread that ticks a bar, and its end.
+//! The thread that ticks a bar.
 ghost use Rattle.std.specs.Prelude.{◌≡◌, ◌⊎◌, true, false, IsTrue, is_ok, IfErr, Err};
 ghost use Rattle.indicatif_bar.specs.Commands as Command;
 ghost use Rattle.indicatif_bar.specs.Commands.{SetTicker};
@@ -18,8 +18,8 @@ use std::thread::Threads;
 use std::time::Duration;
 use std::{thread, time};
 
-/// Ticks until this ticker is no longer the installed one, or the bar is finished or has no owner. Between two ticks it waits the
-/// whole interval: what wakes it earlier without ending it, as the end of another ticker, makes it wait on.
+/// Ticks until this ticker is no longer installed, or the bar is finished or has no owner. Between two ticks it waits the whole interval:
+/// if it wakes earlier without reason to end, for instance because another ticker ended, it goes on waiting.
 fn run_ticker<K: Tracks, T: TermLike + Drop, C: Clock + Drop, R: Wait + time::Clock>(
     rt: &R,
     cell: &SharedBar<K, T, C>,
@@ -50,19 +50,19 @@ impl<
     R: Wait + Threads + time::Clock + Clone + Drop + Send + 'static,
     K: Tracks + Send + 'static,
 > ProgressBar<T, C, R, K> {
-    /// A thread ticks the bar from now on, at once and then each `nanos` nanoseconds, in the place of any ticker that the bar had;
-    /// other ticks do nothing meanwhile. An interval of 0 changes nothing.
+    /// Starts a thread that ticks the bar, at once and then each `nanos` nanoseconds, in place of any other ticker; calls of `tick` do
+    /// nothing meanwhile. An interval of 0 changes nothing.
     ///
-    /// It ends once it is disabled or another is enabled, and where the bar is finished or its last owner gone; it stays installed
-    /// until it is disabled.
+    /// It ends once it is disabled or another is enabled, or the bar is finished or its last owner is gone; it stays installed until it is
+    /// disabled.
     ///
     /// ```
     /// bar.enable_steady_tick(100_000_000)?; // ten times a second
     /// bar.disable_steady_tick()?;
     /// ```
     ///
-    /// Refused: `Memory`, where no thread can be started or the history of the bar's board finds none; `NotMember`, where `tick` is, on a
-    /// board. The ticker that was installed goes on then.
+    /// Refused: `Memory`, if no thread can be started or the history of the bar's board gets no memory; `NotMember`, if `tick` is, on a
+    /// board. Then the installed ticker goes on.
     #[tactic(auto, using(crate::proofs::FrontLemmas::place_answers))]
     pub fn enable_steady_tick(&self, nanos: u64) -> Result<(), Refusal>
         ensures idle { nanos ≡ 0 → IsTrue (is_ok result) }
@@ -106,8 +106,8 @@ impl<T: TermLike + Drop, C: Clock + Drop, R: Wait + Clone + Drop, K: Tracks> Pro
 > {
     /// Stops the steady ticker. Its thread ends by itself; this doesn't wait for it.
     ///
-    /// Refused: `Memory`, if the history of the bar's board finds none; `NotMember`, where `tick` is, on a board. The installed ticker
-    /// goes on then.
+    /// Refused: `Memory`, if the history of the bar's board gets no memory; `NotMember`, if `tick` is, on a board. Then the installed
+    /// ticker goes on.
     #[tactic(auto, using(crate::proofs::FrontLemmas::place_answers))]
     pub fn disable_steady_tick(&self) -> Result<(), Refusal>
         ensures { IfErr result (λ e. CanAnswer K (Lone.Obey (Command.SetTicker false)) (Err e)) }

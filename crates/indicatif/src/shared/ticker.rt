@@ -1,8 +1,8 @@
-//! Which steady ticker a bar has.
+//! The steady ticker of a bar.
 ghost use Rattle.std.specs.Prelude.{◌≡◌, ◌<◌, ◌+◌, Some, None, IfSome, true};
 ghost use Rattle.std.specs.Option.{ForSome};
 
-/// Which ticker is installed. Each has a number of its own.
+/// The installed ticker, if any. Each has its own number.
 #[derive(Drop)]
 pub struct Ticker {
     installed: Option<u64>,
@@ -11,7 +11,7 @@ pub struct Ticker {
 }
 
 impl Ticker {
-    /// None installed.
+    /// No ticker is installed.
     pub fn new() -> Ticker
         ensures { result.installed ≡ None }
     {
@@ -21,7 +21,7 @@ impl Ticker {
         }
     }
 
-    /// A number that no ticker had; `None` where there is none left, and nothing has changed then.
+    /// A number that no ticker had; `None` if there is none left, and then nothing has changed.
     pub fn begin(&mut self) -> Option<u64>
         ensures some { IfSome result (λ n. (n ≡ self.old.next) × (self.new.next ≡ n + 1)) }
         ensures none { result ≡ None → self.new ≡ self.old }
@@ -35,7 +35,7 @@ impl Ticker {
         Some(number)
     }
 
-    /// The ticker of this number in the place of any other.
+    /// Installs the ticker with this number in place of any other.
     pub fn install(&mut self, number: u64)
         requires { number < self.old.next }
         ensures { (self.new.installed ≡ Some number) × (self.new.next ≡ self.old.next) }
@@ -43,14 +43,14 @@ impl Ticker {
         self.installed = Some(number);
     }
 
-    /// None installed from now on.
+    /// Removes the installed ticker.
     pub fn disable(&mut self)
         ensures { (self.new.installed ≡ None) × (self.new.next ≡ self.old.next) }
     {
         self.installed = None;
     }
 
-    /// Whether it is this one that is installed.
+    /// Whether the ticker with this number is installed.
     pub fn is_installed(&self, number: u64) -> bool
         ensures { (result ≡ true) → self.now.installed ≡ Some number }
     {

@@ -13,7 +13,7 @@ impl<T: TermLike + Drop, C: Clock + Drop, R: Wait + Clone + Drop, K: Tracks> Pro
     R,
     K,
 > {
-    /// Where the bar is hidden, writes it to `out` as a plain line, if one is due (`PlainLines`). Answers whether it was written. Call it
+    /// If the bar is hidden and a line is due (`PlainLines`), writes the bar to `out` as a plain line, and returns whether it did. Call it
     /// after each step and after the finish. On a terminal it does nothing.
     ///
     /// ```
@@ -21,8 +21,8 @@ impl<T: TermLike + Drop, C: Clock + Drop, R: Wait + Clone + Drop, K: Tracks> Pro
     /// bar.tell_line(&mut lines, &mut host.stderr())?;
     /// ```
     ///
-    /// Refused: `Memory`, and the line is due at the next call then; `Terminal` with the kind of the writer's failure; `NotMember`, where
-    /// `tick` is, on a board.
+    /// Refused: `Memory`: then the line is due at the next call; `Terminal` with the kind of the writer's failure; `NotMember`, if `tick`
+    /// is, on a board.
     pub fn tell_line<W: Write>(
         &self,
         lines: &mut PlainLines,

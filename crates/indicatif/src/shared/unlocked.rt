@@ -24,7 +24,7 @@ use std::sync::{Arc, Wait};
 pub enum UnlockedBar<K: Tracks, T: Drop> {
     /// A bar that stood alone, with its target.
     Alone(LoneBar<K, T>),
-    /// The number of a bar on its board, which has the bar still.
+    /// The number of a bar on its board, which still has the bar.
     OnBoard(BarId),
 }
 
@@ -48,12 +48,12 @@ impl<T: TermLike + Drop, C: Clock + Drop, R: Wait + Clone + Drop, K: Tracks> Pro
     R,
     K,
 > {
-    /// Takes the bar out of its lock, where this is the only owner: nothing is drawn, the bar isn't finished by it, and its clock is
-    /// given up. What is proved of a `LoneBar` holds of it from then on. Of a bar that stands on a board its number comes, by which the
-    /// board's own calls name it; the board has it still, also if its last owner is gone in this way.
+    /// Takes the bar out of its lock, if this is the only owner: nothing is drawn, the bar isn't finished, and its clock is dropped.
+    /// Everything proved about a `LoneBar` holds for it afterwards. For a bar on a board you get its number, which names it in the board's
+    /// own calls; the board still has it, even if its last owner is gone in this way.
     ///
-    /// Else the owner comes back, and nothing has changed. A weak reference counts as an owner here. So does the thread of a steady ticker
-    /// until it has ended, which may be some moments after `disable_steady_tick`.
+    /// Otherwise it returns the owner, and nothing has changed. A weak reference counts as an owner here. So does the thread of a steady
+    /// ticker until it has ended, which may be some moments after `disable_steady_tick`.
     pub fn into_inner(self) -> Result<UnlockedBar<K, T>, Self>
         ensures bar { IfOk result BarIsSomewhere }
         ensures owner { IfErr result (λ bar. bar ≡ self) }
@@ -72,12 +72,12 @@ impl<T: TermLike + Drop, C: Clock + Drop, R: Wait + Clone + Drop, K: Tracks> Mul
     R,
     K,
 > {
-    /// Takes the board out of its lock, where this is the only owner: nothing is drawn, and its clock is given up. A board that keeps its
-    /// history comes with that, which is one run, whichever threads made its calls. So what is proved of a `Board` or a `Recorded`, and law
-    /// `what_a_history_says`, hold of what was shared.
+    /// Takes the board out of its lock, if this is the only owner: nothing is drawn, and its clock is dropped. A board that keeps its
+    /// history comes with it; the history is one run, whichever threads made its calls. So everything proved about a `Board` or a
+    /// `Recorded`, and the law `what_a_history_says`, hold for what was shared.
     ///
-    /// Else the board comes back as it is. Each clone is an owner. So is each bar that stands on the board, until its own last owner is
-    /// gone, or took it out of its lock (`ProgressBar::into_inner`).
+    /// Otherwise it returns the board unchanged. Each clone is an owner. So is each bar on the board, until its own last owner is gone, or
+    /// takes it out of its lock (`ProgressBar::into_inner`).
     pub fn into_inner(self) -> Result<UnlockedBoard<K, T>, Self>
         ensures board { IfOk result (BoardIsSomewhere K.means) }
         ensures owner { IfErr result (λ board. board ≡ self) }

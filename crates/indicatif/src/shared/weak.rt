@@ -33,7 +33,7 @@ impl<T: TermLike + Drop, C: Clock + Drop, R: Wait + Clone + Drop, K: Tracks> Dro
     }
 }
 
-/// A bar that was known.
+/// The bar that it refers to.
 #[derive(Drop)]
 struct Known<T: TermLike + Drop, C: Clock + Drop, R: Wait + Clone + Drop, K: Tracks> {
     state: Arc<SharedBar<K, T, C>, Global>,
@@ -52,16 +52,16 @@ impl<T: TermLike + Drop, C: Clock + Drop, R: Wait + Clone + Drop, K: Tracks> Wea
         WeakProgressBar { of: None }
     }
 
-    /// Of this bar.
+    /// A reference to this bar.
     pub(crate) fn of(state: Arc<SharedBar<K, T, C>, Global>, alloc: Global, rt: R) -> Self {
         WeakProgressBar {
             of: Some(Known { state, alloc, rt }),
         }
     }
 
-    /// Another owner of the bar; `None` exactly where it has no owner left, or 2^64 - 1 of them, or there is no bar.
+    /// Another owner of the bar; `None` exactly if it has no owner left, or 2^64 - 1 of them, or there is no bar.
     ///
-    /// Refused: want of memory; nothing has changed then.
+    /// Refused: want of memory; then nothing has changed.
     pub fn upgrade(&self) -> Result<Option<ProgressBar<T, C, R, K>>, AllocError> {
         let Some(known) = &self.of else {
             return Ok(None);
@@ -88,7 +88,7 @@ impl<T: TermLike + Drop, C: Clock + Drop, R: Wait + Clone + Drop, K: Tracks> Pro
 > {
     /// A weak reference to this bar, which isn't an owner.
     ///
-    /// Refused: want of memory; the bar stays as it is.
+    /// Refused: want of memory; then nothing has changed.
     pub fn downgrade(&self) -> Result<WeakProgressBar<T, C, R, K>, AllocError> {
         let state = Arc::try_clone(&self.state)?;
         let rt = self.rt.clone()?;

@@ -1,4 +1,4 @@
-//! Wrappers that move a shared bar, and what is said of their bar before it moves.
+//! Wrappers that move a shared bar, and their builders.
 ghost use Rattle.std.specs.Prelude.{◌≡◌, IfOk, IfErr, Err};
 ghost use Rattle.indicatif_bar.specs.Commands.{WithPosition, WithFinish, WithMessage, WithPrefix, SetStyle, SetElapsed};
 ghost use Rattle.indicatif_bar.specs.Finishes.{finish_of};
@@ -19,7 +19,7 @@ use std::io::{Read, Write};
 use std::sync::Wait;
 use tokio::io::{AsyncRead, AsyncWrite};
 
-/// Wrappers that move this bar, each with an owner of its own.
+/// Wrappers that move this bar, each as another owner.
 impl<T: TermLike + Drop, C: Clock + Drop, R: Wait + Clone + Drop, K: Tracks> ProgressBar<
     T,
     C,
@@ -32,7 +32,7 @@ impl<T: TermLike + Drop, C: Clock + Drop, R: Wait + Clone + Drop, K: Tracks> Pro
     /// let mut wrapped = bar.wrap_iter(items.into_iter())?; // wrapped.next() is the first item
     /// ```
     ///
-    /// Refused: want of memory, or of owners; the iterator is given up.
+    /// Refused: want of memory, or of owners; the iterator is dropped.
     pub fn wrap_iter<I: Iterator + Drop>(
         &self,
         it: I,
@@ -42,26 +42,26 @@ impl<T: TermLike + Drop, C: Clock + Drop, R: Wait + Clone + Drop, K: Tracks> Pro
         Ok(ProgressBarIter::new(it, self.clone()?))
     }
 
-    /// A reader that places the bar behind what was read.
+    /// A reader that sets the bar's position to the bytes read.
     ///
     /// ```
     /// let mut wrapped = bar.wrap_read(bytes)?; // a read of 4 bytes: the position is 4
     /// ```
     ///
-    /// Refused: want of memory, or of owners; the reader is given up.
+    /// Refused: want of memory, or of owners; the reader is dropped.
     pub fn wrap_read<I: Read + Drop>(&self, read: I) -> Result<ProgressBarIter<I, Self>, AllocError>
         ensures { IfOk result (λ wrapped. Wraps wrapped read) }
     {
         Ok(ProgressBarIter::new(read, self.clone()?))
     }
 
-    /// A writer that places the bar behind what was written.
+    /// A writer that sets the bar's position to the bytes written.
     ///
     /// ```
     /// let mut wrapped = bar.wrap_write(Vec::new(alloc))?; // a write of "abc": the position is 3
     /// ```
     ///
-    /// Refused: want of memory, or of owners; the writer is given up.
+    /// Refused: want of memory, or of owners; the writer is dropped.
     pub fn wrap_write<I: Write + Drop>(
         &self,
         write: I,
@@ -77,7 +77,7 @@ impl<T: TermLike + Drop, C: Clock + Drop, R: Wait + Clone + Drop, K: Tracks> Pro
     /// let mut wrapped = bar.wrap_stream(stream)?; // wrapped.poll_next(cx) advances the bar by an item
     /// ```
     ///
-    /// Refused: want of memory, or of owners; the stream is given up.
+    /// Refused: want of memory, or of owners; the stream is dropped.
     pub fn wrap_stream<I: Stream + Drop>(
         &self,
         stream: I,
@@ -87,13 +87,13 @@ impl<T: TermLike + Drop, C: Clock + Drop, R: Wait + Clone + Drop, K: Tracks> Pro
         Ok(ProgressBarIter::new(stream, self.clone()?))
     }
 
-    /// A reader that is polled, and places the bar behind what was read.
+    /// A polled reader that sets the bar's position to the bytes read.
     ///
     /// ```
     /// let mut wrapped = bar.wrap_async_read(socket)?; // wrapped.poll_read(cx, &mut room) places the bar
     /// ```
     ///
-    /// Refused: want of memory, or of owners; the reader is given up.
+    /// Refused: want of memory, or of owners; the reader is dropped.
     pub fn wrap_async_read<I: AsyncRead + Drop>(
         &self,
         read: I,
@@ -103,13 +103,13 @@ impl<T: TermLike + Drop, C: Clock + Drop, R: Wait + Clone + Drop, K: Tracks> Pro
         Ok(ProgressBarIter::new(read, self.clone()?))
     }
 
-    /// A writer that is polled, and places the bar behind what was written.
+    /// A polled writer that sets the bar's position to the bytes written.
     ///
     /// ```
     /// let mut wrapped = bar.wrap_async_write(socket)?; // wrapped.poll_write(cx, bytes) places the bar
     /// ```
     ///
-    /// Refused: want of memory, or of owners; the writer is given up.
+    /// Refused: want of memory, or of owners; the writer is dropped.
     pub fn wrap_async_write<I: AsyncWrite + Drop>(
         &self,
         write: I,
@@ -120,8 +120,8 @@ impl<T: TermLike + Drop, C: Clock + Drop, R: Wait + Clone + Drop, K: Tracks> Pro
     }
 }
 
-/// Each of these is a call of the bar, which all its owners see, asks no draw, and leaves `last_draw` as it is. One that is refused
-/// gives up what it was called on, so lend it what has to be kept.
+/// Each of these is a call of the bar, which all its owners see; it asks for no draw, and leaves `last_draw` unchanged. One that is refused
+/// drops the wrapper, so wrap `&mut` of what you need afterwards.
 impl<
     I: Drop,
     W: TermLike + Drop,
@@ -129,9 +129,9 @@ impl<
     R: Wait + Clone + Drop,
     K: Tracks,
 > ProgressBarIter<I, ProgressBar<W, C, R, K>> {
-    /// Another position of the bar. The rate counts it with the next step: `ProgressBar::with_position` says what to do about that.
+    /// Sets the bar's position. The rate counts it with the next step: `ProgressBar::with_position` says what to do about that.
     ///
-    /// Refused: on a board alone, as each command there.
+    /// Refused: only on a board, as each command there.
     pub fn with_position(self, position: u64) -> Result<Self, Refusal>
         ensures itself { IfOk result (λ wrapped. wrapped ≡ self) }
         ensures refused { IfErr result (λ e. CanAnswer K (Lone.Obey (WithPosition position)) (Err e)) }
@@ -145,9 +145,9 @@ impl<
         }
     }
 
-    /// What finishes the bar at the end.
+    /// Sets what finishes the bar at the end.
     ///
-    /// Refused: on a board alone, as each command there.
+    /// Refused: only on a board, as each command there.
     pub fn with_finish(self, finish: ProgressFinish) -> Result<Self, Refusal>
         ensures itself { IfOk result (λ wrapped. wrapped ≡ self) }
         ensures refused { IfErr result (λ e. CanAnswer K (Lone.Obey (WithFinish (finish_of finish))) (Err e)) }
@@ -161,9 +161,9 @@ impl<
         }
     }
 
-    /// Another style of the bar.
+    /// Sets the bar's style.
     ///
-    /// Refused: `Memory`; on a board as each command there.
+    /// Refused: `Memory`; on a board, as each command there.
     pub fn with_style(self, style: ProgressStyle<K>) -> Result<Self, Refusal>
         ensures itself { IfOk result (λ wrapped. wrapped ≡ self) }
         ensures refused { IfErr result (λ e. CanAnswer K (Lone.Obey (SetStyle style)) (Err e)) }
@@ -174,9 +174,9 @@ impl<
         }
     }
 
-    /// Another prefix of the bar.
+    /// Sets the bar's prefix.
     ///
-    /// Refused: `Memory`; on a board as each command there.
+    /// Refused: `Memory`; on a board, as each command there.
     pub fn with_prefix(self, text: &str) -> Result<Self, Refusal>
         ensures itself { IfOk result (λ wrapped. wrapped ≡ self) }
         ensures refused { IfErr result (λ e. CanAnswer K (Lone.Obey (WithPrefix text.now)) (Err e)) }
@@ -190,9 +190,9 @@ impl<
         }
     }
 
-    /// Another message of the bar.
+    /// Sets the bar's message.
     ///
-    /// Refused: `Memory`; on a board as each command there.
+    /// Refused: `Memory`; on a board, as each command there.
     pub fn with_message(self, text: &str) -> Result<Self, Refusal>
         ensures itself { IfOk result (λ wrapped. wrapped ≡ self) }
         ensures refused { IfErr result (λ e. CanAnswer K (Lone.Obey (WithMessage text.now)) (Err e)) }
@@ -206,9 +206,9 @@ impl<
         }
     }
 
-    /// So many nanoseconds have passed since the bar's start.
+    /// Sets the time since the bar's start, in nanoseconds.
     ///
-    /// Refused: `ElapsedBeyondClock`, where they are more than its clock tells; on a board as each command there.
+    /// Refused: `ElapsedBeyondClock`, if that is more than the moment of its clock; on a board, as each command there.
     pub fn with_elapsed(self, nanos: u64) -> Result<Self, Refusal>
         ensures itself { IfOk result (λ wrapped. wrapped ≡ self) }
         ensures refused { IfErr result (λ e. CanAnswer K (Lone.Obey (SetElapsed nanos)) (Err e)) }

@@ -1,4 +1,4 @@
-//! What is said of a wrapper's bar before it moves.
+//! Builders, which set up a wrapper's bar before it moves.
 ghost use Rattle.std.specs.Prelude.{◌≡◌, IfOk, IfErr, Ok, Err};
 ghost use Rattle.indicatif_bar.specs.Commands.{WithPosition, WithFinish, WithMessage, WithPrefix, SetStyle, SetElapsed};
 ghost use Rattle.indicatif_bar.specs.Finishes.{finish_of};
@@ -11,9 +11,9 @@ use indicatif_bar::style::{ProgressStyle, Tracks};
 use indicatif_term::term_like::TermLike;
 use indicatif_text::columns::{Clock, Drawn, Refusal};
 
-/// Each of these asks no draw, and leaves `last_draw` as it is.
+/// Each of these asks for no draw, and leaves `last_draw` unchanged.
 impl<I, K: Tracks, W: TermLike + Drop, C: Clock + Drop> ProgressBarIter<I, OwnedBar<K, W, C>> {
-    /// Another position of the bar. The rate counts it with the next step: `ProgressBar::with_position` says what to do about that.
+    /// Sets the bar's position. The rate counts it with the next step: `ProgressBar::with_position` says what to do about that.
     pub fn with_position(self, position: u64) -> Self
         ensures { Built K.means W.view self (WithPosition position) result }
     {
@@ -23,7 +23,7 @@ impl<I, K: Tracks, W: TermLike + Drop, C: Clock + Drop> ProgressBarIter<I, Owned
         wrapped
     }
 
-    /// What finishes the bar at the end.
+    /// Sets what finishes the bar at the end.
     pub fn with_finish(self, finish: ProgressFinish) -> Self
         ensures { Built K.means W.view self (WithFinish (finish_of finish)) result }
     {
@@ -34,12 +34,12 @@ impl<I, K: Tracks, W: TermLike + Drop, C: Clock + Drop> ProgressBarIter<I, Owned
     }
 }
 
-/// Neither do these ask a draw. One that is refused gives up what it was called on, so lend it what has to be kept.
+/// These ask for no draw either. One that is refused drops the wrapper, so wrap `&mut` of what you need afterwards.
 impl<I: Drop, K: Tracks, W: TermLike + Drop, C: Clock + Drop> ProgressBarIter<
     I,
     OwnedBar<K, W, C>,
 > {
-    /// Another style of the bar.
+    /// Sets the bar's style.
     ///
     /// Refused: `Memory`.
     pub fn with_style(self, style: ProgressStyle<K>) -> Result<Self, Refusal>
@@ -51,7 +51,7 @@ impl<I: Drop, K: Tracks, W: TermLike + Drop, C: Clock + Drop> ProgressBarIter<
         wrapped.unless_refused(answer)
     }
 
-    /// Another prefix of the bar.
+    /// Sets the bar's prefix.
     ///
     /// Refused: `Memory`.
     pub fn with_prefix(self, text: &str) -> Result<Self, Refusal>
@@ -63,7 +63,7 @@ impl<I: Drop, K: Tracks, W: TermLike + Drop, C: Clock + Drop> ProgressBarIter<
         wrapped.unless_refused(answer)
     }
 
-    /// Another message of the bar.
+    /// Sets the bar's message.
     ///
     /// Refused: `Memory`.
     pub fn with_message(self, text: &str) -> Result<Self, Refusal>
@@ -75,9 +75,9 @@ impl<I: Drop, K: Tracks, W: TermLike + Drop, C: Clock + Drop> ProgressBarIter<
         wrapped.unless_refused(answer)
     }
 
-    /// So many nanoseconds have passed since the bar's start.
+    /// Sets the time since the bar's start, in nanoseconds.
     ///
-    /// Refused: `ElapsedBeyondClock`, where they are more than its clock tells.
+    /// Refused: `ElapsedBeyondClock`, if that is more than the moment of its clock.
     pub fn with_elapsed(self, nanos: u64) -> Result<Self, Refusal>
         ensures { MayBuild K.means W.view self (SetElapsed nanos) result }
     {

@@ -11,9 +11,9 @@ use crate::wrappers::moves::Moves;
 use crate::wrappers::wrap::ProgressBarIter;
 use std::io::{self, BufRead, Read, Write};
 
-/// The inner one's bytes; a read that succeeded places the bar behind them, once.
+/// Reads from the inner reader; a read that succeeded moves the bar once, by the bytes read.
 ///
-/// `read_to_end` and the vectored reads are std's own over `read`, and place the bar at each of its reads.
+/// `read_to_end` and the vectored reads are std's own over `read`, and move the bar at each `read`.
 impl<T: Read, P: Moves> Read for ProgressBarIter<T, P> {
     ghost remaining = { λ s. T.remaining (inner_of s) };
 
@@ -37,7 +37,7 @@ impl<T: Read, P: Moves> Read for ProgressBarIter<T, P> {
     }
 }
 
-/// The inner one's buffer; what is consumed places the bar behind it.
+/// The inner reader's buffer; consuming bytes moves the bar by them.
 impl<T: BufRead, P: Moves> BufRead for ProgressBarIter<T, P> {
     ghost consumable_len = { λ s. T.consumable_len (inner_of s) };
 
@@ -60,7 +60,7 @@ impl<T: BufRead, P: Moves> BufRead for ProgressBarIter<T, P> {
     }
 }
 
-/// To the inner one; the bytes that it took place the bar behind them. `write_all` is std's own over `write`.
+/// Writes to the inner writer; the bytes that it took move the bar. `write_all` is std's own over `write`.
 impl<T: Write, P: Moves> Write for ProgressBarIter<T, P> {
     ghost contents = { λ s. T.contents (inner_of s) };
 
@@ -83,10 +83,10 @@ impl<T: Write, P: Moves> Write for ProgressBarIter<T, P> {
 }
 
 impl<T: Read, P: Moves> ProgressBarIter<T, P> {
-    /// The rest as text, behind what `buf` holds, with the bar placed once behind all of it. (Through the trait `Read` this is
-    /// std's own over `read`, and places the bar at each of its reads.)
+    /// Appends the rest as text to `buf`, and moves the bar once, by all its bytes. (Through the trait `Read` this is std's own over
+    /// `read`, and moves the bar at each `read`.)
     ///
-    /// Refused: as the inner one's, and the bar stays as it is.
+    /// Refused: as the inner reader's, and the bar is unchanged.
     pub fn read_to_string(&mut self, buf: &mut String) -> io::Result<usize>
         ensures bytes { OnOk result (IfSome (T.remaining (inner_of self.old)) (λ xs. string_bytes buf.new ≡ string_bytes buf.old ++ xs)) }
         ensures placed { MatchResult result (λ n. PlacesBar P.stands P.leads self.old n self.new) (λ _. SameBar self.old self.new) }

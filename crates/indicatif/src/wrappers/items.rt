@@ -20,7 +20,7 @@ impl<T, P: Moves> ProgressBarIter<T, P> {
     }
 }
 
-/// The inner one's items; each advances the bar by 1, and the end finishes a bar that isn't finished.
+/// The inner iterator's items; each advances the bar by 1, and the end finishes a bar that isn't finished.
 impl<T: Iterator, P: Moves + Drop> Iterator for ProgressBarIter<T, P> {
     ghost use Rattle.indicatif.specs.Wrap.{inner_of, NextGives};
 
@@ -43,7 +43,7 @@ impl<T: Iterator, P: Moves + Drop> Iterator for ProgressBarIter<T, P> {
     }
 }
 
-/// The same from the back.
+/// The inner iterator's items from the back; each advances the bar by 1, and the end finishes a bar that isn't finished.
 impl<T: DoubleEndedIterator, P: Moves + Drop> DoubleEndedIterator for ProgressBarIter<T, P> {
     ghost use Rattle.indicatif.specs.Wrap.{inner_of, NextGives};
 
@@ -58,12 +58,12 @@ impl<T: DoubleEndedIterator, P: Moves + Drop> DoubleEndedIterator for ProgressBa
     }
 }
 
-/// As many as the inner one has left.
+/// The number of items that the inner iterator has left.
 impl<T: ExactSizeIterator, P: Moves + Drop> ExactSizeIterator for ProgressBarIter<T, P> {
     fn len(&self) -> usize {
         self.it.len()
     }
 }
 
-/// Over an inner one that stays at its end.
+/// If the inner iterator stays at its end, so does the wrapper.
 impl<T: FusedIterator, P: Moves + Drop> FusedIterator for ProgressBarIter<T, P> {}

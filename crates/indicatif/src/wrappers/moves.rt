@@ -1,4 +1,4 @@
-//! What may stand for the progress of something else.
+//! The trait of bars that a wrapper moves.
 ghost use Rattle.std.specs.Prelude.{◌≡◌, Option, None, IfSome, Result, false, ⊤};
 ghost use Rattle.indicatif.specs.Moves.{Standing, Goes, PlacedAfter, Move, Advance, Place, Finish};
 ghost use Rattle.indicatif_text.specs.declared.refusal.Drawn.{Drawn};
@@ -9,18 +9,18 @@ use indicatif_text::columns::{Drawn, Refusal};
 
 /// A bar that something else moves: an iterator by its items, a reader by its bytes.
 ///
-/// What a contract can say of the bar is what it tells: a bar of one's own tells where it stands, one that is shared can't. A
-/// move whose draw was refused is a move all the same.
+/// Contracts can speak of the bar's position if its type states it: a bar with one owner does, a shared one can't. A move whose draw was
+/// refused still counts.
 ///
 /// ```
 /// let mut wrapped = ProgressBarIter::new(list.into_iter(), bar); // bar: a type of one's own with these calls
 /// wrapped.next(); // bar.advance(1)
 /// ```
 pub trait Moves {
-    /// Where the bar stands, where it is told.
+    /// Where the bar stands, if its type states it.
     ghost stands: { Self → Option Standing } = { λ _. None };
 
-    /// A move led from the first to the second, with this answer.
+    /// A move may lead from the first state to the second, with this answer.
     ghost leads: { Self → Move → Result Drawn Refusal → Self → Type 0 } = { λ _ _ _ _. ⊤ };
 
     /// Advances the position by `n`, modulo 2^64.
@@ -37,18 +37,18 @@ pub trait Moves {
         ensures led { leads self.old (Place place) result self.new }
         ensures goes { Goes (stands self.old) (Place place) result (stands self.new) };
 
-    /// Finishes the bar by its stored finish. Of a shared bar `finish_using_style` is the same call; its own `finish` leaves it at its length.
+    /// Finishes the bar by its stored finish. For a shared bar this is `finish_using_style`; its own `finish` leaves it at its length.
     ///
-    /// Refused: as a draw is; on `Memory` it may be that the bar isn't finished.
+    /// Refused: as a draw is; after `Memory` the bar may be unfinished.
     fn finish(&mut self) -> Result<Drawn, Refusal>
         ensures led { leads self.old Finish result self.new }
         ensures goes { Goes (stands self.old) Finish result (stands self.new) };
 
-    /// Places the bar after `n` more from its position, as `seeks` says, in one step, and returns what the draw answered. So nothing is
-    /// lost if others move the bar meanwhile.
+    /// Moves the bar's position `n` further, as `seeks` says, in one step, and returns the answer of the draw. So nothing is lost if other
+    /// owners move the bar meanwhile.
     ///
-    /// `None` comes from a bar of one owner. Nothing is done then: the caller reads where the bar stands, and places it. A type around a
-    /// shared bar has to hand this call on, since two wrappers would else lose bytes.
+    /// The default returns `None`, for a bar with one owner, and does nothing: the caller then reads the position and sets it. A type
+    /// around a shared bar has to pass this call on: otherwise two wrappers would lose bytes.
     ///
     /// Refused: as a draw is.
     fn place_after(&self, seeks: &mut SeekMax<5, 10>, n: u64) -> Option<Result<Drawn, Refusal>>
@@ -59,9 +59,9 @@ pub trait Moves {
         None
     }
 
-    /// Whether threads that work on a list (`map_collect`, `for_each`) may move it within a block, by smaller steps; nobody
-    /// knows how many, since that depends on the threads. Where they may not, it moves behind each block alone. A bar that tells
-    /// where it stands doesn't let them: so its moves are as many as its list has blocks.
+    /// Whether threads that work on a list (`map_collect`, `for_each`) may move the bar within a block, by smaller steps; how many steps
+    /// depends on the threads. If not, the bar moves only after each block. A bar whose type states its position doesn't let them: so it
+    /// makes one move for each block of its list.
     fn stops_within_blocks(&self) -> bool
         ensures { IfSome (stands self.now) (λ _. result ≡ false) }
     {

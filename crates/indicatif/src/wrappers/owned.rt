@@ -13,9 +13,9 @@ use indicatif_text::columns::{Clock, Drawn, Refusal};
 use std::alloc::Global;
 use std::fmt::{self, Debug, Formatter};
 
-/// A bar that stands alone on its target, with the clock that tells it each moment. It is what a wrapper moves where the bar
-/// isn't shared: an item is its `inc(1)`, a place its `set_position`, the end its `finish_using_style`, each at the moment
-/// that the clock tells. So a wrapped loop is a run of that bar, and all that is promised of a run holds of it.
+/// A bar that stands alone on its target, with its clock. A wrapper moves it if the bar isn't shared: an item is its `inc(1)`, a place its
+/// `set_position`, the end its `finish_using_style`, each at the moment of the clock. So a wrapped loop is a run of that bar, and all that
+/// is proved about a run holds for it.
 ///
 /// ```
 /// let bar = OwnedBar::new(LoneBar::new(state, target), StepClock { next: 0, step: 1_000_000 });
@@ -33,7 +33,7 @@ impl<K: Drop, T: Drop, C: Drop> Drop for OwnedBar<K, T, C> {
 }
 
 impl<K, T: Drop, C> OwnedBar<K, T, C> {
-    /// The bar with this clock. Neither is touched yet.
+    /// The bar with this clock. Neither changes.
     pub fn new(bar: LoneBar<K, T>, clock: C) -> OwnedBar<K, T, C>
         ensures { lone_of result ≡ bar }
     {
@@ -47,7 +47,7 @@ impl<K, T: Drop, C> OwnedBar<K, T, C> {
         &self.bar
     }
 
-    /// The bar and its clock as they are; the bar isn't finished by this.
+    /// The bar and its clock as they are; the bar isn't finished.
     pub fn into_parts(self) -> (LoneBar<K, T>, C)
         ensures { result.0 ≡ lone_of self }
     {
@@ -63,10 +63,9 @@ impl<K, T: Drop, C> Debug for OwnedBar<K, T, C> {
 }
 
 impl<K: Tracks, T: TermLike + Drop, C: Clock + Drop> OwnedBar<K, T, C> {
-    /// A bar of this length or of none, in this style, on the setup's target, made at the moment that its clock tells. Nothing
-    /// is drawn.
+    /// A bar with this length or none, in this style, on the setup's target, made at the moment of its clock. Nothing is drawn.
     ///
-    /// Refused: `Memory`, only where the style has another width of tabs than 8; nothing is made, and what was handed in is given up.
+    /// Refused: `Memory`, only if the style has a tab width other than 8; nothing is made, and the arguments are dropped.
     pub fn styled(
         alloc: Global,
         style: ProgressStyle<K>,
@@ -84,9 +83,9 @@ impl<K: Tracks, T: TermLike + Drop, C: Clock + Drop> OwnedBar<K, T, C> {
 }
 
 impl<T: TermLike + Drop, C: Clock + Drop> OwnedBar<NoTracker, T, C> {
-    /// The same with the template `{wide_bar} {pos}/{len}`.
+    /// A bar as that of `styled`, with the template `{wide_bar} {pos}/{len}`.
     ///
-    /// Refused: `Memory`; nothing is made, and what was handed in is given up.
+    /// Refused: `Memory`; nothing is made, and the arguments are dropped.
     pub fn plain(alloc: Global, len: Option<u64>, setup: Setup<T, C>) -> Result<Self, Refusal>
         ensures bar { IfOk result (λ owned. BeginsPlain owned TICKS.now len setup.target) }
         ensures memory { IfErr result (λ e. e ≡ Refusal.Memory) }
@@ -96,7 +95,7 @@ impl<T: TermLike + Drop, C: Clock + Drop> OwnedBar<NoTracker, T, C> {
     }
 }
 
-/// It tells where it stands.
+/// Its type states where it stands.
 impl<K: Tracks, T: TermLike + Drop, C: Clock + Drop> Moves for OwnedBar<K, T, C> {
     ghost use Rattle.std.specs.Prelude.{Some};
     ghost use Rattle.indicatif_bar.specs.LoneBars.{record_of};

@@ -11,8 +11,8 @@ use futures::task::{Context, Poll};
 use std::io;
 use tokio::io::{AsyncRead, AsyncWrite};
 
-/// The inner one's bytes. A read that is ready places the bar behind them, also one that failed, behind none; one that is
-/// pending leaves it as it is.
+/// Reads from the inner reader. A read that is ready moves the bar by the bytes read, 0 if it failed; a pending one leaves the bar
+/// unchanged.
 impl<T: AsyncRead, P: Moves + Drop> AsyncRead for ProgressBarIter<T, P> {
     ghost needs = { λ s. T.needs (inner_of s) };
 
@@ -48,8 +48,8 @@ impl<T: AsyncRead, P: Moves + Drop> AsyncRead for ProgressBarIter<T, P> {
     }
 }
 
-/// To the inner one. A write that is ready places the bar behind the bytes that were taken; one that failed or is pending
-/// leaves it as it is, and so do a flush and a shutdown.
+/// Writes to the inner writer. A write that is ready moves the bar by the bytes written; one that failed or is pending leaves the bar
+/// unchanged, and so do a flush and a shutdown.
 impl<T: AsyncWrite, P: Moves + Drop> AsyncWrite for ProgressBarIter<T, P> {
     ghost needs = { λ s. T.needs (inner_of s) };
 

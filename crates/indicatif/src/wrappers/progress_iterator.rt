@@ -1,4 +1,4 @@
-//! Iterators with a bar of their own.
+//! Iterators that make their own bar.
 ghost use Rattle.std.specs.Prelude.{◌≡◌, ◌==◌, ℕ, IsFalse, Some, None, Ok, IfOk, IfErr, IfSome, IfNone, IsSome};
 ghost use Rattle.std.specs.Iterator.{size, UpTo};
 ghost use Rattle.indicatif_bar.specs.Commands.{new_bar};
@@ -14,8 +14,8 @@ use indicatif_term::term_like::TermLike;
 use indicatif_text::columns::{Clock, Refusal};
 use std::alloc::Global;
 
-/// An iterator is wrapped into one that shows its progress: by a bar that is handed in, or by one that is made on a target with a
-/// clock (`Setup`), in the style `{wide_bar} {pos}/{len}` or another. Nothing is drawn by this.
+/// Wraps an iterator, so that it shows its progress: with a bar that you pass, or with one that is made on a target with a clock (`Setup`),
+/// in the style `{wide_bar} {pos}/{len}` or another. It draws nothing.
 ///
 /// ```
 /// let setup = Setup { target: ProgressDrawTarget::term_like(term), clock };
@@ -23,14 +23,14 @@ use std::alloc::Global;
 /// while let Some(item) = wrapped.next() { .. }
 /// ```
 pub trait ProgressIterator: Iterator + Sized {
-    /// Its progress is this bar's.
+    /// Wraps it with this bar.
     fn progress_with<P: Moves>(self, progress: P) -> ProgressBarIter<Self, P>
         ensures wraps { Wraps result self }
         ensures bar { result.progress ≡ progress };
 
-    /// A bar of this length.
+    /// Wraps it with a bar of this length.
     ///
-    /// Refused: `Memory`; the iterator and the setup are given up.
+    /// Refused: `Memory`; the iterator and the setup are dropped.
     fn progress_count<W: TermLike + Drop, C: Clock + Drop>(
         self,
         alloc: Global,
@@ -41,9 +41,9 @@ pub trait ProgressIterator: Iterator + Sized {
         ensures bar { IfOk result (λ w. BeginsPlain w.progress TICKS.now (Some len) setup.target) }
         ensures memory { IfErr result (λ e. e ≡ Refusal.Memory) };
 
-    /// A bar of as many as are left.
+    /// Wraps it with a bar whose length is the number of items left.
     ///
-    /// Refused: `Memory`; the iterator and the setup are given up.
+    /// Refused: `Memory`; the iterator and the setup are dropped.
     fn progress<W: TermLike + Drop, C: Clock + Drop>(
         self,
         alloc: Global,
@@ -55,9 +55,9 @@ pub trait ProgressIterator: Iterator + Sized {
         ensures bar { IfOk result (λ w. BeginsPlain w.progress TICKS.now (Some (size (Self.remaining self))) setup.target) }
         ensures memory { IfErr result (λ e. e ≡ Refusal.Memory) };
 
-    /// A bar of as many as are left, in this style.
+    /// Wraps it with a bar whose length is the number of items left, in this style.
     ///
-    /// Refused: `Memory`, only where the style has another width of tabs than 8; the iterator and the setup are given up.
+    /// Refused: `Memory`, only if the style has a tab width other than 8; the iterator and the setup are dropped.
     fn progress_with_style<K: Tracks, W: TermLike + Drop, C: Clock + Drop>(
         self,
         alloc: Global,
@@ -70,15 +70,14 @@ pub trait ProgressIterator: Iterator + Sized {
         ensures bar { IfOk result (λ w. (now : ℕ) × Begins w.progress (new_bar style (Some (size (Self.remaining self))) now) setup.target) }
         ensures memory { IfErr result (λ e. (e ≡ Refusal.Memory) × IsFalse (8 == style.tab)) };
 
-    /// A bar of the most that may be left, by the upper bound of the iterator's `size_hint`; where
-    /// that says no such number, `None`: nothing is made, and the iterator is given up. So the bar's length is never below the
-    /// number of items that come.
+    /// Wraps it with a bar whose length is the upper bound of the iterator's `size_hint`; if there is no such bound, `None`: nothing is
+    /// made, and the iterator is dropped. So the bar's length is never below the number of items.
     ///
     /// ```
     /// let Some(mut wrapped) = list.into_iter().try_progress(alloc, setup)? else { .. }; // of 3 items: `0/3` at first
     /// ```
     ///
-    /// Refused: `Memory`; the iterator and the setup are given up.
+    /// Refused: `Memory`; the iterator and the setup are dropped.
     fn try_progress<W: TermLike + Drop, C: Clock + Drop>(
         self,
         alloc: Global,
@@ -142,7 +141,7 @@ impl<I: Iterator> ProgressIterator for I {
     }
 }
 
-// With a bar of this length, and none where there is no length.
+// Wraps it with a bar of this length; `None` if there is no length.
 fn bounded<I: Drop, W: TermLike + Drop, C: Clock + Drop>(
     it: I,
     most: Option<usize>,

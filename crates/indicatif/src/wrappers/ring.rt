@@ -4,8 +4,8 @@ ghost use Rattle.indicatif.specs.Ring.{greatest_of};
 
 use std::marker::Model;
 
-/// The last `N` places that it was told, from 1 to 255 of them. Contracts see them as a list, the latest first. As the Rust crate
-/// `indicatif` 0.18.6 keeps them.
+/// The last `N` places, for `N` from 1 to 255. Contracts see them as a list, the latest first. The rule is that of the Rust crate
+/// `indicatif` 0.18.6.
 ///
 /// ```
 /// let mut places = MaxRingBuf::<1>::new();
@@ -28,7 +28,7 @@ impl<const N: usize> Model for MaxRingBuf<N> {
 }
 
 impl<const N: usize> MaxRingBuf<N> {
-    /// With no place yet. One for no place, or for more than 255 of them, can't be made. Takes no memory.
+    /// Without any place. A capacity of 0, or above 255, doesn't compile. Takes no memory.
     pub fn new() -> Self
         requires { (0 < N) × (N < 256) }
         ensures { result ≡ [] }
@@ -39,7 +39,7 @@ impl<const N: usize> MaxRingBuf<N> {
         }
     }
 
-    /// Takes one more place, in the stead of the oldest where there are `N`.
+    /// Adds a place; it replaces the oldest if there are `N`.
     pub fn update(&mut self, place: u64)
         ensures { self.new ≡ take N (place ∷ self.old) }
     {
@@ -48,7 +48,7 @@ impl<const N: usize> MaxRingBuf<N> {
         self.len = (self.len + 1).min(N);
     }
 
-    /// The greatest of the last `N` places, and 0 where there are none.
+    /// The greatest of the last `N` places, 0 if there are none.
     pub fn max(&self) -> u64
         ensures { result ≡ greatest_of self.now }
     {

@@ -1,15 +1,15 @@
-//! The place that moves and seeks show.
+//! The position that a bar shows after moves and seeks of a reader.
 //!
-//! A reader that jumps back and forth would make a bar jump with it. So for some moves after a seek the greatest of the last
-//! places is shown; once enough moves came in a row, the bar follows the reader again.
+//! A reader that jumps back and forth would make a bar jump with it. So for some moves after a seek the greatest of the last places is
+//! shown; after enough moves in a row, the bar follows the reader again.
 ghost use Rattle.std.specs.Prelude.{◌≡◌, ◌<◌, ◌≤◌, ◌-◌, List, ℕ, [], ◌∷◌, Option, Some, None, option_map};
 ghost use Rattle.indicatif.specs.Seek.{Seeks, no_seeks, after_move, after_seek};
 
 use crate::wrappers::ring::MaxRingBuf;
 use std::marker::Model;
 
-/// What a reader remembers of its seeks: the last `HISTORY` places since a seek, from 1 to 255 of them, until `RESET` moves
-/// came in a row. By the documentation of the Rust crate `indicatif` 0.18.6.
+/// The record of a reader's seeks: the last `HISTORY` places since a seek, from 1 to 255 of them, until there were `RESET` moves in a row.
+/// The rule is that of the documentation of the Rust crate `indicatif` 0.18.6.
 ///
 /// ```
 /// let mut seeks = SeekMax::<5, 10>::new();
@@ -34,7 +34,7 @@ impl<const RESET: u8, const HISTORY: usize> Model for SeekMax<RESET, HISTORY> {
 }
 
 impl<const RESET: u8, const HISTORY: usize> SeekMax<RESET, HISTORY> {
-    /// Without a seek. One that remembers no place, or more than 255 of them, can't be made. Takes no memory.
+    /// Without a seek. A `HISTORY` of 0, or above 255, doesn't compile. Takes no memory.
     pub fn new() -> Self
         requires { (0 < HISTORY) × (HISTORY < 256) }
         ensures { result ≡ no_seeks }

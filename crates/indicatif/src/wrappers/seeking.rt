@@ -1,4 +1,4 @@
-//! Seeks of what is wrapped.
+//! Wrapped readers and writers that seek.
 ghost use Rattle.std.specs.Prelude.{◌≡◌, Some, None, IfSome, IfOk, OnErr, Ok, pos};
 ghost use Rattle.std.specs.Io.Seek.{SeekMoves};
 ghost use Rattle.std.specs.Io.KnownBytes.{Keeps};
@@ -19,7 +19,7 @@ impl<T, P: Moves> ProgressBarIter<T, P> {
     }
 }
 
-/// Where the inner one is. A seek that succeeded places the bar, but for `Current(0)`, which asks where it is.
+/// The inner one's place. A seek that succeeded places the bar there, except `Current(0)`, which only asks for the place.
 impl<T: Seek, P: Moves> Seek for ProgressBarIter<T, P> {
     ghost stream_position = { λ s. T.stream_position (inner_of s) };
 

@@ -24,7 +24,7 @@ impl<T, P: Moves> ProgressBarIter<T, P> {
     }
 }
 
-/// The inner one's items; each advances the bar by 1, each end finishes it, and a poll that is pending leaves it as it is.
+/// The inner stream's items; each advances the bar by 1, each end finishes it, and a pending poll leaves it unchanged.
 impl<T: Stream, P: Moves + Drop> Stream for ProgressBarIter<T, P> {
     type Item = T::Item;
 

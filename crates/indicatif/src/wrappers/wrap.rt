@@ -8,16 +8,16 @@ use crate::wrappers::moves::Moves;
 use crate::wrappers::seek::SeekMax;
 use indicatif_text::columns::{Drawn, Refusal};
 
-/// An iterator, reader, writer or stream that moves a bar. It gives what the inner one gives, and beside it:
+/// An iterator, reader, writer or stream that moves a bar. It gives what the inner one gives, and moves the bar:
 ///
 /// - an item, from either end, advances the bar by 1; the end of an iterator finishes a bar that isn't finished, and each end of a
 ///   stream finishes it, by its stored finish;
-/// - bytes that were read, consumed or written place the bar behind them, and a seek places it at its target, as
-///   `SeekMax<5, 10>` says, which keeps a bar from jumping with a reader that seeks back and forth;
-/// - an error or a pending poll leaves the bar as it is. Only a polled read that fails places the bar, as a read of 0 bytes does, and
-///   as the Rust crate does: the position stays where no seek is remembered.
+/// - bytes that were read, consumed or written move the bar by their number, and a seek places it at its target, by the rule of `SeekMax<5,
+///   10>`, which keeps a bar from jumping with a reader that seeks back and forth;
+/// - an error or a pending poll leaves the bar as it is. Only a polled read that fails places the bar, as a read of 0 bytes does, and as
+///   the Rust crate does: the position stays if no seek is remembered.
 ///
-/// What a draw answered is kept for `last_draw`, since an iterator has no place for it.
+/// The answer of the last draw is kept for `last_draw`, since an iterator can't return it.
 ///
 /// ```
 /// let mut wrapped = ProgressBarIter::new(items.into_iter(), bar);
@@ -34,7 +34,7 @@ pub struct ProgressBarIter<T, P> {
 }
 
 impl<T, P> ProgressBarIter<T, P> {
-    /// Wraps `it`, whose progress `progress` shows. Neither is touched yet.
+    /// Wraps `it`, whose progress `progress` shows. Neither changes.
     pub fn new(it: T, progress: P) -> ProgressBarIter<T, P>
         ensures it { inner_of result ≡ it }
         ensures progress { result.progress ≡ progress }
@@ -49,7 +49,7 @@ impl<T, P> ProgressBarIter<T, P> {
         }
     }
 
-    /// What is wrapped, and the bar as it is; it isn't finished by this.
+    /// The wrapped value, and the bar as it is; it isn't finished.
     pub fn into_inner(self) -> (T, P)
         ensures { result ≡ (inner_of self, self.progress) }
     {
@@ -57,7 +57,7 @@ impl<T, P> ProgressBarIter<T, P> {
         (it, progress)
     }
 
-    /// What the last draw answered; none where none was asked yet.
+    /// The answer of the last draw; `None` if there was none.
     pub fn last_draw(&self) -> Option<Result<Drawn, Refusal>>
         ensures { result ≡ last_draw_of self.now }
     {
@@ -80,7 +80,7 @@ impl<T, P: Moves> ProgressBarIter<T, P> {
     }
 }
 
-/// Reads where a bar stands, and places it after `n` more.
+/// Reads a bar's position, and sets it `n` further.
 fn place<P: Moves>(bar: &mut P, seeks: &mut SeekMax<5, 10>, n: u64) -> Result<Drawn, Refusal>
     ensures { PlacedAfter P.stands P.leads bar.old seeks.old n result bar.new seeks.new }
 {

@@ -6,14 +6,14 @@ use Rattle.std.specs.declared.alloc.Global.{Global}
 use Rattle.indicatif_bar.specs.Layout.{times, cluster}
 use Rattle.indicatif_bar.specs.declared.measures.Fraction.{Fraction}
 
--- the place of the cluster that shows a cell partly done, if one does
+-- the cluster that shows a partly filled cell, if there is one
 abbrev pub shade_of : Fraction → ℕ → ℕ → Option ℕ
 shade_of f cells clusters =
     let fill = f.num * cells in
     let shades = clusters - 2 in
     if nat_lt 0 fill && nat_lt (fill / f.den) cells && nat_lt 0 shades then Some (shades - fill % f.den * shades / f.den) else None
 
--- the cells up to the first that is not begun
+-- the cells up to the first that isn't filled in part
 abbrev pub begun_text : List (List ℕ) → Fraction → ℕ → List ℕ
 begun_text clusters f cells = times (f.num * cells / f.den) (cluster clusters 0) ++ concat (map (cluster clusters) (option_to_list (shade_of f cells (length clusters))))
 

@@ -14,7 +14,7 @@ module _ {K T : Type 0} (m : Tracking K) (old mid : LoneBar K T) (command : Comm
     pub in_time : IsFalse (is_beyond_clock command now)
     pub rest : mid ≡ record old { shown = record old.shown { bar = mid.shown.bar } }
 
-  -- the same, or it has refused
+  -- the bar has obeyed and asks for a draw, or it has refused
   pub record IsToldOrNot (asked : Result Ask Refusal) : Type 0 where
     pub as_told : MatchResult asked (λ ask. ((mid.shown.bar, ask) ≡ obeyed m command old.shown.bar now) × IsFalse (is_beyond_clock command now))
         (λ e. RefusesCommand command old.shown.bar now e × (mid.shown.bar ≡ old.shown.bar))

@@ -1,4 +1,4 @@
--- What the parts of a style do, found out once. Texts are lists of bytes in UTF-8.
+-- What the parts of a style do, found once. Texts are lists of bytes in UTF-8.
 use Rattle.std.specs.declared.string.String.{String}
 use Rattle.std.specs.declared.alloc.Global.{Global}
 use Rattle.std.specs.Prelude.{map, ℕ, Bool, true, false, ◌&&◌, ◌==◌, length, List, [], Option, Some, None, encode_utf8_all, bytes_eq, position, option_map, string_bytes}
@@ -45,12 +45,12 @@ effect_of parts (step.Placeholder placeholder) = PutsSource placeholder.source (
 abbrev pub names_of : {K : Type 0} → List (String Global × K) → List (List ℕ)
 names_of keys = map (λ entry. string_bytes entry.0) keys
 
--- where the text of a name comes from of which the first tracker stands at this place
+-- where the text of a name comes from, if the first tracker of the name stands at this place
 abbrev pub source_at : List ℕ → Option ℕ → Source
 source_at name (Some k) = Tracker k
 source_at name None = option_map_or Known (key_named name) Nothing
 
--- where the text of a name comes from: the first tracker of the name, or else its key
+-- where the text of a name comes from: the first tracker with the name, or otherwise its key
 abbrev pub source_of : List (List ℕ) → List ℕ → Source
 source_of names name = source_at name (position (bytes_eq name) names)
 
@@ -60,12 +60,12 @@ effect_of_part names tab (LiteralText text) = WritesText (expanded tab (encode_u
 effect_of_part names tab LineBreak = Breaks
 effect_of_part names tab (KeyText key layout) = PutsSource (source_of names (encode_utf8_all key)) layout
 
--- the wide placeholder that a deed is
+-- the wide placeholder of an effect
 abbrev pub wide_source : Layout → Source → Option Wide
 wide_source layout (Known key) = wide_of layout key
 wide_source layout _ = None
 
--- the wide placeholder that a found one is
+-- the wide placeholder of a value
 abbrev pub wide_found : WideKey → Wide
 wide_found (wide_key.Bar placeholder) = WideBarOf (placeholder_layout placeholder)
 wide_found (wide_key.Message placeholder) = WideMessageOf (placeholder_layout placeholder)
@@ -77,20 +77,20 @@ module _ {K : Type 0} (m : Tracking K) (style : BarStyle K) (p : Progress) (now 
   source_text layout (Known key) = key_text m style p now layout key
   source_text layout Nothing = []
 
-  -- what a deed writes
+  -- the text of an effect
   abbrev pub effect_text : Effect → List ℕ
   effect_text (WritesText text) = text
   effect_text Breaks = []
   effect_text (PutsSource source layout) = in_layout m style p now layout (source_text layout source)
 
 module _ {K : Type 0} (style : BarStyle K) (p : Progress) where
-  -- a source of no text
+  -- whether a source has no text
   abbrev pub is_empty_source : Layout → Source → Bool
   is_empty_source layout (Tracker k) = false
   is_empty_source layout (Known key) = is_empty_key style p layout key
   is_empty_source layout Nothing = true
 
-  -- what writes nothing
+  -- whether an effect writes nothing
   abbrev pub is_empty_effect : Effect → Bool
   is_empty_effect (WritesText text) = length text == 0
   is_empty_effect Breaks = false

@@ -1,4 +1,4 @@
--- What is shown of a text with tabs. Texts are lists of bytes, in UTF-8.
+-- How a text with tabs is shown. Texts are lists of bytes in UTF-8.
 use Rattle.std.specs.Prelude.{ℕ, List}
 use Rattle.indicatif_bar.specs.Tabs.{TabbedText, expanded}
 

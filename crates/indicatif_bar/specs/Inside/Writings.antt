@@ -4,7 +4,7 @@ use Rattle.indicatif_term.specs.Frames.{bar_lines}
 use Rattle.indicatif_term.specs.declared.lines.Segment.{Segment}
 use Rattle.indicatif_bar.specs.Kinds.{Writing, NoFrame}
 
--- the bar's lines, as bytes, stand in a frame's segment, where they are to be written
+-- the bar's lines, as bytes, stand in a frame's segment, if they are to be written
 abbrev pub IsLaidOut : Writing → List (List ℕ) → Segment → Type 0
 IsLaidOut NoFrame lines segment = Unit
 IsLaidOut _ lines segment = bar_lines segment ≡ record { bar = 0; lines = map chars lines }

@@ -1,4 +1,4 @@
-//! What a bar that stands alone is told, and texts above it.
+//! The commands of a bar that stands alone, and texts above it.
 ghost use Rattle.std.specs.Prelude.{◌≡◌, ◌<◌, Ok, Err, IsTrue, IsFalse, ◌↔◌, IfOk, IfErr, OnErr};
 ghost use Rattle.std.specs.Fn.{FnOnceReturnsAt};
 ghost use Rattle.indicatif_bar.specs.declared.state.commands.Change.{Change as Changed};
@@ -36,7 +36,7 @@ impl<K: Tracks, T: TermLike + Drop> LoneBar<K, T> {
         self.obey(ask, now)
     }
 
-    /// From now on a steady ticker is installed, or none is; while one is, `tick` changes nothing. No draw is asked.
+    /// Sets whether a steady ticker is installed; while one is, `tick` changes nothing. Asks for no draw.
     pub fn set_ticker(&mut self, installed: bool, now: Moment) -> Result<Drawn, Refusal>
         ensures obeys { Obeys K.means T.view self.old self.new (SetTicker installed) now result }
         ensures limited { result ≡ Ok Drawn.Limited }
@@ -122,7 +122,7 @@ impl<K: Tracks, T: TermLike + Drop> LoneBar<K, T> {
         self.obey(ask, now)
     }
 
-    /// Counts the rate, and the time that is left, from now on: for instance after a pause. No draw is asked.
+    /// Counts the rate, and the time that is left, from now on: for instance after a pause. Asks for no draw.
     pub fn reset_eta(&mut self, now: Moment) -> Result<Drawn, Refusal>
         ensures obeys { Obeys K.means T.view self.old self.new ResetEta now result }
         ensures limited { result ≡ Ok Drawn.Limited }
@@ -131,7 +131,7 @@ impl<K: Tracks, T: TermLike + Drop> LoneBar<K, T> {
         self.obey(ask, now)
     }
 
-    /// Counts the rate and the elapsed time from now on. No draw is asked.
+    /// Counts the rate and the elapsed time from now on. Asks for no draw.
     pub fn reset_elapsed(&mut self, now: Moment) -> Result<Drawn, Refusal>
         ensures obeys { Obeys K.means T.view self.old self.new ResetElapsed now result }
         ensures limited { result ≡ Ok Drawn.Limited }
@@ -172,7 +172,7 @@ impl<K: Tracks, T: TermLike + Drop> LoneBar<K, T> {
         self.obey(ask, now)
     }
 
-    /// At this position, for work that was begun before. No draw is asked. The rate counts it with the next step, unless a tick and
+    /// Sets the position, for work that has already begun. Asks for no draw. The rate counts it with the next step, unless a tick and
     /// `reset_eta` follow.
     pub fn with_position(&mut self, position: u64, now: Moment) -> Result<Drawn, Refusal>
         ensures obeys { Obeys K.means T.view self.old self.new (WithPosition position) now result }
@@ -182,7 +182,7 @@ impl<K: Tracks, T: TermLike + Drop> LoneBar<K, T> {
         self.obey(ask, now)
     }
 
-    /// With this stored finish. It ends the bar by `finish_using_style`. No draw is asked.
+    /// Sets the stored finish. It ends the bar by `finish_using_style`. Asks for no draw.
     pub fn with_finish(&mut self, finish: ProgressFinish, now: Moment) -> Result<Drawn, Refusal>
         ensures obeys { Obeys K.means T.view self.old self.new (WithFinish (finish_of finish)) now result }
         ensures limited { result ≡ Ok Drawn.Limited }
@@ -201,7 +201,7 @@ impl<K: Tracks, T: TermLike + Drop> LoneBar<K, T> {
 
     /// Sets the message, and asks for a draw. It shows only where the template has `{msg}` or `{wide_msg}`.
     ///
-    /// Refused: `Memory`, only where the text isn't empty; nothing has changed then. Else as a draw.
+    /// Refused: `Memory`, only if the text isn't empty; then nothing has changed. Otherwise as a draw.
     pub fn set_message(&mut self, text: &str, now: Moment) -> Result<Drawn, Refusal>
         ensures { ObeysOrNot K.means T.view self.old self.new (SetMessage text.now) now result }
     {
@@ -211,7 +211,7 @@ impl<K: Tracks, T: TermLike + Drop> LoneBar<K, T> {
 
     /// Sets the prefix, and asks for a draw. It shows only where the template has `{prefix}`.
     ///
-    /// Refused: `Memory`, only where the text isn't empty; nothing has changed then. Else as a draw.
+    /// Refused: `Memory`, only if the text isn't empty; then nothing has changed. Otherwise as a draw.
     pub fn set_prefix(&mut self, text: &str, now: Moment) -> Result<Drawn, Refusal>
         ensures { ObeysOrNot K.means T.view self.old self.new (SetPrefix text.now) now result }
     {
@@ -219,9 +219,9 @@ impl<K: Tracks, T: TermLike + Drop> LoneBar<K, T> {
         self.obey_unless(asked, now)
     }
 
-    /// Sets the style, and gives it the bar's width of tabs. No draw is asked.
+    /// Sets the style, and gives it the bar's tab width. Asks for no draw.
     ///
-    /// Refused: `Memory`, where the style has another width of tabs; nothing has changed then, and the style is given up.
+    /// Refused: `Memory`, if the style has another tab width; then nothing has changed, and the style is dropped.
     pub fn set_style(&mut self, style: ProgressStyle<K>, now: Moment) -> Result<Drawn, Refusal>
         ensures obeys { ObeysOrNot K.means T.view self.old self.new (SetStyle style) now result }
         ensures memory { IfErr result (λ e. (e ≡ Refusal.Memory)
@@ -233,7 +233,7 @@ impl<K: Tracks, T: TermLike + Drop> LoneBar<K, T> {
         self.obey_unless(asked, now)
     }
 
-    /// With this style, in which it is drawn next. Else as `set_style`.
+    /// Sets the style; the next draw uses it. Otherwise as `set_style`.
     ///
     /// ```
     /// let style = ProgressStyle::with_template(alloc, "{pos} of {len}")?;
@@ -250,9 +250,9 @@ impl<K: Tracks, T: TermLike + Drop> LoneBar<K, T> {
         self.obey_unless(asked, now)
     }
 
-    /// With this message, which shows only where the template has `{msg}` or `{wide_msg}`. No draw is asked.
+    /// Sets the message, which shows only if the template has `{msg}` or `{wide_msg}`. Asks for no draw.
     ///
-    /// Refused: `Memory`, only where the text isn't empty; nothing has changed then.
+    /// Refused: `Memory`, only if the text isn't empty; then nothing has changed.
     pub fn with_message(&mut self, text: &str, now: Moment) -> Result<Drawn, Refusal>
         ensures obeys { ObeysOrNot K.means T.view self.old self.new (WithMessage text.now) now result }
         ensures memory { IfErr result (λ e. (e ≡ Refusal.Memory)
@@ -264,9 +264,9 @@ impl<K: Tracks, T: TermLike + Drop> LoneBar<K, T> {
         self.obey_unless(asked, now)
     }
 
-    /// With this prefix, which shows only where the template has `{prefix}`. No draw is asked.
+    /// Sets the prefix, which shows only if the template has `{prefix}`. Asks for no draw.
     ///
-    /// Refused: `Memory`, only where the text isn't empty; nothing has changed then.
+    /// Refused: `Memory`, only if the text isn't empty; then nothing has changed.
     pub fn with_prefix(&mut self, text: &str, now: Moment) -> Result<Drawn, Refusal>
         ensures obeys { ObeysOrNot K.means T.view self.old self.new (WithPrefix text.now) now result }
         ensures memory { IfErr result (λ e. (e ≡ Refusal.Memory)
@@ -278,9 +278,9 @@ impl<K: Tracks, T: TermLike + Drop> LoneBar<K, T> {
         self.obey_unless(asked, now)
     }
 
-    /// With so many spaces for a tab, in the message, the prefix and the style. No draw is asked.
+    /// Sets the tab width of the message, the prefix and the style, in spaces. Asks for no draw.
     ///
-    /// Refused: `Memory`, only where the message or the prefix has a tab, or the style another width of tabs; nothing has changed then.
+    /// Refused: `Memory`, only if the message or the prefix has a tab, or the style another tab width; then nothing has changed.
     pub fn with_tab_width(&mut self, tab: usize, now: Moment) -> Result<Drawn, Refusal>
         ensures obeys { ObeysOrNot K.means T.view self.old self.new (WithTabWidth tab) now result }
         ensures memory { IfErr result (λ e. (e ≡ Refusal.Memory)
@@ -294,7 +294,7 @@ impl<K: Tracks, T: TermLike + Drop> LoneBar<K, T> {
 
     /// Sets how many spaces a tab has in the message, the prefix and the style, and forces a draw.
     ///
-    /// Refused: `Memory` as `with_tab_width`; nothing has changed then. Else as a draw.
+    /// Refused: `Memory` as `with_tab_width`; then nothing has changed. Otherwise as a draw.
     pub fn set_tab_width(&mut self, tab: usize, now: Moment) -> Result<Drawn, Refusal>
         ensures { ObeysOrNot K.means T.view self.old self.new (SetTabWidth tab) now result }
     {
@@ -302,9 +302,9 @@ impl<K: Tracks, T: TermLike + Drop> LoneBar<K, T> {
         self.obey_unless(asked, now)
     }
 
-    /// Sets the time since the start, in nanoseconds, as `{elapsed}` shows it: for work that began before the bar. No draw is asked.
+    /// Sets the time since the start, in nanoseconds, as `{elapsed}` shows it: for work that began before the bar. Asks for no draw.
     ///
-    /// Refused: `ElapsedBeyondClock`, exactly where that is more than the moment; nothing has changed then.
+    /// Refused: `ElapsedBeyondClock`, exactly if that is more than the moment; then nothing has changed.
     pub fn set_elapsed(&mut self, nanos: u64, now: Moment) -> Result<Drawn, Refusal>
         ensures obeys { ObeysOrNot K.means T.view self.old self.new (SetElapsed nanos) now result }
         ensures beyond { (result ≡ Err Refusal.ElapsedBeyondClock) ↔ (now < nanos) }
@@ -316,7 +316,7 @@ impl<K: Tracks, T: TermLike + Drop> LoneBar<K, T> {
         self.obey_unless(asked, now)
     }
 
-    /// As `set_elapsed`.
+    /// Sets the time since the start, as `set_elapsed`.
     ///
     /// ```
     /// let drawn = bar.with_elapsed(3_000_000_000, 4_000_000_000)?; // three seconds have passed at the fourth; Drawn::Limited
@@ -334,7 +334,7 @@ impl<K: Tracks, T: TermLike + Drop> LoneBar<K, T> {
 
     /// As `finish`, with this message, which shows only where the template has `{msg}` or `{wide_msg}`.
     ///
-    /// Refused: `Memory`, only where the message isn't empty; nothing has changed then. Else as a draw.
+    /// Refused: `Memory`, only if the message isn't empty; then nothing has changed. Otherwise as a draw.
     pub fn finish_with_message(&mut self, text: &str, now: Moment) -> Result<Drawn, Refusal>
         ensures { ObeysOrNot K.means T.view self.old self.new (Finish (LeaveWithMessage text.now)) now result }
     {
@@ -354,7 +354,7 @@ impl<K: Tracks, T: TermLike + Drop> LoneBar<K, T> {
 
     /// Finishes the bar by its stored finish (`with_finish`; the default is `AndClear`), and forces a draw.
     ///
-    /// Refused: `Memory`, only where that finish has a message that isn't empty; nothing has changed then. Else as a draw.
+    /// Refused: `Memory`, only if that finish has a message that isn't empty; then nothing has changed. Otherwise as a draw.
     pub fn finish_using_style(&mut self, now: Moment) -> Result<Drawn, Refusal>
         ensures { ObeysOrNot K.means T.view self.old self.new FinishUsingStyle now result }
     {
@@ -362,8 +362,8 @@ impl<K: Tracks, T: TermLike + Drop> LoneBar<K, T> {
         self.obey_unless(asked, now)
     }
 
-    /// Writes the text's lines above the bar, by force. A line is ended by `\n` or `\r\n`; an empty text is one empty
-    /// line; tabs stay as they are. The bar's lines are laid out anew. On a hidden target the text is dropped.
+    /// Writes the text's lines above the bar, whatever the rate says. A line is ended by `\n` or `\r\n`; an empty text is one empty line;
+    /// tabs stay as they are. The bar's lines are laid out again. On a hidden target the text is dropped.
     ///
     /// Refused: as a draw.
     pub fn println(&mut self, text: &str, now: Moment) -> Result<Drawn, Refusal>
@@ -376,7 +376,7 @@ impl<K: Tracks, T: TermLike + Drop> LoneBar<K, T> {
         self.draw(Ask::Forced, Writing::TextAndFrame(text), now)
     }
 
-    /// Takes the bar's rows back, by force. The next draw shows them again. Takes no memory.
+    /// Clears the bar's rows, whatever the rate says. The next draw shows them again. Takes no memory.
     pub fn clear(&mut self, now: Moment) -> Result<Drawn, Refusal>
         ensures bar { record_of self.new ≡ record_of self.old }
         ensures silent { IsFalse (wrote result) → lone_terminal self.new ≡ lone_terminal self.old }
@@ -387,7 +387,7 @@ impl<K: Tracks, T: TermLike + Drop> LoneBar<K, T> {
         self.draw(Ask::Forced, Writing::NoFrame, now)
     }
 
-    /// Sets what the closure answers of the bar's state; then as `tick`.
+    /// Makes the changes that the closure returns for the bar's state; then as `tick`.
     pub fn update<F: FnOnce(&ProgressState) -> Change>(
         &mut self,
         f: F,

@@ -1,4 +1,4 @@
-//! What a bar can be told: each command as a value, and as a call of the bar's record.
+//! The commands of a bar: each as a value, and as a call of the bar's record.
 ghost use Rattle.std.specs.Prelude.{◌≡◌, ◌<◌, ◌↔◌, ◌⊎◌, OnErr, IfOk, IfErr, IsTrue, IsFalse};
 ghost use Rattle.std.specs.Fn.{FnOnceReturnsAt};
 ghost use Rattle.indicatif_bar.specs.Progress.{is_finished};
@@ -18,7 +18,7 @@ use crate::tracker::Tracks;
 use indicatif_text::columns::{Moment, Refusal};
 use std::alloc::Global;
 
-/// What is to be set of a bar's position and length; what is `None` stays.
+/// Changes of a bar's position and length; what is `None` stays.
 ///
 /// ```
 /// let change = Change { pos: Some(3), len: Some(4) };
@@ -35,7 +35,7 @@ pub struct Change {
 /// A command of a bar as a value. Each is the call of `BarState` with its name, but `Update` is `set_change` and `Finish` is
 /// `finish_by`; `with_style` and `with_elapsed` are `SetStyle` and `SetElapsed`.
 ///
-/// Its text is its own, so that a history can keep it, unless a lent one is named: `BarCommand<K, &str>` (`Text`).
+/// It owns its text, so that a history can keep it, unless the type says that it borrows it: `BarCommand<K, &str>` (`Text`).
 ///
 /// ```
 /// let ask = bar.apply(BarCommand::Inc(2), now)?; // as `bar.inc(2, now)`
@@ -46,66 +46,66 @@ pub enum BarCommand<K, S = String> {
     Tick,
     /// A steady ticker's own tick.
     TickerTick,
-    /// A steady ticker is installed, or is not.
+    /// Sets whether a steady ticker is installed.
     SetTicker(bool),
-    /// The position goes up, modulo 2^64.
+    /// Adds to the position, modulo 2^64.
     Inc(u64),
-    /// The position goes down, modulo 2^64.
+    /// Subtracts from the position, modulo 2^64.
     Dec(u64),
-    /// Another position.
+    /// Sets the position.
     SetPosition(u64),
-    /// Another position and another length, each if there is one.
+    /// Sets the position and the length, each if there is one.
     Update(Change),
-    /// Another length.
+    /// Sets the length.
     SetLength(u64),
-    /// No length.
+    /// Removes the length.
     UnsetLength,
-    /// A longer length, up to 2^64 - 1, where there is one.
+    /// Adds to the length, up to 2^64 - 1, if there is one.
     IncLength(u64),
-    /// A shorter length, down to 0, where there is one.
+    /// Subtracts from the length, down to 0, if there is one.
     DecLength(u64),
-    /// Another message, and a draw.
+    /// Sets the message, and asks for a draw.
     SetMessage(S),
-    /// Another prefix, and a draw.
+    /// Sets the prefix, and asks for a draw.
     SetPrefix(S),
-    /// Another style.
+    /// Sets the style.
     SetStyle(ProgressStyle<K>),
-    /// Another position, and no draw.
+    /// Sets the position; asks for no draw.
     WithPosition(u64),
-    /// Another message, and no draw.
+    /// Sets the message; asks for no draw.
     WithMessage(S),
-    /// Another prefix, and no draw.
+    /// Sets the prefix; asks for no draw.
     WithPrefix(S),
-    /// What finishes the bar when it is dropped, or by `FinishUsingStyle`.
+    /// Sets what finishes the bar when it is dropped, or by `FinishUsingStyle`.
     WithFinish(ProgressFinish),
-    /// So many spaces for a tab, and no draw.
+    /// Sets the tab width, in spaces; asks for no draw.
     WithTabWidth(usize),
-    /// So many spaces for a tab, and a draw by force.
+    /// Sets the tab width, in spaces, and forces a draw.
     SetTabWidth(usize),
-    /// So many nanoseconds have passed since the start.
+    /// Sets the time since the start, in nanoseconds.
     SetElapsed(u64),
-    /// The rate is counted from now.
+    /// Counts the rate from now on.
     ResetEta,
-    /// The rate and the time are counted from now.
+    /// Counts the rate and the time from now on.
     ResetElapsed,
-    /// All is counted from now, from position 0.
+    /// Counts everything from now on, and sets the position to 0.
     Reset,
-    /// The bar is finished.
+    /// Finishes the bar.
     Finish(ProgressFinish<S>),
-    /// The bar is finished by what `WithFinish` stored.
+    /// Finishes the bar by the finish that `WithFinish` stored.
     FinishUsingStyle,
-    /// A draw by force.
+    /// Forces a draw.
     ForceDraw,
 }
 
 impl<K: Tracks, S: Text> BarCommand<K, S> {
-    /// Another command, equal to this one, with a text of its own.
+    /// A copy of the command, with its own text.
     ///
     /// ```
     /// let again = command.try_clone(alloc)?;
     /// ```
     ///
-    /// Refused: `Memory`, only where it has a style, or a text that isn't empty.
+    /// Refused: `Memory`, only if it has a style, or a text that isn't empty.
     pub fn try_clone(&self, alloc: Global) -> Result<BarCommand<K>, Refusal>
         ensures same { IfOk result (λ other. command_of other ≡ command_as S.bytes self.now) }
         ensures memory { IfErr result (λ e. (e ≡ Refusal.Memory) × IsTrue (copy_takes_memory (command_as S.bytes self.now))) }
@@ -144,7 +144,7 @@ impl<K: Tracks, S: Text> BarCommand<K, S> {
 
 impl<K: Tracks> BarState<K> {
     /// Ticks once more, up to 2^64 - 1, and asks for a draw: a spinner shows its next text. While a steady ticker is installed, nothing
-    /// changes and no draw is asked.
+    /// changes and it asks for no draw.
     pub fn tick(&mut self, now: Moment) -> Ask
         ensures { (self.new, result) ≡ obeyed K.means Tick self.old now }
     {
@@ -162,7 +162,7 @@ impl<K: Tracks> BarState<K> {
         self.update_draw(now)
     }
 
-    /// Records the position with the rate, ticks the trackers, and asks a draw.
+    /// Records the position with the rate, ticks the trackers, and asks for a draw.
     fn update_draw(&mut self, now: Moment) -> Ask
         ensures { (self.new, result) ≡ update K.means self.old now }
     {
@@ -171,7 +171,7 @@ impl<K: Tracks> BarState<K> {
         self.asked()
     }
 
-    /// A draw, which is forced where the bar is finished.
+    /// A draw, which is forced if the bar is finished.
     fn asked(&self) -> Ask
         ensures { result ≡ redraw_ask self.now }
     {
@@ -181,7 +181,7 @@ impl<K: Tracks> BarState<K> {
         Ask::Unforced
     }
 
-    /// From now on a steady ticker is installed, or none is; while one is, `tick` changes nothing. No draw is asked.
+    /// Sets whether a steady ticker is installed; while one is, `tick` changes nothing. Asks for no draw.
     pub fn set_ticker(&mut self, installed: bool, now: Moment) -> Ask
         ensures { (self.new, result) ≡ obeyed K.means (SetTicker installed) self.old now }
     {
@@ -189,8 +189,8 @@ impl<K: Tracks> BarState<K> {
         Ask::No
     }
 
-    /// Adds `delta` to the position, modulo 2^64. It is looked at, as by a tick, as often as the position's limiter allows: 10 times at
-    /// once, and once more each millisecond, where moments don't go back.
+    /// Adds `delta` to the position, modulo 2^64. Also ticks, as often as the position's limiter allows: 10 times at once, and once more
+    /// each millisecond, if moments don't go back.
     #[inline(always)]
     pub fn inc(&mut self, delta: u64, now: Moment) -> Ask
         ensures { (self.new, result) ≡ obeyed K.means (Inc delta) self.old now }
@@ -220,7 +220,7 @@ impl<K: Tracks> BarState<K> {
         self.look(now)
     }
 
-    /// Looks at the position, if its limiter allows it.
+    /// Ticks, if the position's limiter allows it.
     #[inline(never)]
     fn look(&mut self, now: Moment) -> Ask
         ensures { (self.new, result) ≡ obeyed K.means (SetPosition self.old.progress.position) self.old now }
@@ -239,7 +239,7 @@ impl<K: Tracks> BarState<K> {
         self.inc(sum, now)
     }
 
-    /// Sets what the closure answers of the bar's state; then as `tick`.
+    /// Makes the changes that the closure returns for the bar's state; then as `tick`.
     pub fn update<F: FnOnce(&ProgressState) -> Change>(&mut self, f: F, now: Moment) -> Ask
         requires { F.IsAlwaysCallable f }
         ensures { (change : Change) × FnOnceReturnsAt F.FnOnce f self.old.progress change
@@ -270,14 +270,14 @@ impl<K: Tracks> BarState<K> {
         self.put_length(Some(len), now)
     }
 
-    /// Removes the length, and asks for a draw: the bar is empty, `{len}` shows the position, and `{eta}` is 0. Else as `set_length`.
+    /// Removes the length, and asks for a draw: the bar is empty, `{len}` shows the position, and `{eta}` is 0. Otherwise as `set_length`.
     pub fn unset_length(&mut self, now: Moment) -> Ask
         ensures { (self.new, result) ≡ obeyed K.means UnsetLength self.old now }
     {
         self.put_length(None, now)
     }
 
-    /// Adds `delta` to the length, up to 2^64 - 1, if there is one; and asks for a draw. Else as `set_length`.
+    /// Adds `delta` to the length, up to 2^64 - 1, if there is one; and asks for a draw. Otherwise as `set_length`.
     pub fn inc_length(&mut self, delta: u64, now: Moment) -> Ask
         ensures { (self.new, result) ≡ obeyed K.means (IncLength delta) self.old now }
     {
@@ -285,7 +285,7 @@ impl<K: Tracks> BarState<K> {
         self.put_length(len, now)
     }
 
-    /// Subtracts `delta` from the length, down to 0, if there is one; and asks for a draw. Else as `set_length`.
+    /// Subtracts `delta` from the length, down to 0, if there is one; and asks for a draw. Otherwise as `set_length`.
     pub fn dec_length(&mut self, delta: u64, now: Moment) -> Ask
         ensures { (self.new, result) ≡ obeyed K.means (DecLength delta) self.old now }
     {
@@ -293,7 +293,7 @@ impl<K: Tracks> BarState<K> {
         self.put_length(len, now)
     }
 
-    /// This length or none, and a draw.
+    /// Sets or removes the length, and asks for a draw.
     fn put_length(&mut self, len: Option<u64>, now: Moment) -> Ask
         ensures { (self.new, result) ≡ with_length K.means len self.old now }
     {
@@ -301,9 +301,9 @@ impl<K: Tracks> BarState<K> {
         self.update_draw(now)
     }
 
-    /// Sets the message, and asks for a draw. It shows only where the template has `{msg}` or `{wide_msg}`. Else as `set_length`.
+    /// Sets the message, and asks for a draw. It shows only where the template has `{msg}` or `{wide_msg}`. Otherwise as `set_length`.
     ///
-    /// Refused: `Memory`, only where the text isn't empty; nothing has changed then.
+    /// Refused: `Memory`, only if the text isn't empty; then nothing has changed.
     pub fn set_message(&mut self, text: &str, now: Moment) -> Result<Ask, Refusal>
         ensures done { IfOk result (λ ask. (self.new, ask) ≡ obeyed K.means (SetMessage text.now) self.old now) }
         ensures unchanged { OnErr result (self.new ≡ self.old) }
@@ -314,9 +314,9 @@ impl<K: Tracks> BarState<K> {
         Ok(self.update_draw(now))
     }
 
-    /// Sets the prefix, and asks for a draw. It shows only where the template has `{prefix}`. Else as `set_length`.
+    /// Sets the prefix, and asks for a draw. It shows only where the template has `{prefix}`. Otherwise as `set_length`.
     ///
-    /// Refused: `Memory`, only where the text isn't empty; nothing has changed then.
+    /// Refused: `Memory`, only if the text isn't empty; then nothing has changed.
     pub fn set_prefix(&mut self, text: &str, now: Moment) -> Result<Ask, Refusal>
         ensures done { IfOk result (λ ask. (self.new, ask) ≡ obeyed K.means (SetPrefix text.now) self.old now) }
         ensures unchanged { OnErr result (self.new ≡ self.old) }
@@ -327,9 +327,9 @@ impl<K: Tracks> BarState<K> {
         Ok(self.update_draw(now))
     }
 
-    /// Sets the style, and gives it the bar's width of tabs. No draw is asked.
+    /// Sets the style, and gives it the bar's tab width. Asks for no draw.
     ///
-    /// Refused: `Memory`, where the style has another width of tabs; nothing has changed then, and the style is given up.
+    /// Refused: `Memory`, if the style has another tab width; then nothing has changed, and the style is dropped.
     pub fn set_style(&mut self, style: ProgressStyle<K>, now: Moment) -> Result<Ask, Refusal>
         ensures done { IfOk result (λ ask. (self.new, ask) ≡ obeyed K.means (SetStyle style) self.old now) }
         ensures unchanged { OnErr result (self.new ≡ self.old) }
@@ -342,7 +342,7 @@ impl<K: Tracks> BarState<K> {
         Ok(Ask::No)
     }
 
-    /// With this style, in which it is drawn next. Else as `set_style`.
+    /// Sets the style; the next draw uses it. Otherwise as `set_style`.
     pub fn with_style(&mut self, style: ProgressStyle<K>, now: Moment) -> Result<Ask, Refusal>
         ensures done { IfOk result (λ ask. (self.new, ask) ≡ obeyed K.means (SetStyle style) self.old now) }
         ensures unchanged { OnErr result (self.new ≡ self.old) }
@@ -352,7 +352,7 @@ impl<K: Tracks> BarState<K> {
         self.set_style(style, now)
     }
 
-    /// At this position, for work that was begun before. No draw is asked. The rate counts it with the next step, unless a tick and
+    /// Sets the position, for work that has already begun. Asks for no draw. The rate counts it with the next step, unless a tick and
     /// `reset_eta` follow.
     pub fn with_position(&mut self, position: u64, now: Moment) -> Ask
         ensures { (self.new, result) ≡ obeyed K.means (WithPosition position) self.old now }
@@ -361,9 +361,9 @@ impl<K: Tracks> BarState<K> {
         Ask::No
     }
 
-    /// With this message, which shows only where the template has `{msg}` or `{wide_msg}`. No draw is asked.
+    /// Sets the message, which shows only if the template has `{msg}` or `{wide_msg}`. Asks for no draw.
     ///
-    /// Refused: `Memory`, only where the text isn't empty; nothing has changed then.
+    /// Refused: `Memory`, only if the text isn't empty; then nothing has changed.
     pub fn with_message(&mut self, text: &str, now: Moment) -> Result<Ask, Refusal>
         ensures done { IfOk result (λ ask. (self.new, ask) ≡ obeyed K.means (WithMessage text.now) self.old now) }
         ensures unchanged { OnErr result (self.new ≡ self.old) }
@@ -374,9 +374,9 @@ impl<K: Tracks> BarState<K> {
         Ok(Ask::No)
     }
 
-    /// With this prefix, which shows only where the template has `{prefix}`. No draw is asked.
+    /// Sets the prefix, which shows only if the template has `{prefix}`. Asks for no draw.
     ///
-    /// Refused: `Memory`, only where the text isn't empty; nothing has changed then.
+    /// Refused: `Memory`, only if the text isn't empty; then nothing has changed.
     pub fn with_prefix(&mut self, text: &str, now: Moment) -> Result<Ask, Refusal>
         ensures done { IfOk result (λ ask. (self.new, ask) ≡ obeyed K.means (WithPrefix text.now) self.old now) }
         ensures unchanged { OnErr result (self.new ≡ self.old) }
@@ -387,7 +387,7 @@ impl<K: Tracks> BarState<K> {
         Ok(Ask::No)
     }
 
-    /// With this stored finish. It ends the bar when its owner is gone, or by `finish_using_style`.
+    /// Sets the stored finish. It ends the bar when its owner is gone, or by `finish_using_style`.
     pub fn with_finish(&mut self, finish: ProgressFinish, now: Moment) -> Ask
         ensures { (self.new, result) ≡ obeyed K.means (WithFinish (finish_of finish)) self.old now }
     {
@@ -395,10 +395,9 @@ impl<K: Tracks> BarState<K> {
         Ask::No
     }
 
-    /// With so many spaces for a tab, in the message, the prefix and the style. No draw is asked.
+    /// Sets the tab width of the message, the prefix and the style, in spaces. Asks for no draw.
     ///
-    /// Refused: `Memory`, only where the message or the prefix has a tab, or the style another width of tabs; nothing has changed
-    /// then.
+    /// Refused: `Memory`, only if the message or the prefix has a tab, or the style another tab width; then nothing has changed.
     pub fn with_tab_width(&mut self, tab: usize, now: Moment) -> Result<Ask, Refusal>
         ensures done { IfOk result (λ ask. (self.new, ask) ≡ obeyed K.means (WithTabWidth tab) self.old now) }
         ensures unchanged { OnErr result (self.new ≡ self.old) }
@@ -413,7 +412,7 @@ impl<K: Tracks> BarState<K> {
 
     /// Sets how many spaces a tab has in the message, the prefix and the style, and forces a draw.
     ///
-    /// Refused: as `with_tab_width`; nothing has changed then.
+    /// Refused: as `with_tab_width`; then nothing has changed.
     pub fn set_tab_width(&mut self, tab: usize, now: Moment) -> Result<Ask, Refusal>
         ensures done { IfOk result (λ ask. (self.new, ask) ≡ obeyed K.means (SetTabWidth tab) self.old now) }
         ensures unchanged { OnErr result (self.new ≡ self.old) }
@@ -424,9 +423,9 @@ impl<K: Tracks> BarState<K> {
         Ok(Ask::Forced)
     }
 
-    /// Sets the time since the start, in nanoseconds, as `{elapsed}` shows it: for work that began before the bar. No draw is asked.
+    /// Sets the time since the start, in nanoseconds, as `{elapsed}` shows it: for work that began before the bar. Asks for no draw.
     ///
-    /// Refused: `ElapsedBeyondClock`, exactly where that is more than the moment; nothing has changed then.
+    /// Refused: `ElapsedBeyondClock`, exactly if that is more than the moment; then nothing has changed.
     pub fn set_elapsed(&mut self, nanos: u64, now: Moment) -> Result<Ask, Refusal>
         ensures done { IfOk result (λ ask. (self.new, ask) ≡ obeyed K.means (SetElapsed nanos) self.old now) }
         ensures unchanged { OnErr result (self.new ≡ self.old) }
@@ -440,7 +439,7 @@ impl<K: Tracks> BarState<K> {
         Ok(Ask::No)
     }
 
-    /// As `set_elapsed`.
+    /// Sets the time since the start, as `set_elapsed`.
     pub fn with_elapsed(&mut self, nanos: u64, now: Moment) -> Result<Ask, Refusal>
         ensures done { IfOk result (λ ask. (self.new, ask) ≡ obeyed K.means (SetElapsed nanos) self.old now) }
         ensures unchanged { OnErr result (self.new ≡ self.old) }
@@ -450,7 +449,7 @@ impl<K: Tracks> BarState<K> {
         self.set_elapsed(nanos, now)
     }
 
-    /// Counts the rate, and the time that is left, from now on: for instance after a pause. No draw is asked.
+    /// Counts the rate, and the time that is left, from now on: for instance after a pause. Asks for no draw.
     pub fn reset_eta(&mut self, now: Moment) -> Ask
         ensures { (self.new, result) ≡ obeyed K.means ResetEta self.old now }
     {
@@ -458,7 +457,7 @@ impl<K: Tracks> BarState<K> {
         Ask::No
     }
 
-    /// Counts the rate and the elapsed time from now on. No draw is asked.
+    /// Counts the rate and the elapsed time from now on. Asks for no draw.
     pub fn reset_elapsed(&mut self, now: Moment) -> Ask
         ensures { (self.new, result) ≡ obeyed K.means ResetElapsed self.old now }
     {
@@ -487,7 +486,7 @@ impl<K: Tracks> BarState<K> {
 
     /// As `finish`, with this message, which shows only where the template has `{msg}` or `{wide_msg}`.
     ///
-    /// Refused: `Memory`, only where the message isn't empty; nothing has changed then.
+    /// Refused: `Memory`, only if the message isn't empty; then nothing has changed.
     pub fn finish_with_message(&mut self, text: &str, now: Moment) -> Result<Ask, Refusal>
         ensures done { IfOk result (λ ask. (self.new, ask) ≡ obeyed K.means (Finish (LeaveWithMessage text.now)) self.old now) }
         ensures unchanged { OnErr result (self.new ≡ self.old) }
@@ -516,7 +515,7 @@ impl<K: Tracks> BarState<K> {
 
     /// As `abandon`, with this message.
     ///
-    /// Refused: `Memory`, only where the message isn't empty; nothing has changed then.
+    /// Refused: `Memory`, only if the message isn't empty; then nothing has changed.
     pub fn abandon_with_message(&mut self, text: &str, now: Moment) -> Result<Ask, Refusal>
         ensures done { IfOk result (λ ask. (self.new, ask) ≡ obeyed K.means (Finish (AbandonWithMessage text.now)) self.old now) }
         ensures unchanged { OnErr result (self.new ≡ self.old) }
@@ -527,9 +526,9 @@ impl<K: Tracks> BarState<K> {
         Ok(self.abandon(now))
     }
 
-    /// The bar is finished so. A draw is forced.
+    /// Finishes the bar by this finish, and forces a draw.
     ///
-    /// Refused: `Memory`, only where the finish has a message that isn't empty; nothing has changed then.
+    /// Refused: `Memory`, only if the finish has a message that isn't empty; then nothing has changed.
     pub fn finish_by<S: Text>(
         &mut self,
         finish: &ProgressFinish<S>,
@@ -546,7 +545,7 @@ impl<K: Tracks> BarState<K> {
 
     /// Finishes the bar by its stored finish (`with_finish`; the default is `AndClear`), and forces a draw.
     ///
-    /// Refused: `Memory`, only where that finish has a message that isn't empty; nothing has changed then.
+    /// Refused: `Memory`, only if that finish has a message that isn't empty; then nothing has changed.
     pub fn finish_using_style(&mut self, now: Moment) -> Result<Ask, Refusal>
         ensures done { IfOk result (λ ask. (self.new, ask) ≡ obeyed K.means FinishUsingStyle self.old now) }
         ensures unchanged { OnErr result (self.new ≡ self.old) }
@@ -557,10 +556,10 @@ impl<K: Tracks> BarState<K> {
         Ok(Ask::Forced)
     }
 
-    /// The bar's owner is gone: one that isn't finished is finished by its stored finish, and a draw is forced; else nothing
-    /// changes and no draw is asked.
+    /// Tells the record that its owner is gone: a bar that isn't finished is finished by its stored finish, and a draw is forced; otherwise
+    /// nothing changes and no draw is asked for.
     ///
-    /// Refused: `Memory`, only where it is to be finished with a message that isn't empty; nothing has changed then.
+    /// Refused: `Memory`, only if it is finished with a message that isn't empty; then nothing has changed.
     pub fn dropped(&mut self, now: Moment) -> Result<Ask, Refusal>
         ensures done { IfOk result (λ ask. (self.new, ask) ≡ after_drop self.old now) }
         ensures unchanged { OnErr result (self.new ≡ self.old) }
@@ -580,10 +579,10 @@ impl<K: Tracks> BarState<K> {
         Ask::Forced
     }
 
-    /// Makes the call that this value names. Its text may be lent, and is copied into the record alone.
+    /// Makes the call that this value names. Its text may be borrowed, and only the record copies it.
     ///
-    /// Refused: `ElapsedBeyondClock`, exactly where an elapsed time is more than the moment; `Memory`, where the command takes
-    /// some. Nothing has changed then.
+    /// Refused: `ElapsedBeyondClock`, exactly if an elapsed time is more than the moment; `Memory`, if the command takes some. Then nothing
+    /// has changed.
     pub fn tell<S: Text>(&mut self, command: BarCommand<K, S>, now: Moment) -> Result<Ask, Refusal>
         ensures done { IfOk result (λ ask. (self.new, ask) ≡ obeyed K.means (command_as S.bytes command) self.old now) }
         ensures unchanged { OnErr result (self.new ≡ self.old) }
@@ -622,7 +621,7 @@ impl<K: Tracks> BarState<K> {
         }
     }
 
-    /// As `tell`, for a command with a text of its own.
+    /// As `tell`, for a command with its own text.
     ///
     /// Refused: as `tell`.
     pub fn apply(&mut self, command: BarCommand<K>, now: Moment) -> Result<Ask, Refusal>

@@ -1,4 +1,4 @@
-//! Bars equal to others.
+//! Copies of bars.
 ghost use Rattle.std.specs.Prelude.{◌≡◌, IfOk, IfErr};
 
 use crate::state::BarState;
@@ -6,7 +6,7 @@ use crate::tracker::Tracks;
 use indicatif_text::columns::Refusal;
 
 impl<K: Tracks> BarState<K> {
-    /// Another bar, equal to this one: what is said to either from now on is not said to the other.
+    /// A copy of the bar. Later commands of one don't change the other.
     ///
     /// ```
     /// let before = bar.try_clone()?;

@@ -10,7 +10,7 @@ use crate::style::padding::push_times;
 use crate::style::texts::Texts;
 use indicatif_text::columns::{Refusal, Style, columns};
 
-/// How the rest of a bar is styled, where colours are on.
+/// How the rest of a bar is styled, if colours are on.
 #[derive(Clone, Copy, Drop)]
 pub(crate) struct RestLook {
     pub(crate) colours: bool,
@@ -18,7 +18,7 @@ pub(crate) struct RestLook {
 }
 
 impl RestLook {
-    /// Appends the sequences that stand before the rest, and says whether any does. The style isn't asked where colours are off.
+    /// Appends the sequences that stand before the rest, and returns whether there are any. The style isn't used if colours are off.
     #[inline(always)]
     fn open(self, out: &mut String) -> Result<bool, Refusal>
         ensures bytes { OnOk result (string_bytes out.new ≡ string_bytes out.old ++ opening_of self.colours (numbers_of self.style)) }
@@ -32,7 +32,7 @@ impl RestLook {
     }
 }
 
-/// How many cells are whole, and how much of the next is left, of so many.
+/// How many of the cells are filled, and the remainder for the next one.
 fn filled(done: Fraction, cells: u64) -> (u64, u64)
     requires some { 0 < done.den }
     requires whole { done.num ≤ done.den }
@@ -45,7 +45,7 @@ fn filled(done: Fraction, cells: u64) -> (u64, u64)
     ((fill / den) as u64, (fill % den) as u64)
 }
 
-/// The place of the cluster that shows a cell partly done, if one does.
+/// The cluster that shows a partly filled cell, if there is one.
 fn shade(done: Fraction, cells: u64, clusters: usize) -> Option<usize>
     requires some { 0 < done.den }
     requires whole { done.num ≤ done.den }
@@ -62,7 +62,7 @@ fn shade(done: Fraction, cells: u64, clusters: usize) -> Option<usize>
     Some(shades - passed as usize)
 }
 
-/// Appends the bar's cells up to the first that is not begun, and says how many are left.
+/// Appends the bar's cells up to the first that isn't filled in part, and returns how many are left.
 fn push_begun(
     clusters: &Texts,
     done: Fraction,
@@ -88,7 +88,7 @@ fn push_begun(
     }
 }
 
-/// Appends the bar of so many columns.
+/// Appends the bar of `width` columns.
 pub(crate) fn push_bar(
     clusters: &Texts,
     rest: RestLook,

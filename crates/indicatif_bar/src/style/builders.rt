@@ -22,21 +22,20 @@ use indicatif_text::template::Template;
 use std::alloc::Global;
 use std::sync::Arc;
 
-/// The characters of a bar at first: a full block, and a light shade.
+/// The default characters of a bar: a full block, and a light shade.
 const CLUSTERS: [&str; 2] = ["█", "░"];
 
-/// The spinner's texts at first, each a character.
+/// The default texts of a spinner, each a character.
 pub const TICKS: &str = "⠁⠁⠉⠙⠚⠒⠂⠂⠒⠲⠴⠤⠄⠄⠤⠠⠠⠤⠦⠖⠒⠐⠐⠒⠓⠋⠉⠈⠈ ";
 
-/// The same, text by text.
+/// The default texts of a spinner, one by one.
 const TICK_STRINGS: [&str; 30] = [
     "⠁", "⠁", "⠉", "⠙", "⠚", "⠒", "⠂", "⠂", "⠒", "⠲", "⠴", "⠤", "⠄", "⠄", "⠤", "⠠", "⠠", "⠤", "⠦",
     "⠖", "⠒", "⠐", "⠐", "⠒", "⠓", "⠋", "⠉", "⠈", "⠈", " ",
 ];
 
 impl<K: Tracks> ProgressStyle<K> {
-    /// A style of this template, with the characters `█░` for a bar, a spinner of dots, no trackers, colours off, and eight
-    /// spaces for a tab.
+    /// A style with this template, with the characters `█░` for a bar, a spinner of dots, no trackers, colours off, and a tab width of 8.
     ///
     /// Refused: `Template` and `WidthTooLarge` as `Template::parse` says; `Memory`.
     ///
@@ -80,7 +79,7 @@ impl<K: Tracks> ProgressStyle<K> {
         Ok(style)
     }
 
-    /// The first style of a template.
+    /// The default style with a template.
     fn first(alloc: Global, template: Template) -> Result<ProgressStyle<K>, Refusal>
         ensures style { IfOk result (λ style. style ≡ first_style TICKS.now template) }
         ensures memory { IfErr result (λ e. e ≡ Refusal.Memory) }
@@ -99,9 +98,9 @@ impl<K: Tracks> ProgressStyle<K> {
         })
     }
 
-    /// Another template for the same characters, texts and trackers.
+    /// Sets the template; characters, texts and trackers stay.
     ///
-    /// Refused: `Template` and `WidthTooLarge` as `Template::parse` says; `Memory`. The style is given up then.
+    /// Refused: `Template` and `WidthTooLarge` as `Template::parse` says; `Memory`. Then the style is dropped.
     pub fn template(mut self, text: &str) -> Result<ProgressStyle<K>, Refusal>
         ensures parts { IfOk result (λ style. Parses (chars text.now) style.parts) }
         ensures style { IfOk result (λ style. style ≡ record self { parts = style.parts }) }
@@ -115,9 +114,9 @@ impl<K: Tracks> ProgressStyle<K> {
         Ok(self)
     }
 
-    /// The spinner's texts: each character of `chars` is one, the last one of a finished bar.
+    /// Sets the spinner's texts: each character of `chars` is one; the last is that of a finished bar.
     ///
-    /// Refused: `FewTicks` where there are fewer than two, which is tested before memory is taken; `Memory`. The style is given up then.
+    /// Refused: `FewTicks` if there are fewer than two, which is tested before memory is taken; `Memory`. Then the style is dropped.
     pub fn tick_chars(mut self, chars: &str) -> Result<ProgressStyle<K>, Refusal>
         ensures style { IfOk result (λ style. style ≡ record self { tick_strings = characters_of chars.now }) }
         ensures taken { IfOk result (λ _. tick_fault (characters_of chars.now) ≡ None) }
@@ -132,9 +131,9 @@ impl<K: Tracks> ProgressStyle<K> {
         Ok(self)
     }
 
-    /// The spinner's texts, the last one of a finished bar.
+    /// Sets the spinner's texts; the last is that of a finished bar.
     ///
-    /// Refused: `FewTicks` where there are fewer than two, which is tested before memory is taken; `Memory`. The style is given up then.
+    /// Refused: `FewTicks` if there are fewer than two, which is tested before memory is taken; `Memory`. Then the style is dropped.
     pub fn tick_strings(mut self, strings: &[&str]) -> Result<ProgressStyle<K>, Refusal>
         ensures style { IfOk result (λ style. style ≡ record self { tick_strings = map (λ text. text.now) strings.now }) }
         ensures taken { IfOk result (λ _. tick_fault (map (λ text. text.now) strings.now) ≡ None) }
@@ -149,10 +148,10 @@ impl<K: Tracks> ProgressStyle<K> {
         Ok(self)
     }
 
-    /// The characters of a bar, as grapheme clusters (Unicode, UAX #29): done, the shades of a cell partly done, not done.
+    /// Sets the characters of a bar, as grapheme clusters (Unicode, UAX #29): filled, the shades of a partly filled cell, empty.
     ///
-    /// Refused: `FewProgressChars` where there are fewer than two, which is tested before memory is taken; else `UnequalWidths` where they
-    /// take not all as many columns; else `ZeroWidthChars` where they take none; `Memory`. The style is given up then.
+    /// Refused: `FewProgressChars` if there are fewer than two, which is tested before memory is taken; otherwise `UnequalWidths` if they
+    /// don't all take the same number of columns; otherwise `ZeroWidthChars` if they take none; `Memory`. Then the style is dropped.
     pub fn progress_chars(mut self, chars: &str) -> Result<ProgressStyle<K>, Refusal>
         ensures style { IfOk result (λ style. style ≡ record self { clusters = clusters_of chars.now }) }
         ensures taken { IfOk result (λ _. progress_fault (clusters_of chars.now) ≡ None) }
@@ -171,10 +170,10 @@ impl<K: Tracks> ProgressStyle<K> {
         Ok(self)
     }
 
-    /// A tracker under a key of its own: `{name}` in the template shows its text. It comes before an earlier one of that name, and before a
-    /// key of that name that needs no tracker.
+    /// Adds a tracker under your own key: `{name}` in the template shows its text. It comes before an earlier tracker with that name, and
+    /// before the library's key with that name.
     ///
-    /// Refused: `Memory`. The style and the tracker are given up then.
+    /// Refused: `Memory`. Then the style and the tracker are dropped.
     pub fn with_key(self, name: &str, tracker: K) -> Result<ProgressStyle<K>, Refusal>
         ensures style { IfOk result (λ style. style ≡ record self { keys = with_key name.now tracker self.keys }) }
         ensures memory { IfErr result (λ e. e ≡ Refusal.Memory) }
@@ -204,7 +203,7 @@ impl<K: Tracks> ProgressStyle<K> {
         })
     }
 
-    /// Whether the colours that the template names are written. They are off at first: `machine::wants_colors` of crate `indicatif` says
+    /// Sets whether the colours of the template are written. They are off at first: `machine::wants_colors` of the crate `indicatif` says
     /// whether a stream wants them. Never refused.
     pub fn with_colors(mut self, colours: bool) -> Result<ProgressStyle<K>, Refusal>
         ensures { result ≡ Ok (record self { colours = colours }) }
@@ -213,7 +212,7 @@ impl<K: Tracks> ProgressStyle<K> {
         Ok(self)
     }
 
-    /// Another style, equal to this one.
+    /// A copy of the style.
     ///
     /// Refused: `Memory`.
     pub fn try_clone(&self) -> Result<ProgressStyle<K>, Refusal>
@@ -236,8 +235,8 @@ impl<K: Tracks> ProgressStyle<K> {
 
     /// The lines of a bar in this state at this moment, on a terminal of `width` columns.
     ///
-    /// Refused: `Memory`, and never where no part of the template shows anything: it has no line break, no key with a tracker, and
-    /// all its texts are empty.
+    /// Refused: `Memory`; never if no part of the template shows anything: it has no line break, no key with a tracker, and all its texts
+    /// are empty.
     pub fn lines(
         &self,
         state: &ProgressState,
@@ -265,7 +264,7 @@ fn parsed(alloc: Global, text: &str) -> Result<Template, Refusal>
     }
 }
 
-/// Trackers equal to these, under the same names.
+/// Copies of these trackers, under the same names.
 fn cloned_keys<K: Tracks>(alloc: Global, keys: &[(String, K)]) -> Result<Vec<(String, K)>, Refusal>
     ensures keys { IfOk result (λ v. entries v.items ≡ entries keys.now) }
     ensures memory { IfErr result (λ e. e ≡ Refusal.Memory) }
@@ -277,7 +276,7 @@ fn cloned_keys<K: Tracks>(alloc: Global, keys: &[(String, K)]) -> Result<Vec<(St
     Ok(all)
 }
 
-/// An equal tracker, under the same name.
+/// A copy of the tracker, under the same name.
 fn cloned_key<K: Tracks>(alloc: Global, key: &(String, K)) -> Result<(String, K), Refusal>
     ensures key { IfOk result (λ made. (string_bytes made.0 ≡ string_bytes key.now.0) × (made.1 ≡ key.now.1)) }
     ensures memory { IfErr result (λ e. e ≡ Refusal.Memory) }

@@ -57,7 +57,7 @@ pub(crate) fn clusters_of(alloc: Global, text: &str) -> Result<Vec<String>, Refu
     Ok(all)
 }
 
-/// Texts of the caller's.
+/// Copies of texts.
 pub(crate) fn copied(alloc: Global, texts: &[&str]) -> Result<Vec<String>, Refusal>
     ensures texts { IfOk result (λ v. bytes_of_strings v.items ≡ map (λ text. text.now) texts.now) }
     ensures memory { IfErr result (λ e. e ≡ Refusal.Memory) }
@@ -69,7 +69,7 @@ pub(crate) fn copied(alloc: Global, texts: &[&str]) -> Result<Vec<String>, Refus
     Ok(all)
 }
 
-/// The same texts.
+/// Copies of texts.
 pub(crate) fn cloned(alloc: Global, texts: &[String]) -> Result<Vec<String>, Refusal>
     ensures texts { IfOk result (λ v. bytes_of_strings v.items ≡ bytes_of_strings texts.now) }
     ensures memory { IfErr result (λ e. e ≡ Refusal.Memory) }
@@ -98,7 +98,7 @@ pub(crate) fn progress_fault(clusters: &[String]) -> Option<Refusal>
     None
 }
 
-/// Whether each text takes so many columns.
+/// Whether each text takes `width` columns.
 fn all_take(texts: &[String], width: usize) -> bool
     ensures { result ≡ list_all (λ text. text_columns text == width) (bytes_of_strings texts.now) }
 {

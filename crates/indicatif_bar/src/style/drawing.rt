@@ -32,7 +32,7 @@ use indicatif_text::template::{Alignment, Template};
 use std::mem::replace;
 
 impl<K: Tracks> ProgressStyle<K> {
-    /// Appends a bar of so many columns, as a placeholder asks for it.
+    /// Appends a bar of `width` columns, in a placeholder's layout.
     fn push_bar(
         &self,
         placeholder: &Placeholder,
@@ -98,7 +98,7 @@ impl<K: Tracks> ProgressStyle<K> {
         self.get_tick_str(state.ticks())
     }
 
-    /// Appends the text of the tracker at a place, its tabs expanded; nothing where there is none.
+    /// Appends the text of the tracker at a place, its tabs expanded; nothing if there is none.
     fn push_tracked(
         &self,
         place: usize,
@@ -138,7 +138,7 @@ impl<K: Tracks> ProgressStyle<K> {
         Ok(())
     }
 
-    /// Appends the text of a placeholder as its source tells it.
+    /// Appends the text of a placeholder, from its source.
     fn push_told(
         &self,
         placeholder: &Placeholder,
@@ -159,7 +159,7 @@ impl<K: Tracks> ProgressStyle<K> {
         Ok(())
     }
 
-    /// The same at the placeholder's width, where it has one.
+    /// Appends the text of a placeholder at its width, if it has one.
     fn push_sized(
         &self,
         placeholder: &Placeholder,
@@ -211,7 +211,7 @@ impl<K: Tracks> ProgressStyle<K> {
         Ok(())
     }
 
-    /// Appends what stands in the place of each filler of a text with this gap.
+    /// Appends what replaces each filler of a text with this gap.
     fn push_wide(
         &self,
         wide: WideKey,
@@ -243,7 +243,7 @@ impl<K: Tracks> ProgressStyle<K> {
         Ok(())
     }
 
-    /// Appends a text with what stands in the place of each of its fillers, which have this gap.
+    /// Appends a text with each of its fillers replaced, which have this gap.
     fn push_filled(
         &self,
         text: &str,
@@ -268,7 +268,7 @@ impl<K: Tracks> ProgressStyle<K> {
         Ok(())
     }
 
-    /// Appends the lines of a text, where a wide key has stood so far.
+    /// Appends the lines of a text, by the latest wide key.
     fn push_lines(
         &self,
         line: Line,
@@ -301,7 +301,7 @@ impl<K: Tracks> ProgressStyle<K> {
         Ok(())
     }
 
-    /// Appends the lines of a text with what stands in the place of its fillers.
+    /// Appends the lines of a text with its fillers replaced.
     fn push_all_filled(
         &self,
         text: &str,
@@ -323,7 +323,7 @@ impl<K: Tracks> ProgressStyle<K> {
         Ok(())
     }
 
-    /// The same of one line that has a filler. A bar in its place leaves it one line.
+    /// Appends one line with its filler replaced. A bar in its place leaves it one line.
     fn push_line_filled(
         &self,
         text: &str,
@@ -351,7 +351,7 @@ impl<K: Tracks> ProgressStyle<K> {
         Ok(())
     }
 
-    /// The lines, in room of `spare`. Where the style shows nothing, there are none at once.
+    /// The lines, in memory of `spare`. If the style shows nothing, there are none.
     pub(crate) fn lines_in(
         &self,
         spare: &mut SpareLines,
@@ -412,7 +412,7 @@ impl<K: Tracks> ProgressStyle<K> {
     }
 }
 
-/// The line at hand: what it has so far, and the latest wide key.
+/// The current line: its text, and the latest wide key.
 #[derive(Drop)]
 struct Line {
     text: String,
@@ -420,7 +420,7 @@ struct Line {
 }
 
 impl Line {
-    /// Takes the wide key that a placeholder is, if it is one.
+    /// Takes the wide key of a placeholder, if it is one.
     fn remember(&mut self, wide: Option<WideKey>)
         ensures { self.new ≡ record self.old { wide = option_or wide self.old.wide } }
     {
@@ -429,7 +429,7 @@ impl Line {
         }
     }
 
-    /// The line so far; the next one begins in this room.
+    /// The finished line; the next one begins in this memory.
     fn end(&mut self, room: String) -> Line
         ensures ended { result ≡ self.old }
         ensures next { self.new ≡ record self.old { text = room } }
@@ -441,7 +441,7 @@ impl Line {
     }
 }
 
-/// Appends the message at a gap's columns; where the gap ends its text, without white space at its end.
+/// Appends the message at a gap's columns; if the gap ends its text, without white space at its end.
 fn push_message(
     align: Alignment,
     gap: Gap,

@@ -11,7 +11,7 @@ use crate::tracker::Tracks;
 use indicatif_text::template::Template;
 
 impl<K: Tracks> ProgressStyle<K> {
-    /// Whether no part of the template shows anything. Most templates tell by their first part.
+    /// Whether no part of the template shows anything. For most templates their first part decides.
     pub(crate) fn is_empty(&self, state: &ProgressState) -> bool
         ensures { result ≡ is_empty_style self.now state.now }
     {

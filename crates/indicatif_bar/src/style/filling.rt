@@ -1,4 +1,4 @@
-//! Lines of a text, and what stands in the place of a wide key's fillers.
+//! Lines of a text, and what replaces a wide key's fillers.
 ghost use Rattle.std.specs.Prelude.{◌≡◌, ◌++◌, ◌∷◌, [], false, find, map, string_bytes, OnOk, IfErr, IsTrue, IsFalse};
 ghost use Rattle.std.specs.Option.{option_map_or};
 ghost use Rattle.std.specs.List.{list_all, list_any, slice_get, slice_split};
@@ -45,7 +45,7 @@ impl Gap {
         }
     }
 
-    /// The same of one line that has a filler.
+    /// The gap of one line that has a filler.
     pub(crate) fn of_line(line: &str, width: u16) -> Gap
         requires one_line { IsFalse (list_any is_newline line.now) }
         requires has_filler { IsTrue (list_any is_filler line.now) }
@@ -111,7 +111,7 @@ fn begins_with_filler(text: &str) -> bool
     }
 }
 
-/// Appends the lines of a text, in room of `spare`. A text of one line is itself that line.
+/// Appends the lines of a text, in memory of `spare`. A text of one line is itself that line.
 pub(crate) fn push_lines(
     text: String,
     spare: &mut SpareLines,
@@ -147,7 +147,7 @@ fn push_pieces(text: &str, spare: &mut SpareLines, lines: &mut Vec<LineType>) ->
     Ok(())
 }
 
-/// Appends a line, copied into room of `spare`.
+/// Appends a line, copied into memory of `spare`.
 fn push_copied(text: &str, spare: &mut SpareLines, lines: &mut Vec<LineType>) -> Result<(), Refusal>
     ensures lines { OnOk result (map line_text lines.new.items ≡ map line_text lines.old.items ++ text.now ∷ []) }
     ensures kind { IsTrue (list_all is_bar_line lines.old.items) → IsTrue (list_all is_bar_line lines.new.items) }

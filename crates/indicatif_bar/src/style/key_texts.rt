@@ -89,7 +89,7 @@ fn digit(n: u64) -> char
     char::from(b'0' + (n % 10) as u8)
 }
 
-/// Appends the steps of a second, rounded at so many decimals.
+/// Appends the steps a second, rounded to `decimals` decimals.
 pub(crate) fn push_rate(rate: Rate, decimals: u16, out: &mut String) -> Result<(), Refusal>
     requires { 0 < rate.nanos }
     ensures text { OnOk result (string_bytes out.new ≡ string_bytes out.old ++ rate_text rate decimals) }
@@ -102,7 +102,7 @@ pub(crate) fn push_rate(rate: Rate, decimals: u16, out: &mut String) -> Result<(
     Ok(())
 }
 
-/// Appends the whole steps of a second, in a form.
+/// Appends the whole steps a second, in a form.
 pub(crate) fn push_whole_rate(form: CountForm, rate: Rate, out: &mut String) -> Result<(), Refusal>
     requires { 0 < rate.nanos }
     ensures text { OnOk result (string_bytes out.new ≡ string_bytes out.old ++ whole_rate_text form rate) }

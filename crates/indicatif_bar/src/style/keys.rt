@@ -20,7 +20,7 @@ pub enum CountForm {
 pub enum TimeForm {
     /// As days, hours, minutes and seconds.
     Clock,
-    /// As so many of one unit.
+    /// As a number of one unit.
     Short,
 }
 
@@ -29,11 +29,11 @@ pub enum TimeForm {
 pub enum Key {
     /// The bar, at the placeholder's width or 20 columns.
     Bar,
-    /// The bar, at what the line leaves.
+    /// The bar, in the columns that the line leaves free.
     WideBar,
-    /// The message, at what the line leaves.
+    /// The message, in the columns that the line leaves free.
     WideMessage,
-    /// The tick string of the bar's ticks.
+    /// The spinner's text after the bar's ticks.
     Spinner,
     /// The prefix.
     Prefix,
@@ -41,11 +41,11 @@ pub enum Key {
     Message,
     /// The position.
     Position(CountForm),
-    /// The length, or the position where there is none.
+    /// The length, or the position if there is none.
     Length(CountForm),
     /// The part of the length that is done, in whole hundredths.
     Percent,
-    /// The same with three decimals.
+    /// The part of the length that is done, in hundredths with three decimals.
     PercentPrecise,
     /// The time since the start.
     Elapsed(TimeForm),
@@ -53,13 +53,13 @@ pub enum Key {
     Eta(TimeForm),
     /// The time from the start to the end.
     Duration(TimeForm),
-    /// The steps of a second.
+    /// The steps a second.
     PerSecond,
-    /// The whole steps of a second, as bytes.
+    /// The whole steps a second, as bytes.
     BytesPerSecond(CountForm),
 }
 
-/// The key of a name.
+/// The key with a name.
 pub(crate) fn key_named(name: &str) -> Option<Key>
     ensures { result ≡ key_named name.now }
 {

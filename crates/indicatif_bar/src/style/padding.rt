@@ -5,7 +5,7 @@ ghost use Rattle.indicatif_bar.specs.Layout.{padded, spaces, times, truncated, s
 use indicatif_text::columns::{Refusal, columns, write_ansi_range};
 use indicatif_text::template::Alignment;
 
-/// Where a text stands in a width, and whether it is cut where it is longer.
+/// How a text stands in a width, and whether a longer one is cut.
 #[derive(Clone, Copy, Drop)]
 pub(crate) struct AtWidth {
     pub(crate) width: usize,
@@ -32,7 +32,7 @@ pub(crate) fn push_padded(text: &str, place: AtWidth, out: &mut String) -> Resul
     Ok(())
 }
 
-/// Appends what is left of a text that takes more columns than there are.
+/// Appends what fits of a text that takes more columns than there are.
 fn push_truncated(
     text: &str,
     columns: usize,
@@ -54,7 +54,7 @@ fn push_truncated(
     }
 }
 
-/// Appends a text with so many blanks round it.
+/// Appends a text with `blanks` blanks around it.
 fn push_surrounded(
     text: &str,
     align: Alignment,
@@ -85,7 +85,7 @@ fn blanks_before(align: Alignment, blanks: usize) -> usize
     }
 }
 
-/// Appends `text` so many times.
+/// Appends `text` `count` times.
 pub(crate) fn push_times(text: &str, count: usize, out: &mut String) -> Result<(), Refusal>
     ensures text { OnOk result (string_bytes out.new ≡ string_bytes out.old ++ times count text.now) }
     ensures memory { IfErr result (λ e. e ≡ Refusal.Memory) }
@@ -96,10 +96,10 @@ pub(crate) fn push_times(text: &str, count: usize, out: &mut String) -> Result<(
     }
 }
 
-/// How many times a ready run has its text.
+/// How often a ready run repeats its text.
 const READY: usize = 64;
 
-/// A text `READY` times, of the texts that most bars repeat: a blank, and the cells of a bar whose characters nobody chose.
+/// A text `READY` times, for the texts that most bars repeat: a blank, and the default cells of a bar.
 fn ready_run(text: &str) -> Option<&'static str>
     ensures run { IfSome result (λ run. run.now ≡ times 64 text.now) }
 {
@@ -115,7 +115,7 @@ fn ready_run(text: &str) -> Option<&'static str>
     }
 }
 
-/// Appends `text` so many times, by its ready run.
+/// Appends `text` `count` times, from its ready run.
 fn push_ready(text: &str, run: &str, count: usize, out: &mut String) -> Result<(), Refusal>
     requires run { run.now ≡ times 64 text.now }
     ensures text { OnOk result (string_bytes out.new ≡ string_bytes out.old ++ times count text.now) }
@@ -130,7 +130,7 @@ fn push_ready(text: &str, run: &str, count: usize, out: &mut String) -> Result<(
     Ok(())
 }
 
-/// Appends `text` so many times: what was appended is appended again, as far as it goes.
+/// Appends `text` `count` times, by appending again what was appended.
 fn push_repeated(text: &str, count: usize, out: &mut String) -> Result<(), Refusal>
     ensures text { OnOk result (string_bytes out.new ≡ string_bytes out.old ++ times count text.now) }
     ensures memory { IfErr result (λ e. e ≡ Refusal.Memory) }

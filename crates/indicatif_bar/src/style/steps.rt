@@ -1,4 +1,4 @@
-//! What the parts of a template do, found out once.
+//! What the parts of a template do, found once.
 ghost use Rattle.std.specs.Prelude.{◌≡◌, ◌==◌, ◌&&◌, ◌++◌, nat_lt, length, not, is_some, [], List, Some, map, option_map, unwrap_or, OnOk, IfOk, IfErr, bytes_eq, position, string_bytes, chars, encode_utf8_all};
 ghost use Rattle.std.specs.List.{slice_get};
 ghost use Rattle.indicatif_text.specs.StyleWords.{numbers_of, opening_of};
@@ -17,7 +17,7 @@ use std::alloc::Global;
 pub(crate) enum Source {
     /// The tracker at this place.
     Tracker(usize),
-    /// A key that needs none.
+    /// The library's key.
     Known(Key),
     /// Nowhere: the name is unknown.
     Nothing,
@@ -37,14 +37,14 @@ pub(crate) struct Placeholder {
 /// The placeholder of a wide key.
 #[derive(Clone, Copy, Drop)]
 pub(crate) enum WideKey {
-    /// Of a bar.
+    /// Of `{wide_bar}`.
     Bar(Placeholder),
-    /// Of the message.
+    /// Of `{wide_msg}`.
     Message(Placeholder),
 }
 
 impl Placeholder {
-    /// The wide key that the placeholder is.
+    /// The wide key of the placeholder, if it is one.
     pub(crate) fn wide(&self) -> Option<WideKey>
         ensures { option_map wide_found result ≡ wide_source (placeholder_layout self.now) self.now.source }
     {
@@ -69,7 +69,7 @@ impl Placeholder {
         self.style.unwrap_or(Style::new())
     }
 
-    /// Appends the sequences that stand before the text, and says whether any does. The style isn't asked where colours are off.
+    /// Appends the sequences that stand before the text, and returns whether there are any. The style isn't used if colours are off.
     #[inline(always)]
     pub(crate) fn open(&self, colours: bool, out: &mut String) -> Result<bool, Refusal>
         ensures bytes { OnOk result (string_bytes out.new ≡ string_bytes out.old
@@ -83,7 +83,7 @@ impl Placeholder {
         self.text_style().open(colours, out)
     }
 
-    /// Whether nothing is written round an empty text.
+    /// Whether nothing is written around an empty text.
     pub(crate) fn is_bare(&self, colours: bool) -> bool
         ensures { result ≡ is_bare_layout colours (placeholder_layout self.now) }
     {
@@ -111,7 +111,7 @@ pub(crate) enum Step {
     Placeholder(Placeholder),
 }
 
-/// What each part of a template does, where trackers stand under these keys.
+/// What each part of a template does, with trackers under these keys.
 pub(crate) fn steps_of<K>(
     alloc: Global,
     template: &Template,
@@ -173,7 +173,7 @@ fn step_of_part<K>(
     }
 }
 
-/// The literal text at a place of a template; empty where there is none.
+/// The literal text at a place of a template; empty if there is none.
 #[inline(always)]
 pub(crate) fn literal_at(template: &Template, place: usize) -> &str
     ensures { result.now ≡ literal_text (slice_get template.now place) }
@@ -184,7 +184,7 @@ pub(crate) fn literal_at(template: &Template, place: usize) -> &str
     }
 }
 
-/// The text of a literal part; empty where it is another part.
+/// The text of a literal part; empty for any other part.
 #[inline(always)]
 fn literal_of(part: Part<'_>) -> &str
     ensures { result.now ≡ literal_text (Some (part_of part.entry)) }
@@ -218,7 +218,7 @@ fn source_of<K>(name: &str, keys: &[(String, K)]) -> Source
     }
 }
 
-/// The place of the first tracker of a name.
+/// The place of the first tracker with a name.
 fn tracker_named<K>(name: &str, keys: &[(String, K)]) -> Option<usize>
     ensures { result ≡ position (λ entry. bytes_eq name.now (string_bytes entry.0)) keys.now }
 {

@@ -1,4 +1,4 @@
-//! The lists of texts that a style has: of a spinner, and of a bar's cells.
+//! The lists of texts of a style: of a spinner, and of a bar's cells.
 ghost use Rattle.std.specs.Prelude.{◌≡◌, ◌<◌, [], length, map, IfOk, IfErr};
 ghost use Rattle.std.specs.List.{slice_index_or};
 ghost use Rattle.indicatif_bar.specs.Inside.Texts.{texts_in};
@@ -7,17 +7,17 @@ use crate::style::clusters::cloned;
 use indicatif_text::columns::Refusal;
 use std::alloc::Global;
 
-/// Texts in an order.
+/// A list of texts.
 #[derive(Drop)]
 pub(crate) enum Texts {
-    /// Texts of the program itself, which take no memory.
+    /// Built-in texts, which take no memory.
     Fixed(&'static [&'static str]),
-    /// Texts of the caller's.
+    /// Copies of texts.
     Own(Vec<String>),
 }
 
 impl Texts {
-    /// How many there are.
+    /// How many texts there are.
     pub(crate) fn len(&self) -> usize
         ensures { result ≡ length (texts_in self.now) }
     {
@@ -38,7 +38,7 @@ impl Texts {
         }
     }
 
-    /// The same texts. Those of the program are never refused.
+    /// A copy of the texts. Built-in ones are never refused.
     pub(crate) fn try_clone(&self, alloc: Global) -> Result<Texts, Refusal>
         ensures same { IfOk result (λ other. texts_in other ≡ texts_in self.now) }
         ensures memory { IfErr result (λ e. e ≡ Refusal.Memory) }
@@ -50,7 +50,7 @@ impl Texts {
     }
 }
 
-/// The text of the program at a place.
+/// The built-in text at a place.
 fn fixed_at(texts: &[&'static str], place: usize) -> &'static str
     requires within { place < length texts.now }
     ensures { result.now ≡ slice_index_or (map (λ text. text.now) texts.now) place [] }

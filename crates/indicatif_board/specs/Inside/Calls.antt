@@ -1,4 +1,4 @@
--- The bar that a call hands back, by what its board answered.
+-- The bar that a call hands back, by its board's answer.
 use Rattle.std.specs.Prelude.{Option, Some, None, Result, Ok, Err}
 use Rattle.indicatif_text.specs.declared.refusal.Refusal.{Refusal}
 use Rattle.indicatif_bar.specs.Commands.{BarRecord}
@@ -7,12 +7,12 @@ use Rattle.indicatif_board.specs.Calls.{entrant_of}
 use Rattle.indicatif_board.specs.declared.bar_id.BarId.{BarId}
 use Rattle.indicatif_board.specs.declared.calls.Turned.{Turned}
 
--- the new bar that is to be taken in
+-- the new bar to insert
 abbrev pub bar_in : {B : Type 0} → Entrant B → Option B
 bar_in (New bar) = Some bar
 bar_in (Old id) = None
 
--- the new bar that was turned away
+-- the new bar that was refused
 abbrev pub turned_back : {K : Type 0} → Result BarId (Turned K) → Option (BarRecord K)
 turned_back (Ok id) = None
 turned_back (Err turned) = bar_in (entrant_of turned.candidate)

@@ -1,4 +1,4 @@
-//! How bars come into a board's order.
+//! How bars enter a board's order.
 ghost use Rattle.std.specs.Prelude.{◌≡◌, ◌≤◌, ℕ, None, false, Some, Err, IsFalse, IfOk, IfErr, MatchResult};
 ghost use Rattle.std.specs.VecDeque.{deque_len};
 ghost use Rattle.indicatif_bar.specs.Commands.{BarRecord};
@@ -20,17 +20,17 @@ use indicatif_term::term_like::TermLike;
 use indicatif_text::columns::Refusal;
 
 impl<K: Tracks, T: TermLike + Drop> Board<K, T> {
-    /// Takes a bar in behind all others. One that is there already stays where it is.
+    /// Inserts a bar after all others. One that is there already keeps its place.
     ///
-    /// Refused, with the candidate handed back and nothing changed: `ForeignBar` or `NotMember` for a bar that is not this board's; `Memory`,
-    /// also where numbers ran out past 2^64 - 1.
+    /// Refused, with the candidate handed back and nothing changed: `ForeignBar` or `NotMember` for a bar that is not this board's;
+    /// `Memory`, also if there is no number left below 2^64.
     pub fn add(&mut self, candidate: Candidate<K>) -> Result<BarId, Turned<K>>
         ensures { Inserts K.means T.view End candidate result self.old self.new }
     {
         self.insert_by(InsertLocation::End, candidate)
     }
 
-    /// Takes a bar in where `index` bars stand before it, or behind all others where there are fewer. One that is there already stays.
+    /// Inserts a bar after the first `index` bars, or after all others if there are fewer. One that is there already keeps its place.
     ///
     /// Refused: as `add`.
     pub fn insert(&mut self, index: usize, candidate: Candidate<K>) -> Result<BarId, Turned<K>>
@@ -39,7 +39,7 @@ impl<K: Tracks, T: TermLike + Drop> Board<K, T> {
         self.insert_by(InsertLocation::Index(index), candidate)
     }
 
-    /// Takes a bar in where `count` bars stand behind it, or before all others where there are fewer. One that is there already stays.
+    /// Inserts a bar before the last `count` bars, or before all others if there are fewer. One that is there already keeps its place.
     ///
     /// Refused: as `add`.
     pub fn insert_from_back(
@@ -52,7 +52,7 @@ impl<K: Tracks, T: TermLike + Drop> Board<K, T> {
         self.insert_by(InsertLocation::FromBack(count), candidate)
     }
 
-    /// Takes a bar in right before the anchor. One that is there already stays where it is.
+    /// Inserts a bar right before the anchor. One that is there already keeps its place.
     ///
     /// Refused, with the candidate handed back and nothing changed: `ForeignBar` or `NotMember` for the anchor, then as `add`.
     pub fn insert_before(
@@ -65,7 +65,7 @@ impl<K: Tracks, T: TermLike + Drop> Board<K, T> {
         self.insert_by(InsertLocation::Before(anchor), candidate)
     }
 
-    /// Takes a bar in right after the anchor. One that is there already stays where it is.
+    /// Inserts a bar right after the anchor. One that is there already keeps its place.
     ///
     /// Refused: as `insert_before`.
     pub fn insert_after(
@@ -78,7 +78,7 @@ impl<K: Tracks, T: TermLike + Drop> Board<K, T> {
         self.insert_by(InsertLocation::After(anchor), candidate)
     }
 
-    /// Takes a bar in at a place.
+    /// Inserts a bar at a place.
     pub(super) fn insert_by(
         &mut self,
         at: InsertLocation,
@@ -92,7 +92,7 @@ impl<K: Tracks, T: TermLike + Drop> Board<K, T> {
         }
     }
 
-    /// How many bars are to stand before a place. Its anchor is looked for, if it has one.
+    /// How many bars stand before a place. If it has an anchor, that is looked for.
     fn seat(&self, at: InsertLocation) -> Result<usize, Refusal>
         ensures within { IfOk result (λ seat. seat ≤ deque_len self.now.shown.members) }
         ensures seat { IfOk result (λ seat. seat ≡ seat_in (place_at at) (slots_of self.now).order) }
@@ -115,7 +115,7 @@ impl<K: Tracks, T: TermLike + Drop> Board<K, T> {
         }
     }
 
-    /// Takes a bar in where so many bars stand before it.
+    /// Inserts a bar after the first `at` bars.
     fn insert_at(&mut self, at: usize, candidate: Candidate<K>) -> Result<BarId, Turned<K>>
         requires within { at ≤ deque_len self.old.shown.members }
         ensures keeps { Keeps T.view false self.old self.new }

@@ -22,10 +22,9 @@ use indicatif_term::term_like::TermLike;
 use indicatif_text::columns::{Drawn, Moment, Refusal};
 
 impl<K: Tracks, T: TermLike + Drop> Board<K, T> {
-    /// Takes a bar out of the order and hands it back; `None` where it was removed, dropped or never given. What it shows stays
-    /// until the next draw.
+    /// Removes a bar from the order and returns it; `None` if it was removed, dropped or never given. Its rows stay until the next draw.
     ///
-    /// Refused: `ForeignBar`, exactly where the bar has another board's mark.
+    /// Refused: `ForeignBar`, exactly if the bar has another board's mark.
     pub fn remove(&mut self, id: BarId) -> Result<Option<BarState<K>>, Refusal>
         ensures keeps { Keeps T.view false self.old self.new }
         ensures quiet { IsFalse (wrote (drawn_of (removal result))) }
@@ -47,14 +46,14 @@ impl<K: Tracks, T: TermLike + Drop> Board<K, T> {
         }
     }
 
-    /// A bar whose owner is gone: one that isn't finished is finished by its stored finish and drawn by force. Then it leaves the
-    /// order, if it is the first there and no other bar's rows stand before its own: its rows stay where they are until a text, a
-    /// clear or a suspend takes them back. Else it waits, ownerless, and leaves with the draw that finds only bars like it before it.
-    /// From now on no call may name it.
+    /// Tells the board that a bar's owner is gone: one that isn't finished is finished by its stored finish, and a draw is forced. Then it
+    /// leaves the order, if it is the first there and no other bar's rows stand above its own: its rows stay until a text, a clear or a
+    /// suspend erases them. Otherwise it stays without an owner, and leaves with the draw that finds only such bars before it. No call may
+    /// name it afterwards.
     ///
-    /// Refused: `ForeignBar`, `NotMember`, `NoColumns`, `TooWide`, `Terminal` or `Memory`, as `Board` says. After `Terminal` or
-    /// `Memory` the bar is ownerless and waits, also where it is the first: it is as it was where its finish's own text found no memory,
-    /// and finished where its lines found none. After `NoColumns` or `TooWide` it has left or is ownerless, as if it had been drawn.
+    /// Refused: `ForeignBar`, `NotMember`, `NoColumns`, `TooWide`, `Terminal` or `Memory`, as `Board` says. After `Terminal` or `Memory`
+    /// the bar is ownerless and stays, even if it is the first: it is unchanged if the text of its finish got no memory, and finished if
+    /// its lines got none. After `NoColumns` or `TooWide` it has left or is ownerless, as if it had been drawn.
     pub fn drop_bar(&mut self, id: BarId, now: Moment) -> Result<Drawn, Refusal>
         ensures keeps { Keeps T.view (wrote result) self.old self.new }
         ensures leads { LeadsBy K.means T.view self.old self.new (Drop (id_of id)) now (says result) }
@@ -80,7 +79,7 @@ impl<K: Tracks, T: TermLike + Drop> Board<K, T> {
         }
     }
 
-    /// A bar leaves or is ownerless, once it was drawn for the last time, or that draw was refused so.
+    /// Lets a bar leave, or marks it as ownerless, after its last draw or the refusal of it.
     fn part(&mut self, number: u64, drawn: &Result<Drawn, Refusal>)
         ensures keeps { Keeps T.view false self.old self.new }
         ensures parted { (mark : ℕ) (s : BoardState (BarRecord K)) → IsIn mark self.old s →
@@ -107,7 +106,7 @@ impl<K: Tracks, T: TermLike + Drop> Board<K, T> {
         }
     }
 
-    /// A bar's rows are kept, if they are the first that are live.
+    /// Whether a bar's rows are kept: if they are the first that are live.
     fn keep(&mut self, number: u64) -> Keep
         ensures shown { self.new.shown ≡ self.old.shown }
         ensures keeps { Keeps T.view false self.old self.new }

@@ -18,8 +18,8 @@ use indicatif_term::term_like::TermLike;
 use indicatif_text::columns::{Moment, Refusal};
 
 impl<K: Tracks, T: TermLike + Drop> Board<K, T> {
-    /// A call as a value: what the method that `Call` names does and refuses. Beside the answer it hands back the bar that was removed,
-    /// or the new one that was turned away.
+    /// Makes a call that is a value: what the method that `Call` names does and refuses. It also returns the bar that was removed, or the
+    /// new one that was refused.
     ///
     /// ```
     /// let (answer, removed) = board.apply(Call::Remove(id), now); // Answer::Done, and the bar
@@ -50,7 +50,7 @@ impl<K: Tracks, T: TermLike + Drop> Board<K, T> {
         }
     }
 
-    /// As `apply`. A bar that is removed or turned away is given up.
+    /// As `apply`. A bar that is removed or refused is dropped.
     pub fn call(&mut self, call: Call<K>, now: Moment) -> Answer
         ensures keeps { Keeps T.view (wrote (drawn_of (answer_of result))) self.old self.new }
         ensures leads { LeadsBy K.means T.view self.old self.new (call_of call) now (answer_of result) }
@@ -61,12 +61,12 @@ impl<K: Tracks, T: TermLike + Drop> Board<K, T> {
         self.apply(call, now).0
     }
 
-    /// Makes the calls one after another, each at its moment, and answers what each answered. No calls change nothing, and are never
-    /// refused. A call that names another board's bar (of an insertion beside an anchor, that anchor) is answered `ForeignBar`, and
-    /// changes nothing. A bar that none of the calls removes, drops or tells something keeps its record. Each bar keeps its slot as
-    /// long as it stands in the order. Bars that are removed or turned away are given up.
+    /// Makes the calls one after another, each at its moment, and returns their answers. An empty list changes nothing, and is never
+    /// refused. A call that names another board's bar (for an insertion beside an anchor, that anchor) is answered `ForeignBar`, and
+    /// changes nothing. A bar that none of the calls removes, drops or commands keeps its record. Each bar keeps its slot as long as it
+    /// stands in the order. Bars that are removed or refused are dropped.
     ///
-    /// Refused: `Memory` for the answers alone, and nothing is run; the calls are given up.
+    /// Refused: `Memory`, only for the answers, and nothing is run; the calls are dropped.
     pub fn run(&mut self, calls: Vec<(Call<K>, Moment)>) -> Result<Vec<Answer>, Refusal>
         ensures run { (mark : ℕ) (s : BoardState (BarRecord K)) → IsIn mark self.old s →
             let old = known T.view self.old in let new = known T.view self.new in

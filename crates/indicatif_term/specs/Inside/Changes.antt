@@ -1,4 +1,4 @@
--- Drawing lines in the place of others: each stays, is edited in its last row, or is written as a whole.
+-- Lines drawn over others: each stays, is edited in its last row, or is written as a whole.
 use Rattle.std.specs.Prelude.{◌≡◌, true, false, ◌&&◌, ◌==◌, nat_lt, slice_index, ℕ, zero, suc, ◌+◌, ◌-◌, Bool, IsTrue, List, [], ◌∷◌, ◌++◌, map, length, take, drop, replicate, chars, Option, Some, None, if◌then◌else◌}
 use Rattle.indicatif_text.specs.Columns.{Cell, rows_of, last_columns}
 use Rattle.indicatif_term.specs.Calls.{UP, DOWN, move_bytes, clear_bytes}
@@ -8,14 +8,13 @@ use Rattle.indicatif_term.specs.Inside.Edits.{Edit, Write, edit_columns, edit_ga
 use Rattle.indicatif_term.specs.Inside.Fills.{last_of}
 use Rattle.indicatif_term.specs.Inside.LastChar.{ends_plainly}
 
--- what becomes of a line: it stays where it stands, or its last row is edited from a column on, or its rows are emptied and it is written
+-- a change of a line: none, or its last row is edited from a column on, or its rows are emptied and it is written
 pub data Change : Type 0 where
   Leave : Change
   Within : (column : ℕ) (edits : List Edit) → Change
   Whole : Change
 
--- a line of a drawing: the rows that it takes, the columns that it takes of the last of them, what becomes of it, and whether edits
--- of it leave the cursor waiting behind the end of its last row
+-- a line of a draw: its rows, the columns that it takes of the last of them, its change, and whether edits of it leave the cursor waiting at the end of its last row
 pub record PlacedLine : Type 0 where
   pub line : List ℕ
   pub rows : ℕ
@@ -23,7 +22,7 @@ pub record PlacedLine : Type 0 where
   pub change : Change
   pub waits : Bool
 
--- the rows of lines, and the lines
+-- the number of rows of lines
 abbrev pub placed_height : List PlacedLine → ℕ
 placed_height [] = 0
 placed_height (p ∷ ps) = p.rows + placed_height ps
@@ -33,27 +32,27 @@ placed_lines ps = map (λ (p : PlacedLine). p.line) ps
 
 -- ---- bytes
 
--- so many rows emptied, from the cursor's down, and up again to the first of them
+-- the given number of rows emptied, from the cursor's down, and up again to the first of them
 abbrev pub emptied_bytes : ℕ → List ℕ
 emptied_bytes n = (clear_bytes ++ rows_down (n - 1)) ++ move_bytes UP (n - 1)
 
--- so many rows down; the rows of a line emptied, and the line
+-- down to a line; its rows emptied, and the line
 abbrev pub changed_bytes : ℕ → ℕ → List ℕ → List ℕ
 changed_bytes down rows line = move_bytes DOWN down ++ (emptied_bytes rows ++ line)
 
--- the bytes of a line, from a row so far above its first
+-- the bytes of a line, from a row this far above its first
 abbrev pub step_bytes : Change → ℕ → ℕ → List ℕ → List ℕ
 step_bytes Leave down rows line = []
 step_bytes (Within k es) down rows line = move_bytes DOWN (down + rows - 1) ++ row_bytes k es
 step_bytes Whole down rows line = changed_bytes down rows line
 
--- how far the cursor is above the row below the line then
+-- how far above the row below the line the cursor is afterwards
 abbrev pub step_down : Change → ℕ → ℕ → ℕ
 step_down Leave down rows = down + rows
 step_down (Within k es) down rows = 1
 step_down Whole down rows = 1
 
--- the same of lines one below another
+-- the bytes of lines one below another
 abbrev pub walk_bytes : ℕ → List PlacedLine → List ℕ
 walk_bytes down [] = []
 walk_bytes down (p ∷ ps) = step_bytes p.change down p.rows p.line ++ walk_bytes (step_down p.change down p.rows) ps
@@ -62,7 +61,7 @@ abbrev pub walk_down : ℕ → List PlacedLine → ℕ
 walk_down down [] = down
 walk_down down (p ∷ ps) = walk_down (step_down p.change down p.rows) ps
 
--- all lines of a drawing, from so many rows below the last of theirs: up to the first of them, and down through them
+-- all lines of a draw, from this many rows below their last one: up to the first of them, and down through them
 abbrev pub frame_bytes : ℕ → List PlacedLine → List ℕ
 frame_bytes below ps = move_bytes UP (placed_height ps - 1 + below) ++ walk_bytes 0 ps
 
@@ -72,12 +71,11 @@ frame_bytes below ps = move_bytes UP (placed_height ps - 1 + below) ++ walk_byte
 abbrev pub filled_whole : ℕ → PlacedLine → PlacedLine
 filled_whole w p = record p { line = p.line ++ replicate (w - p.last) 0x20; last = w; change = Whole }
 
--- a line of which the last column is written again with this character
+-- a line whose last column is written again with this character
 abbrev pub ended_by : ℕ → ℕ → PlacedLine → PlacedLine
 ended_by w c p = record p { change = Within (w - 1) (Write c ∷ []) }
 
--- the last line, which leaves the cursor waiting behind the end of its row: moves alone don't lead there, but what stands in the last
--- column does, written again, where it is free or an ASCII character that no mark joins
+-- the last line, which leaves the cursor waiting at the end of its row: moves alone don't lead there, but writing the last column again does, if it is free or an ASCII character without marks
 abbrev pub ending_by : Change → ℕ → PlacedLine → PlacedLine
 ending_by Leave w p =
     if nat_lt p.last w then ended_by w 0x20 p
@@ -89,13 +87,13 @@ ending_by Whole w p = filled_whole w p
 abbrev pub ending : ℕ → PlacedLine → PlacedLine
 ending w p = ending_by p.change w p
 
--- its bytes, from a row so far above it
+-- its bytes, from a row this far above it
 abbrev pub last_bytes : ℕ → ℕ → PlacedLine → List ℕ
 last_bytes w down p = let q = ending w p in step_bytes q.change down q.rows q.line
 
--- ---- what stands there
+-- ---- the old rows
 
--- edits lead from what stands in a line's rows to the line: all its rows but the last look the same, and the edits make its last
+-- edits lead from the old rows of a line to the line: all its rows but the last look the same, and the edits make its last
 pub record Fits (w k : ℕ) (es : List Edit) (stood : List (List Cell)) (line : List ℕ) : Type 0 where
   pub front : List (List Cell)
   pub before : List Cell
@@ -104,31 +102,31 @@ pub record Fits (w k : ℕ) (es : List Edit) (stood : List (List Cell)) (line : 
   pub line_is : rows_of w (chars line) ≡ front ++ afterwards ∷ []
   pub renews : (r : List Cell) → map look r ≡ map look before → Renews w k es r afterwards
 
--- rows that look so become those of the line
+-- rows that look like these become those of the line
 abbrev pub Becomes : ℕ → Change → List (List Cell) → List ℕ → Type 0
 Becomes w Leave stood line = stood ≡ looks_of (rows_of w (chars line))
 Becomes w (Within k es) stood line = Fits w k es stood line
 Becomes w Whole stood line = Unit {0}
 
--- a change leaves the cursor waiting behind the end of the line's last row
+-- a change leaves the cursor waiting at the end of the line's last row
 abbrev pub Ends : ℕ → Change → List ℕ → Type 0
 Ends w Leave line = ⊥
 Ends w (Within k es) line = (k + edit_columns es ≡ w) × (edit_gap k es ≡ 0)
 Ends w Whole line = last_columns w (chars line) ≡ w
 
--- a line is as it is measured, and becomes what it is from rows that look so
+-- a line agrees with its measures, and replaces rows that look like these
 pub record Sits (w : ℕ) (looks : List (List Cell)) (p : PlacedLine) : Type 0 where
   pub rows_are : p.rows ≡ length (rows_of w (chars p.line))
   pub last_is : p.last ≡ last_columns w (chars p.line)
   pub becomes : Becomes w p.change (take p.rows looks) p.line
   pub waiting : IsTrue p.waits → Ends w p.change p.line
 
--- the same of lines one below another
+-- the bytes of lines one below another
 abbrev pub AreSitting : ℕ → List (List Cell) → List PlacedLine → Type 0
 AreSitting w looks [] = Unit {0}
 AreSitting w looks (p ∷ ps) = Sits w looks p × AreSitting w (drop p.rows looks) ps
 
--- the rows of a line then, where these stood
+-- the rows of a line after its change, over these
 abbrev pub step_rows : ℕ → Change → ℕ → List ℕ → List (List Cell) → List (List Cell)
 step_rows w Leave rows line old = take rows old
 step_rows w (Within k es) rows line old = take (rows - 1) old ++ map (edited_row k es) (take 1 (drop (rows - 1) old))
@@ -138,7 +136,7 @@ abbrev pub walk_rows : ℕ → List PlacedLine → List (List Cell) → List (Li
 walk_rows w [] old = []
 walk_rows w (p ∷ ps) old = step_rows w p.change p.rows p.line old ++ walk_rows w ps (drop p.rows old)
 
--- ---- all lines of a drawing, from the last row of those that they replace
+-- ---- all lines of a draw, from the last row of those that they replace
 
 -- whether all lines stay
 abbrev pub stays : Change → Bool
@@ -150,22 +148,22 @@ abbrev pub all_stay : List PlacedLine → Bool
 all_stay [] = true
 all_stay (p ∷ ps) = stays p.change && all_stay ps
 
--- how far below rows the cursor is, where so many below them were taken back
+-- how far below rows the cursor is, if this many below them were erased
 abbrev pub rows_below : ℕ → ℕ
 rows_below zero = 0
 rows_below (suc n) = 1
 
--- lines in the first of the rows, so many others taken back; nothing where all lines stay and there are no others
+-- lines in the first of the rows, with this many others erased; nothing if all lines stay and there are no others
 abbrev pub rewrite_bytes : ℕ → ℕ → List PlacedLine → PlacedLine → List ℕ
 rewrite_bytes w taken front last =
     if (taken == 0) && all_stay (front ++ last ∷ []) then [] else back_bytes false taken ++ frame_bytes (rows_below taken) (front ++ ending w last ∷ [])
 
--- the columns that are free behind a line, if there is one
+-- the columns that are free after a line, if there is one
 abbrev pub free_behind : ℕ → Option PlacedLine → ℕ
 free_behind w None = 0
 free_behind w (Some p) = w - p.last
 
--- the same, and more lines below them, each on a row of its own; the last one is filled
+-- the same, and more lines below them, each on its own row; the last one is filled
 abbrev pub change_bytes : ℕ → ℕ → List PlacedLine → PlacedLine → List PlacedLine → List ℕ
 change_bytes w taken front last more =
     rewrite_bytes w taken front last ++ (lines_bytes true (placed_lines more) ++ replicate (free_behind w (last_of more)) 0x20)

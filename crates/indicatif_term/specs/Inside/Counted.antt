@@ -1,9 +1,9 @@
--- Counts that are settled.
+-- Counts without kept rows that have scrolled away.
 use Rattle.std.specs.Prelude.{◌≡◌, ℕ, Bool, ◌+◌, ◌-◌, min, max, ◌&&◌, ◌==◌, nat_lt, List, drop}
 use Rattle.indicatif_term.specs.declared.layout.RowCount.{RowCount}
 use Rattle.indicatif_term.specs.declared.counts.Counts.{Counts}
 
--- the counts where kept rows that have scrolled away join those above
+-- the counts after kept rows that have scrolled away joined those above
 pub record SettledCounts (reached h kept blanks : ℕ) (segments : List RowCount) (live : ℕ) (under : Bool) (c : Counts) : Type 0 where
   pub kept_is : c.kept ≡ kept - min (max reached (kept + live) - h) kept
   pub blanks_are : c.blanks ≡ blanks

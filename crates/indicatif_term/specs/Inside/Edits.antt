@@ -1,4 +1,4 @@
--- A part of a row written again: what is done at each of its columns, and the bytes of it.
+-- A part of a row written again: the edit of each of its columns, and its bytes.
 use Rattle.std.specs.Prelude.{◌≡◌, ℕ, suc, ◌+◌, ◌-◌, ◌≤◌, true, false, ◌==◌, ◌&&◌, not, Bool, if◌then◌else◌, List, [], ◌∷◌, ◌++◌, length, map, take, drop, replicate, get_or, encode_utf8}
 use Rattle.std.specs.List.{AllByRecursion}
 use Rattle.indicatif_text.specs.Columns.{Cell, Blank, Written, width_of, visible, glyphs_of, columns_in}
@@ -8,15 +8,14 @@ use Rattle.indicatif_term.specs.Shows.{look}
 use Rattle.indicatif_term.specs.Calls.{RIGHT, move_bytes}
 use Rattle.indicatif_term.specs.Inside.Inks.{RESET, Painted, in_colours, Ink, Inked, colours_of, same_ink, is_alike, padded, AreColours}
 
--- what is done at a column: its cell stays, or a character of one column is written. Between columns all colours are closed, or some
--- are opened
+-- an edit of a column: its cell stays, or a character of one column is written. Between columns all colours are closed, or some are opened
 pub data Edit : Type 0 where
   Stay : Edit
   Write : (c : ℕ) → Edit
   Close : Edit
   Open : (sequences : List ℕ) → Edit
 
--- a character that takes a column, and is none of a colour sequence's own
+-- a character of one column that belongs to no colour sequence
 pub record IsNarrowChar (c : ℕ) : Type 0 where
   pub narrow : width_of c ≡ 1
   pub scalar : all_scalars (c ∷ []) ≡ true
@@ -26,14 +25,14 @@ pub record IsNarrowChar (c : ℕ) : Type 0 where
 abbrev pub AreSingle : List ℕ → Type 0
 AreSingle line = AllByRecursion (λ c. width_of c ≡ 1) line
 
--- an edit whose bytes a terminal reads so
+-- an edit whose bytes have this effect on a terminal
 abbrev pub IsWritable : Edit → Type 0
 IsWritable Stay = Unit {0}
 IsWritable (Write c) = IsNarrowChar c
 IsWritable Close = Unit {0}
 IsWritable (Open s) = AreColours s
 
--- no wide character begins or ends within these cells, or goes on behind them
+-- no wide character begins or ends in these cells, or continues after them
 abbrev pub IsOwn : Cell → Type 0
 IsOwn x = is_continued x ≡ false
 
@@ -63,8 +62,7 @@ edited [] (Write c ∷ es) = []
 edited (x ∷ cells) (Stay ∷ es) = x ∷ edited cells es
 edited (x ∷ cells) (Write c ∷ es) = narrow c ∷ edited cells es
 
--- the bytes of edits, where the cursor is so many columns before the first of them: a move over cells that stay comes only before a
--- character that is written
+-- the bytes of edits, if the cursor is this many columns before the first of them: a move over cells that stay comes only before a character that is written
 abbrev pub edit_bytes : ℕ → List Edit → List ℕ
 edit_bytes gap [] = []
 edit_bytes gap (Stay ∷ es) = edit_bytes (suc gap) es
@@ -72,7 +70,7 @@ edit_bytes gap (Write c ∷ es) = move_bytes RIGHT gap ++ (encode_utf8 c ++ edit
 edit_bytes gap (Close ∷ es) = RESET ++ edit_bytes gap es
 edit_bytes gap (Open s ∷ es) = s ++ edit_bytes gap es
 
--- how far the cursor is behind the last column then
+-- how many columns the cursor lags behind the last one afterwards
 abbrev pub edit_gap : ℕ → List Edit → ℕ
 edit_gap gap [] = gap
 edit_gap gap (Stay ∷ es) = edit_gap (suc gap) es
@@ -90,7 +88,7 @@ row_bytes k es = (0x0D ∷ []) ++ edit_bytes k es
 abbrev pub edited_row : ℕ → List Edit → List Cell → List Cell
 edited_row k es r = take k r ++ (edited (take (edit_columns es) (drop k r)) es ++ drop (edit_columns es) (drop k r))
 
--- a row of w columns whose edits from column k on make it look like this one
+-- a row of w columns that looks like this one after its edits from column k on
 pub record Renews (w k : ℕ) (es : List Edit) (r new : List Cell) : Type 0 where
   pub writable : AllByRecursion IsWritable es
   pub whole : length r ≡ w
@@ -100,7 +98,7 @@ pub record Renews (w k : ℕ) (es : List Edit) (r new : List Cell) : Type 0 wher
 
 -- ---- lines
 
--- edits beside the characters that stand there and those that are to: an edit that leaves a cell is at a character that stays
+-- edits beside the old and the new characters: an edit that leaves a cell is at a character that stays
 abbrev pub Lead : List Edit → List ℕ → List ℕ → Type 0
 Lead [] [] [] = Unit {0}
 Lead (Stay ∷ es) (c ∷ olds) (d ∷ news) = (c ≡ d) × Lead es olds news
@@ -109,12 +107,11 @@ Lead (Close ∷ es) olds news = Lead es olds news
 Lead (Open s ∷ es) olds news = Lead es olds news
 Lead es olds news = ⊥
 
--- characters, and spaces up to so many
+-- characters, and spaces up to n
 abbrev pub filled : ℕ → List ℕ → List ℕ
 filled n cs = cs ++ replicate (n - length cs) 0x20
 
--- two lines of one row on a terminal of w columns: what is seen of them is the same in the first k columns, and then each has at most
--- n characters of one column
+-- two lines of one row on a terminal of w columns: they look the same in the first k columns, and then each has at most n characters of one column
 pub record Tails (w k n : ℕ) (old new : List ℕ) : Type 0 where
   pub same : List ℕ
   pub olds : List ℕ
@@ -128,7 +125,7 @@ pub record Tails (w k n : ℕ) (old new : List ℕ) : Type 0 where
   pub old_narrow : AllByRecursion (λ c. width_of c ≡ 1) olds
   pub new_narrow : AllByRecursion (λ c. width_of c ≡ 1) news
 
--- edits that lead from the one line to the other
+-- edits that lead from one line to the other
 pub record Turns (w k : ℕ) (es : List Edit) (old new : List ℕ) : Type 0 where
   pub part : Tails w k (edit_columns es) old new
   pub writable : AllByRecursion IsWritable es
@@ -150,19 +147,19 @@ opened (c ∷ cs) es = Open (c ∷ cs) ∷ es
 abbrev pub recoloured : Ink → Ink → List Edit → List Edit
 recoloured ink to es = if same_ink ink to then es else closed (colours_of ink) (opened to.base (opened to.group es))
 
--- from cells to as many others, each of one column, where these colours are open: those that differ are written, each in its colours; if
--- so asked the last one too. Behind them none are open
+-- from cells to the same number of others, each of one column, with these colours open: those that differ are written, each in its colours; the last one too if requested. No colours are open after
+-- them
 abbrev pub plan : Bool → Ink → List Inked → List Inked → List Edit
 plan ends ink [] ns = closed (colours_of ink) []
 plan ends ink (o ∷ os) [] = closed (colours_of ink) []
 plan ends ink (o ∷ os) (n ∷ ns) =
     if is_alike o n && not (ends && (length ns == 0)) then Stay ∷ plan ends ink os ns else recoloured ink n.ink (Write n.char ∷ plan ends n.ink os ns)
 
--- the bytes of what is left of a row: its cells, padded up to so many columns, how far the cursor is behind, and the colours that are open
+-- the bytes of the rest of a row: its cells, padded up to a number of columns, how many columns the cursor lags behind, and the colours that are open
 abbrev pub rest_bytes : Bool → Ink → ℕ → ℕ → List Inked → List Inked → List ℕ
 rest_bytes ends ink gap left olds news = edit_bytes gap (plan ends ink (padded left olds) (padded left news))
 
--- the bytes that lead from the colours that are open to others
+-- the bytes that close the open colours
 abbrev pub reset_bytes : List ℕ → List ℕ
 reset_bytes [] = []
 reset_bytes (c ∷ cs) = RESET
@@ -170,7 +167,7 @@ reset_bytes (c ∷ cs) = RESET
 abbrev pub ink_bytes : Ink → Ink → List ℕ
 ink_bytes ink to = if same_ink ink to then [] else reset_bytes (colours_of ink) ++ (to.base ++ to.group)
 
--- ---- what stands there then
+-- ---- the new cells
 
 -- the cells of a row after edits, where a character takes the colours that are open when it is written
 abbrev pub repainted : List ℕ → List Edit → List Painted → List Painted
@@ -182,7 +179,7 @@ repainted colours (Write c ∷ es) [] = []
 repainted colours (Stay ∷ es) (o ∷ os) = o ∷ repainted colours es os
 repainted colours (Write c ∷ es) (o ∷ os) = in_colours colours c ∷ repainted colours es os
 
--- what is open behind edits
+-- the colours that are open after edits
 abbrev pub edit_colours : List ℕ → List Edit → List ℕ
 edit_colours colours [] = colours
 edit_colours colours (Stay ∷ es) = edit_colours colours es

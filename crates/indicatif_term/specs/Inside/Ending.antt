@@ -1,4 +1,4 @@
--- What the steps of a call write whose rows the program ends.
+-- What the steps of a call write if the program ends rows.
 use Rattle.std.specs.Prelude.{◌≡◌, ℕ, ◌+◌, ◌-◌, ◌^◌, ◌<◌, ◌≤◌, ◌==◌, nat_lt, min, Bool, true, false, IsTrue, IsFalse, List, [], ◌∷◌, ◌++◌, codes, map, take, None, is_some, Result, IsOk, if◌then◌else◌}
 use Rattle.std.specs.List.{AllByRecursion}
 use Rattle.unicode_width.specs.Width.{char_width}
@@ -18,42 +18,42 @@ use Rattle.indicatif_term.specs.declared.ended_rows.Shown.{Shown}
 use Rattle.indicatif_term.specs.declared.ended_rows.Shown.TheVariants.{AtOnce, AsWritten}
 use Rattle.indicatif_term.specs.declared.ended_rows.Place.TheVariants.{Drawing, Edge, Resting, Waiting}
 
--- the first n rows stay at each of these bytes
+-- the first n rows are unchanged at each of these bytes
 abbrev pub StayAlong : ℕ → ModeTerminal → List ℕ → Type 0
 StayAlong n m [] = Unit {0}
 StayAlong n m (b ∷ bytes) =
     let next = step_by m.private_number m b in (take n next.terminal.screen.rows ≡ take n m.terminal.screen.rows) × StayAlong n next bytes
 
--- where the cursor is after a move within a drawing
+-- the cursor's place after a move within a draw
 abbrev pub moved_place : Place → Place
 moved_place Edge = Drawing
 moved_place place = place
 
--- where it is where a drawing begins
+-- the cursor's place as a draw begins
 abbrev pub drawn_place : Place → Place
 drawn_place Resting = Drawing
 drawn_place Drawing = Drawing
 drawn_place Waiting = Edge
 drawn_place Edge = Edge
 
--- what is written where a drawing begins: a synchronized update, unless it is shown as it is written, and the wrap off
+-- what is written as a draw begins: a synchronized update, unless it is shown as it is written, and the wrap off
 abbrev pub opening_bytes : Shown → List ℕ
 opening_bytes AtOnce = 0x1B ∷ (codes "[?2026h" ++ 0x1B ∷ codes "[?7l")
 opening_bytes AsWritten = 0x1B ∷ codes "[?7l"
 
--- what is written where it has ended
+-- what is written at the end of a draw
 abbrev pub closing_bytes : Shown → List ℕ
 closing_bytes AtOnce = 0x1B ∷ codes "[?2026l"
 closing_bytes AsWritten = []
 
 module _ {T : Type 0} (view : T → TermView) where
-  -- where a call has failed nobody knows where the cursor is
+  -- the place is unknown after a failed call
   abbrev pub unfailed : EndedRows T → EndedRows T
   unfailed own =
       if (view own.term).faults == own.faults then own
       else record own { faults = (view own.term).faults; place = first_place own.row; column = 0 }
 
-  -- the two terminals, the real one with its wrap on or off; where `held` is true the cursor doesn't wait
+  -- the two terminals, the real one with its wrap on or off; if `held` is true the cursor doesn't wait
   pub record Meets (wraps held : Bool) (own : EndedRows T) (s : Screen) (m : ModeTerminal) : Type 0 where
     pub real : Screen
     pub real_is : m ≡ mode_resting wraps real
@@ -67,35 +67,35 @@ module _ {T : Type 0} (view : T → TermView) where
     pub alone : own.row ≡ None
     pub known : own.faults ≡ (view own.term).faults
 
-  -- the two terminals where the program is in a drawing, the real one with its wrap on or off
+  -- the two terminals while the program is in a draw, the real one with its wrap on or off
   abbrev pub Held : Bool → EndedRows T → Screen → ModeTerminal → Type 0
   Held wraps own s m = Meets wraps true own s m × IsFalse (is_between own.place)
 
-  -- the two terminals within a drawing
+  -- the two terminals within a draw
   abbrev pub Within : EndedRows T → Screen → ModeTerminal → Type 0
   Within own s m = Held false own s m
 
-  -- the same, where something else holds too
+  -- the two terminals within a draw, and something else holds too
   abbrev pub WithinIf : Type 0 → EndedRows T → Screen → ModeTerminal → Type 0
   WithinIf X own s m = Within own s m × X
 
-  -- the same, where the row of the terminal that gets the calls as any does has this column
+  -- the two terminals within a draw, with the cursor of the one that gets the calls directly in this column
   abbrev pub WithinTo : ℕ → EndedRows T → Screen → ModeTerminal → Type 0
   WithinTo column own s m = Within own s m × (column ≤ s.columns)
 
-  -- the same, where the row has so many columns left, if a row has so many
+  -- the two terminals within a draw, with this many columns left in the row, if a row has as many
   abbrev pub WithinRoom : ℕ → EndedRows T → Screen → ModeTerminal → Type 0
   WithinRoom wide own s m = Within own s m × (wide ≤ s.columns → s.column + wide ≤ s.columns)
 
-  -- the two terminals between two drawings, where no call has failed since
+  -- the two terminals between two draws, if no call has failed since
   abbrev pub Between : EndedRows T → Screen → ModeTerminal → Type 0
   Between own s m = Together view own s m × IsTrue (is_between own.place) × (own.faults ≡ (view own.term).faults)
 
-  -- where a drawing has ended, but for what closes it
+  -- the end of a draw, before what closes it
   abbrev pub Ended : EndedRows T → Screen → ModeTerminal → Type 0
   Ended own s m = Meets true false own s m × IsTrue (is_between own.place) × (own.place ≡ Resting → own.column ≡ 0)
 
-  -- a step that leads the one terminal by f, and the other by the bytes that it writes, from P to Q
+  -- a step that leads one terminal by f, and the other by the bytes that it writes, from P to Q
   pub record Carries (P Q : EndedRows T → Screen → ModeTerminal → Type 0) (f : Screen → Screen) (own own' : EndedRows T) (result : Result Unit Error) : Type 0 where
     pub quiet : Quietly (view own.term) (view own'.term) result
     pub bytes : List ℕ
@@ -103,12 +103,12 @@ module _ {T : Type 0} (view : T → TermView) where
     pub stays : (s : Screen) (m : ModeTerminal) → P own s m → (n : ℕ) → n ≤ m.terminal.screen.row → StayAlong n m bytes
     pub leads : IsOk result → (s : Screen) (m : ModeTerminal) → P own s m → Q own' (f s) (mode_after m bytes)
 
-  -- one that leads the cursor up no row
+  -- such a step that never moves the cursor up
   pub record Falls (P Q : EndedRows T → Screen → ModeTerminal → Type 0) (f : Screen → Screen) (own own' : EndedRows T) (result : Result Unit Error) : Type 0 where
     pub carries : Carries P Q f own own' result
     pub level : IsOk result → (s : Screen) (m : ModeTerminal) → P own s m → m.terminal.screen.row ≤ (mode_after m carries.bytes).terminal.screen.row
 
--- ---- what a step does to the terminal that gets the calls as any does
+-- ---- the effect of a step on the terminal that gets the calls directly
 
 -- to a column of the row
 abbrev pub at_column : ℕ → Screen → Screen
@@ -118,7 +118,7 @@ at_column column s = record s { column = column }
 abbrev pub next_front : Screen → Screen
 next_front s = line_feed (at_column 0 s)
 
--- to another row, by a move of any terminal
+-- to another row, by a cursor move
 abbrev pub rows_moved : ℕ → ℕ → Screen → Screen
 rows_moved letter n s = (after (resting s) (move_bytes letter n)).screen
 
@@ -126,7 +126,7 @@ rows_moved letter n s = (after (resting s) (move_bytes letter n)).screen
 abbrev pub front_emptied : Screen → Screen
 front_emptied s = with_row (at_column 0 s) (blank_row s.columns)
 
--- to the next row, where this one hasn't so many columns left
+-- to the next row, if this one hasn't enough columns left
 abbrev pub with_room : ℕ → Screen → Screen
 with_room wide s = if nat_lt (s.columns - s.column) wide then next_front s else s
 
@@ -134,10 +134,10 @@ with_room wide s = if nat_lt (s.columns - s.column) wide then next_front s else 
 abbrev pub all_put : List ℕ → Screen → Screen
 all_put cs s = performed_all (map (λ c. Put c) cs) s
 
--- characters of which each has a width
+-- characters with a width
 abbrev pub AreShown : List ℕ → Type 0
 AreShown cs = AllByRecursion (λ c. is_some (char_width false c) ≡ true) cs
 
--- the column after a move to the right: the last one at most; a cursor that waits stays
+-- the column after a move to the right: at most the last one; a waiting cursor stays
 abbrev pub right_column : ℕ → ℕ → ℕ → ℕ
 right_column columns column n = if nat_lt (columns - 1) column then column else min (min (column + n) (2 ^ 64 - 1)) (columns - 1)

@@ -1,8 +1,8 @@
--- What a terminal in memory has read where it stopped.
+-- What a terminal in memory has read when it stopped.
 use Rattle.std.specs.Prelude.{◌≡◌, ℕ, List, ◌++◌}
 use Rattle.indicatif_term.specs.Terminal.{Terminal, after}
 
--- the terminal has read a beginning of these bytes
+-- the terminal has read a prefix of these bytes
 pub record ReadsBeginning (bytes : List ℕ) (old new : Terminal) : Type 0 where
   pub front : List ℕ
   pub rest : List ℕ

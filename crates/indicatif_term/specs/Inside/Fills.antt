@@ -1,4 +1,4 @@
--- The spaces that fill the last row of a drawing.
+-- The spaces that fill the last row of a draw.
 use Rattle.std.specs.Prelude.{◌≡◌, ℕ, ◌-◌, ◌≤◌, length, take, map, flat_map, Bool, true, false, List, [], ◌∷◌, chars, Option, Some, None}
 use Rattle.indicatif_text.specs.Columns.{last_columns}
 use Rattle.indicatif_term.specs.Frames.{line_text}
@@ -24,7 +24,7 @@ last_or_none lines = line_or_none (last_of lines)
 abbrev pub line_end : ℕ → List ℕ → ℕ
 line_end w line = last_columns w (chars line)
 
--- how many spaces fill a row of w columns of which so many are taken: none where there is no row, or the cursor goes below
+-- how many spaces fill a row of w columns, by the columns that are taken: none if there is no row, or the cursor goes below
 abbrev pub fill_columns : Bool → ℕ → Option ℕ → ℕ
 fill_columns true w last = 0
 fill_columns false w None = 0
@@ -36,11 +36,11 @@ fill_columns false w (Some n) = w - n
 abbrev pub member_ends : ℕ → Segment → List ℕ
 member_ends w member = map (λ line. line_end w (line_text line)) member.lines.items
 
--- those of a frame's lines
+-- the columns that each line of a frame takes of its last row
 abbrev pub frame_ends : ℕ → List Segment → List ℕ
 frame_ends w frame = flat_map (member_ends w) frame
 
--- a plan knows where the last line that it shows ends, of lines that end so
+-- a plan knows where the last line that it shows ends
 pub record PlanEndsAt (ends : List ℕ) (p : Plan) : Type 0 where
   pub lines_in : p.lines ≤ length ends
   pub all_in : p.full ≡ false → p.lines ≡ length ends

@@ -12,7 +12,7 @@ screen_of g = record { columns = g.columns; height = g.height; rows = g.rows.ite
 abbrev pub IsSound : Inside → Type 0
 IsSound g = IsWhole (screen_of g)
 
--- the operation
+-- the operation, as its definition
 abbrev pub op_of : stored.Op → Op
 op_of (variants.Put c) = Put c
 op_of variants.Return = Return

@@ -9,11 +9,11 @@ use Rattle.indicatif_text.specs.Pieces.{TextPiece, Run, Colour, pieces_of_text}
 abbrev pub RESET : List ℕ
 RESET = 0x1B ∷ 0x5B ∷ 0x30 ∷ 0x6D ∷ []
 
--- whether a colour sequence is that one
+-- whether a colour sequence is the reset
 abbrev pub closes : List ℕ → Bool
 closes sequence = bytes_eq sequence RESET
 
--- the sequences that are open behind one more, one behind another
+-- the sequences that are open after one more, one after another
 abbrev pub colours_after : List ℕ → List ℕ → List ℕ
 colours_after colours sequence = if closes sequence then [] else colours ++ sequence
 
@@ -25,7 +25,7 @@ pub record Painted : Type 0 where
 abbrev pub in_colours : List ℕ → ℕ → Painted
 in_colours colours c = record { char = c; colours = colours }
 
--- the visible characters of pieces in their colours, and what is open behind them
+-- the visible characters of pieces in their colours, with these open before
 abbrev pub painted_from : List ℕ → List TextPiece → List Painted
 painted_from colours [] = []
 painted_from colours (Run text ∷ ps) = map (in_colours colours) text ++ painted_from colours ps
@@ -36,11 +36,11 @@ colours_behind colours [] = colours
 colours_behind colours (Run text ∷ ps) = colours_behind colours ps
 colours_behind colours (Colour s ∷ ps) = colours_behind (colours_after colours s) ps
 
--- those of a line
+-- the visible characters of a line in their colours
 abbrev pub painted : List ℕ → List Painted
 painted line = painted_from [] (pieces_of_text line)
 
--- ---- a text as it is read: of the sequences that are open the last ones, which stand next to one another, and those next before
+-- ---- a text as the code reads it: of the open sequences, only the last two groups of adjacent ones
 
 pub record Ink : Type 0 where
   pub base : List ℕ
@@ -56,7 +56,7 @@ colours_of i = i.base ++ i.group
 abbrev pub same_ink : Ink → Ink → Bool
 same_ink i j = bytes_eq i.base j.base && bytes_eq i.group j.group
 
--- a character, and the sequences that are open where it is read
+-- a character, and the sequences that are open as it is read
 pub record Inked : Type 0 where
   pub char : ℕ
   pub ink : Ink
@@ -70,15 +70,15 @@ characters cells = map (λ (x : Inked). x.char) cells
 abbrev pub as_painted : Inked → Painted
 as_painted x = in_colours (colours_of x.ink) x.char
 
--- the same cell
+-- whether two cells are the same
 abbrev pub is_alike : Inked → Inked → Bool
 is_alike a b = (a.char == b.char) && same_ink a.ink b.ink
 
--- cells, and spaces without colours up to so many
+-- cells, and spaces without colours up to n
 abbrev pub padded : ℕ → List Inked → List Inked
 padded n cells = cells ++ replicate (n - length cells) (in_ink NONE 0x20)
 
--- behind a sequence that opens, where `fresh` says that no character came since the last one
+-- the ink after a sequence that opens colours; `fresh` means that no character came since the last one
 abbrev pub begun : Bool → Ink → List ℕ → Ink
 begun true ink s = record { base = ink.base; group = ink.group ++ s }
 begun false ink s = record { base = ink.group; group = s }
@@ -101,12 +101,12 @@ is_tidy fresh groups (Colour s ∷ ps) =
     else if fresh && not (groups == 0) then is_tidy true groups ps
     else nat_lt groups 2 && is_tidy true (groups + 1) ps
 
--- a text whose visible characters take one column each, in colours that are read right
+-- a text whose visible characters take one column each, in colours that the code reads correctly
 pub record IsRead (text : List ℕ) : Type 0 where
   pub single : AllByRecursion (λ c. width_of c ≡ 1) (visible text)
   pub tidy : is_tidy false 0 (pieces_of_text text) ≡ true
 
--- colour sequences, one behind another: nothing of them is seen
+-- colour sequences, one after another: none of them is visible
 pub record AreColours (sequences : List ℕ) : Type 0 where
   pub ascii : IsAscii sequences
   pub unseen : (behind : List ℕ) → visible (sequences ++ behind) ≡ visible behind

@@ -2,7 +2,7 @@
 use Rattle.std.specs.Prelude.{ℕ, suc, ◌==◌, List, [], ◌∷◌, ◌++◌, length, if◌then◌else◌}
 use Rattle.indicatif_term.specs.declared.in_memory.marks.CombiningMark.{CombiningMark}
 
--- the marks that lead to place k, of marks that stand the newest first: that at k, and before it those that lead to the place that it names
+-- the marks that lead to place k, in a list with the newest first: that at k, and before it those that lead to the place that it names
 abbrev pub chain : List CombiningMark → ℕ → List ℕ
 chain [] k = []
 chain (m ∷ older) k = if k == suc (length older) then chain older m.before ++ m.character ∷ [] else chain older k

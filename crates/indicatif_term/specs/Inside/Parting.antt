@@ -1,4 +1,4 @@
--- Where two lines of one row part, so that only what follows is written.
+-- Where two lines of one row differ, so that only the rest is written.
 use Rattle.std.specs.Prelude.{◌≡◌, ℕ, ◌+◌, ◌-◌, ◌^◌, min, ◌<◌, ◌≤◌, ◌==◌, ◌++◌, Bool, true, false, IsTrue, List, [], map, drop, length, chars, IsCharBoundary}
 use Rattle.std.specs.List.{AllByRecursion, list_any}
 use Rattle.indicatif_text.specs.Columns.{Cell, visible, rows_of}
@@ -19,7 +19,7 @@ tail from text = chars (drop from text)
 abbrev pub cells_at : ℕ → List ℕ → List Inked
 cells_at from text = read NONE (tail from text)
 
--- two texts begin alike, without an escape character, and then each has characters of one column alone, in colours that are read right
+-- two texts begin alike, without an escape character, and then each has only characters of one column, in colours that the code reads correctly
 pub record IsCut (narrow : Bool) (old new : List ℕ) (p : Cut) : Type 0 where
   pub own : IsCharBoundary old p.from
   pub other : IsCharBoundary new p.from
@@ -33,8 +33,7 @@ pub record IsCut (narrow : Bool) (old new : List ℕ) (p : Cut) : Type 0 where
   pub new_read : IsRead (tail p.from new)
   pub single : IsTrue narrow → AreSingle (chars new)
 
--- edits of the cells of a line from one of its bytes on show each character of another in its colours, and leave none open: in front
--- of that place the two are the same, without colours
+-- edits of the cells of a line from one of its bytes on show each character of another in its colours, and leave none open: before that place the two are the same, without colours
 pub record IsRecoloured (from n : ℕ) (es : List Edit) (old new : List ℕ) : Type 0 where
   pub front : List ℕ
   pub old_is : painted (chars old) ≡ map (in_colours []) front ++ map as_painted (cells_at from old)
@@ -46,7 +45,7 @@ pub record IsRecoloured (from n : ℕ) (es : List Edit) (old new : List ℕ) : T
 abbrev pub part_edits : Part → List ℕ → List ℕ → List Edit
 part_edits p old new = plan p.waits NONE (padded p.left (cells_at p.from old)) (padded p.left (cells_at p.from new))
 
--- two lines of one row part so; where the cursor is to wait behind the row, they do in some column of it, and go on to its end
+-- two lines of one row differ from here on; if the cursor has to wait at the row's end, they differ from some column of it to its end
 pub record Parted (w : ℕ) (waits plain : Bool) (old new : List ℕ) (p : Part) : Type 0 where
   pub waits_is : p.waits ≡ waits
   pub own : IsCharBoundary old p.from
@@ -60,7 +59,7 @@ pub record Parted (w : ℕ) (waits plain : Bool) (old new : List ℕ) (p : Part)
   pub single : IsTrue plain → AreSingle (chars new)
   pub colours : IsRecoloured p.from p.left (part_edits p old new) old new
 
--- what is written from there on has room in its row
+-- what is written from there on fits in its row
 pub record HasPart (p : Part) (old new : List ℕ) : Type 0 where
   pub small : p.gap + p.left ≤ 65535
   pub own : IsCharBoundary old p.from
@@ -68,13 +67,13 @@ pub record HasPart (p : Part) (old new : List ℕ) : Type 0 where
   pub olds : length (cells_at p.from old) ≤ p.left
   pub news : length (cells_at p.from new) ≤ p.left
 
--- the change of a line that is this one where that one stood
+-- the change of a line that replaces another
 abbrev pub change_of : Step → List ℕ → List ℕ → drawn.Change
 change_of steps.Leave old new = drawn.Leave
 change_of (steps.Within p) old new = drawn.Within p.gap (part_edits p old new)
 change_of steps.Whole old new = drawn.Whole
 
--- whether it leaves the cursor waiting behind the end of the line's last row, if it edits that
+-- whether it leaves the cursor waiting at the end of the line's last row, if it edits that
 abbrev pub waits_of : Step → Bool
 waits_of steps.Leave = false
 waits_of (steps.Within p) = p.waits
@@ -91,13 +90,13 @@ HasColours steps.Leave old new = Unit {0}
 HasColours (steps.Within p) old new = IsRecoloured p.from p.left (part_edits p old new) old new
 HasColours steps.Whole old new = Unit {0}
 
--- it can be written
+-- the step can be written
 abbrev pub IsReady : Step → List ℕ → List ℕ → Type 0
 IsReady steps.Leave old new = Unit {0}
 IsReady (steps.Within p) old new = HasPart p old new
 IsReady steps.Whole old new = Unit {0}
 
--- a line becomes another so: from rows that look like its own
+-- a line becomes another by a step: from rows that look like its own
 pub record IsTurned (w : ℕ) (step : Step) (old new : List ℕ) : Type 0 where
   pub becomes : (stood : List (List Cell)) → stood ≡ looks_of (rows_of w (chars old)) → drawn.Becomes w (change_of step old new) stood new
   pub ready : IsReady step old new

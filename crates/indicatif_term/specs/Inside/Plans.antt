@@ -15,13 +15,13 @@ use Rattle.indicatif_term.specs.declared.layout.Plan.{Plan}
 use Rattle.indicatif_term.specs.declared.layout.Layout.{Layout}
 use Rattle.indicatif_term.specs.declared.layout.Planned.{Planned}
 
--- ---- what is written
+-- ---- what a draw writes
 
 -- the bytes of the lines of a frame
 abbrev pub frame_lines : List Segment → List (List ℕ)
 frame_lines frame = flat_map (λ (s : Segment). map line_text s.lines.items) frame
 
--- the lines of the text that is logged, if any is
+-- the lines of the logged text, if any
 abbrev pub text_above : Option (Bor (List ℕ)) → List (List ℕ)
 text_above None = []
 text_above (Some text) = logged_lines text.now
@@ -30,13 +30,13 @@ text_above (Some text) = logged_lines text.now
 abbrev pub text_height : ℕ → List (List ℕ) → ℕ
 text_height w text = sum_by (λ line. length (rows_of w line)) text
 
--- why lines are not written, before a call of the terminal
+-- why lines are refused before any call of the terminal
 abbrev pub IsWithheld : ℕ → List (List ℕ) → Refusal → Type 0
 IsWithheld w lines e = IsFalse (is_fault e) × RefusesLines w lines e
 
 -- ---- a plan
 
--- the counts of this frame, of which the first `pass` members are dropped
+-- the counts of this frame, with the first `pass` members dropped
 pub record IsPlan (w h pass : ℕ) (frame : List BarLines) (p : Plan) : Type 0 where
   pub segments_are : p.segments.items ≡ map row_count (shown_rows w h frame)
   pub rows_are : p.rows ≡ segments_height (shown_rows w h frame)
@@ -58,7 +58,7 @@ pub record IsLaidOut (h : ℕ) (lines : List BarRows) (p : Plan) : Type 0 where
   pub all_fit : p.full ≡ false → fitting h lines ≡ lines
   pub none_more : p.full ≡ true → (more : List BarRows) → fitting h (lines ++ more) ≡ fitting h lines
 
--- the same with a member's lines after them, or why not
+-- the plan with a member's lines after them, or why there is none
 abbrev pub IsPlaced : ℕ → ℕ → List BarRows → BarLines → Plan → Result Unit Refusal → Type 0
 IsPlaced w h before member p result =
     MatchResult result (λ _. IsFalse (some_wide w member.lines) × IsLaidOut h (before ++ lines_of w (member ∷ [])) p) (λ e. IsWithheld w member.lines e)
@@ -68,12 +68,12 @@ abbrev pub Measured : ℕ → ℕ → ℕ → List BarLines → Result Layout Re
 Measured w h pass frame result =
     MatchResult result (λ l. IsFalse (some_wide w (all_lines frame)) × IsPlan w h pass frame l.plan × IsSummed h l.plan) (λ e. IsWithheld w (all_lines frame) e)
 
--- a line as it is measured, or why it is not
+-- a line's measures, or why there are none
 abbrev pub MeasuredLine : ℕ → List ℕ → Result Metrics Refusal → Type 0
 MeasuredLine w line result =
     MatchResult result (λ m. IsFalse (has_wide w line) × (m.height ≡ length (rows_of w line)) × (m.last_line_width ≡ last_columns w line)) (λ e. IsWithheld w (line ∷ []) e)
 
--- text lines as they are measured, their rows up to 2^64 - 1, or why they are not
+-- the measures of text lines, with rows up to 2^64 - 1, or why there are none
 abbrev pub MeasuredText : ℕ → List (List ℕ) → Result Metrics Refusal → Type 0
 MeasuredText w text result =
     MatchResult result (λ m. IsFalse (some_wide w (text_lines text)) × (m.height ≡ min (text_height w (text_lines text)) (2 ^ 64 - 1))
@@ -91,7 +91,7 @@ pub record IsPlannedFor (v : TermView) (pass : ℕ) (text : List (List ℕ)) (fr
   pub is_summed : IsSummed v.rows p.plan
   pub plan_ends : PlanEndsAt (frame_ends v.columns frame) p.plan
 
--- the same, or why nothing is written
+-- what is written is measured for a terminal's window, or nothing is written for this reason
 abbrev pub PlannedFor : TermView → ℕ → List (List ℕ) → List Segment → Result Planned Refusal → Type 0
 PlannedFor v pass text frame result =
     MatchResult result (λ p. IsPlannedFor v pass text frame p) (λ e. IsWithheld v.columns (text_lines text ++ all_lines (map bar_lines frame)) e)

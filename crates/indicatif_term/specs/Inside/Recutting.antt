@@ -1,4 +1,4 @@
--- Lines that are cut anew: each of their rows becomes lines of one row.
+-- Lines that are wrapped again: each of their rows becomes lines of one row.
 use Rattle.std.specs.Prelude.{false, ◌≡◌, ℕ, ◌+◌, ◌-◌, Bool, ◌&&◌, ◌==◌, nat_le, List, [], ◌∷◌, ◌++◌, map, filter, flat_map, length, suc, chars, string_bytes, sum, min, take, drop, if◌then◌else◌}
 use Rattle.std.specs.List.{list_all}
 use Rattle.indicatif_text.specs.Columns.{Cell, Glyph, glyph_width, columns_in, glyphs_of, pieces_of, visible}
@@ -19,18 +19,18 @@ use Rattle.indicatif_term.specs.declared.recutting.CutLines.{CutLines}
 abbrev pub glyph_text : Glyph → List ℕ
 glyph_text g = g.base ∷ g.marks
 
--- a character so that it begins no colour sequence: behind an escape character stands an empty one
+-- a character that begins no colour sequence: an escape character is followed by an empty one
 abbrev pub guarded_char : ℕ → List ℕ
 guarded_char c = if c == 0x1B then 0x1B ∷ 0x1B ∷ 0x5B ∷ 0x6D ∷ [] else c ∷ []
 
 abbrev pub guarded : List ℕ → List ℕ
 guarded cs = flat_map guarded_char cs
 
--- a text of which these glyphs are visible
+-- a text whose visible glyphs are these
 abbrev pub piece_text : List Glyph → List ℕ
 piece_text gs = guarded (flat_map glyph_text gs)
 
--- ---- a row cut anew
+-- ---- a wrapped row
 
 -- a space without a mark
 abbrev pub is_space : Glyph → Bool
@@ -41,7 +41,7 @@ abbrev pub without_spaces : List Glyph → List Glyph
 without_spaces [] = []
 without_spaces (g ∷ gs) = if list_all is_space (g ∷ gs) then [] else g ∷ without_spaces gs
 
--- how many glyphs from the front go into a row of w columns of which c are taken; those that no row has place for go along
+-- how many glyphs from the front fit into a row of w columns of which c are taken; those that fit into no row come along
 abbrev pub fitting_count : ℕ → ℕ → List Glyph → ℕ
 fitting_count w c [] = 0
 fitting_count w c (g ∷ gs) =
@@ -84,19 +84,18 @@ shown_lines ls = map shown_line ls
 abbrev pub row_line : List Glyph → LineShown
 row_line gs = record { text = piece_text gs; rows = 1; last = columns_in gs; narrow = false }
 
--- lines to which those of more rows were added, and how many each of these rows became
+-- lines with those of more rows added, and how many each of these rows became
 pub record HasMore (old new : CutLines) (pieces : List (List (List Glyph))) : Type 0 where
   pub lines_are : shown_lines new.lines.items ≡ shown_lines old.lines.items ++ flat_map (map row_line) pieces
   pub heights_are : new.heights.items ≡ old.heights.items ++ map length pieces
 
--- ---- what is remembered
+-- ---- the lines that are remembered
 
 -- how many rows each of these rows becomes
 abbrev pub row_heights : ℕ → List (List Cell) → List ℕ
 row_heights w rows = map (λ row. length (recut w row)) rows
 
--- what is remembered of a terminal of w columns, cut anew for w' columns: of the last rows of lists it is known what they become,
--- and how many rows each of them becomes
+-- the lines that are remembered of a terminal of w columns, wrapped for w' columns: what the last rows of lists become, and how many rows each of them
 pub record IsShownCut (w w' : ℕ) (old : Remembered) (cut : CutLines) : Type 0 where
   pub rows : List (List Cell)
   pub known : (l : Lists) → AreRemembered old l → (front : List (List Cell)) × (front ++ rows ≡ all_rows w l)
@@ -106,11 +105,11 @@ pub record IsShownCut (w w' : ℕ) (old : Remembered) (cut : CutLines) : Type 0 
 
 -- ---- counts
 
--- one row where the cursor rests below the lists
+-- one row if the cursor rests below the lists
 abbrev pub end_row : Bool → ℕ
 end_row below = if below then 1 else 0
 
--- the counts of segments of which each row became so many
+-- the counts of segments after each row became this many
 abbrev pub cut_counts : List ℕ → List RowCount → List RowCount
 cut_counts heights [] = []
 cut_counts heights (s ∷ ss) = record s { rows = sum (take s.rows heights) } ∷ cut_counts (drop s.rows heights) ss
@@ -120,7 +119,7 @@ abbrev pub counts_after : ℕ → List RowCount → List RowCount
 counts_after n [] = []
 counts_after n (s ∷ ss) = if nat_le s.rows n then counts_after (n - s.rows) ss else record s { rows = s.rows - n } ∷ ss
 
--- the counts of rows that were cut, where kept and live ones that have scrolled away on a terminal of h rows join those above
+-- the counts of rows that were wrapped, after kept and live ones that have scrolled away on a terminal of h rows joined those above
 pub record IsSettledWhole (h kept blanks live : ℕ) (segments : List RowCount) (below under : Bool) (c : Counts) : Type 0 where
   pub kept_is : c.kept ≡ (kept + ((live + end_row below) - h)) - min ((kept + live + end_row below) - h) (kept + ((live + end_row below) - h))
   pub blanks_are : c.blanks ≡ blanks - ((live + end_row below) - h)

@@ -1,4 +1,4 @@
--- A frame whose lines stand in as many rows as those of the last drawing, and the lines of it that are others.
+-- A frame whose lines take the same rows as those of the last draw, and its lines that differ.
 use Rattle.std.specs.Prelude.{◌≡◌, ◌⊎◌, ℕ, suc, ◌<◌, ◌≤◌, false, IsTrue, IsFalse, List, [], ◌∷◌, ◌++◌, map, length, take, set, get_or, chars, string_bytes}
 use Rattle.indicatif_text.specs.Columns.{Cell, has_wide, rows_of, last_columns}
 use Rattle.indicatif_term.specs.Frames.{bar_lines, all_lines, some_wide}
@@ -16,9 +16,9 @@ use Rattle.indicatif_term.specs.declared.remembered.Remembered.{Remembered}
 use Rattle.indicatif_term.specs.declared.remembered.StandingLine.{StandingLine}
 use Rattle.indicatif_term.specs.declared.renewed.NewLine.{NewLine}
 
--- ---- new lines in the place of others
+-- ---- new lines over old ones
 
--- a line of this text is as it is measured, in so many rows, and comes in the place of that index, where an old text stands
+-- a line of this text agrees with its measures, has this many rows, and replaces the line at that index, which has an old text
 pub record IsNew (w at rows : ℕ) (old text : List ℕ) (n : NewLine) : Type 0 where
   pub at_is : n.at ≡ at
   pub text_is : string_bytes n.text ≡ text
@@ -28,16 +28,16 @@ pub record IsNew (w at rows : ℕ) (old text : List ℕ) (n : NewLine) : Type 0 
   pub single : IsTrue n.turn.narrow → AreSingle (chars text)
   pub turned : IsTurned w n.turn.step old text
 
--- a line of that index is of this text, or a new one of this text comes in its place
+-- the line at that index has this text, or a new one with this text replaces it
 abbrev pub ComesIn : ℕ → ℕ → StandingLine → List ℕ → List NewLine → List NewLine → Type 0
 ComesIn w at x text new new' =
     ((string_bytes x.text ≡ text) × (new' ≡ new)) ⊎ ((n : NewLine) × (new' ≡ new ++ n ∷ []) × IsNew w at x.rows (string_bytes x.text) text n)
 
--- how many rows lines have
+-- the rows of each line
 abbrev pub heights : List StandingLine → List ℕ
 heights ls = map (λ (l : StandingLine). l.rows) ls
 
--- a new line has as many rows as the one in its place, one of the first of these
+-- a new line has as many rows as the one that it replaces, one of the first of these
 abbrev pub FitsIn : ℕ → List StandingLine → ℕ → NewLine → Type 0
 FitsIn w on count n = (n.at < count) × IsNew w n.at (get_or (heights on) n.at 0) (get_or (texts on) n.at []) (string_bytes n.text) n
 
@@ -49,23 +49,23 @@ AreFittingFrom w on from count (n ∷ new) = (from ≤ n.at) × FitsIn w on coun
 abbrev pub AreFitting : ℕ → List StandingLine → ℕ → List NewLine → Type 0
 AreFitting w on count new = AreFittingFrom w on 0 count new
 
--- texts with those of new lines in their places
+-- texts with those of new lines at their places
 abbrev pub renewed : List (List ℕ) → List NewLine → List (List ℕ)
 renewed ts [] = ts
 renewed ts (n ∷ new) = set (renewed ts new) n.at (string_bytes n.text)
 
--- a line in the place of another, with as many rows
+-- a line replaces another with as many rows
 pub record IsInPlace (w : ℕ) (o l : StandingLine) : Type 0 where
   pub rows_are : l.rows ≡ o.rows
   pub line : IsLine w l
 
--- what becomes of a line makes another of it, and can be written
+-- the change of a line leads to another, and can be written
 pub record IsOver (w : ℕ) (o l : StandingLine) : Type 0 where
   pub becomes : (stood : List (List Cell)) → stood ≡ looks_of (rows_of w (chars (string_bytes o.text))) → Becomes w (placed_of l).change stood (string_bytes l.text)
   pub ready : IsReady l.step (string_bytes l.before) (string_bytes l.text)
   pub waiting : IsTrue (placed_of l).waits → Ends w (placed_of l).change (string_bytes l.text)
 
--- lines in the place of others
+-- lines replace others
 abbrev pub AreInPlace : ℕ → List StandingLine → List StandingLine → Type 0
 AreInPlace w [] [] = Unit {0}
 AreInPlace w (o ∷ on) (l ∷ ls) = IsInPlace w o l × AreInPlace w on ls
@@ -76,7 +76,7 @@ AreOver w [] [] = Unit {0}
 AreOver w (o ∷ on) (l ∷ ls) = IsOver w o l × AreOver w on ls
 AreOver w _ _ = ⊥
 
--- what is remembered, with new lines in their places
+-- the remembered lines, with new ones at their places
 pub record Renews (r : Remembered) (new : List NewLine) (r' : Remembered) : Type 0 where
   pub width_is : r'.width ≡ r.width
   pub kept_is : r'.kept ≡ r.kept
@@ -84,9 +84,9 @@ pub record Renews (r : Remembered) (new : List NewLine) (r' : Remembered) : Type
   pub texts_are : texts (live_lines r') ≡ renewed (texts (live_lines r)) new
   pub in_place : AreInPlace r.width (live_lines r) (live_lines r')
 
--- ---- a frame beside the lines that stand
+-- ---- a frame beside the standing lines
 
--- lines of these bytes are the first of those that stand, with new ones in their places, and a plan has them all
+-- lines with these bytes are the first of the standing ones, with new ones at their places, and a plan has them all
 pub record AreCompared (w : ℕ) (on : List StandingLine) (new : List NewLine) (before : List (List ℕ)) (p : Plan) : Type 0 where
   pub lines_in : p.lines ≤ length on
   pub fit : AreFitting w on p.lines new
@@ -105,7 +105,7 @@ pub record IsSettled (w h : ℕ) (c : Counts) (r : Remembered) : Type 0 where
   pub low : (c.kept ≡ 0) ⊎ (c.reached ≤ h)
   pub under_low : IsTrue c.under → c.reached < h
 
--- a frame is as narrow as the terminal, has the rows that stand, of the same bars, and the lines that stand, with new ones in their places
+-- a frame is no wider than the terminal, has the standing rows, of the same bars, and the standing lines, with new ones at their places
 pub record IsRenewed (w h : ℕ) (frame : List Segment) (c : Counts) (r : Remembered) (new : List NewLine) : Type 0 where
   pub narrow : IsFalse (some_wide w (all_lines (map bar_lines frame)))
   pub settled : IsSettled w h c r

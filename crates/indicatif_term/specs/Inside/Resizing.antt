@@ -29,7 +29,7 @@ rows_ended s rows = fold (λ s row. next_row (row_put s row)) s rows
 abbrev pub rows_begun : Screen → List (List Cell) → Screen
 rows_begun s rows = fold (λ s row. row_put (next_row s) row) s rows
 
--- the rows of an old screen that last were put on a new one, and those that the cursor's row becomes
+-- the rows of an old screen that were put on a new one, and those that the cursor's row becomes
 pub record LastingPut (old new now : Screen) (cursor : CursorRows) : Type 0 where
   pub columns_stay : now.columns ≡ new.columns
   pub height_stays : now.height ≡ new.height

@@ -1,4 +1,4 @@
--- What is left of a row that is edited.
+-- The rest of a row that is edited.
 use Rattle.std.specs.Prelude.{◌≡◌, ℕ, ◌+◌, ◌-◌, ◌^◌, ◌≤◌, ◌==◌, ◌++◌, min, Bool, false, List, length, chars, IsCharBoundary}
 use Rattle.std.specs.List.{list_any}
 use Rattle.indicatif_term.specs.Inside.Inks.{Ink, Inked, read}
@@ -13,21 +13,21 @@ use Rattle.indicatif_term.specs.declared.row_edits.Rest.{Rest}
 abbrev pub ink_of : Colours → Ink
 ink_of i = record { base = i.base.now; group = i.group.now }
 
--- the cells of what is left of a text
+-- the cells of the rest of a text
 abbrev pub cells : Reading → List Inked
 cells r = read (ink_of r.ink) (chars r.text.now)
 
--- the bytes that are to be written
+-- the bytes to write
 abbrev pub left_bytes : Bool → Rest → List ℕ
 left_bytes ends r = rest_bytes ends (ink_of r.ink) r.gap r.left (cells r.old) (cells r.new)
 
--- the cells have room in the columns that are left
+-- the cells fit in the columns that are left
 pub record HasRoom (r : Rest) : Type 0 where
   pub small : r.gap + r.left ≤ 65535
   pub olds : length (cells r.old) ≤ r.left
   pub news : length (cells r.new) ≤ r.left
 
--- what two texts begin with, without an escape character, and how many characters it has
+-- the common prefix of two texts, without an escape character, and its number of characters
 pub record ArePlain (old new : List ℕ) (p : PlainParts) : Type 0 where
   pub own : IsCharBoundary old p.parts.from
   pub other : IsCharBoundary new p.parts.from

@@ -1,4 +1,4 @@
--- Characters of one column that are written into a row at once.
+-- Characters of one column that are written into a row together.
 use Rattle.std.specs.Prelude.{◌≡◌, ℕ, false, List, [], map, replicate, Some}
 use Rattle.unicode_width.specs.Width.{char_width}
 use Rattle.indicatif_text.specs.Columns.{Cell, Written}

@@ -1,4 +1,4 @@
--- The reader of bytes as it is kept.
+-- The reader of bytes as it is stored.
 use Rattle.std.specs.Prelude.{◌≡◌, ℕ, ◌<◌, ◌≤◌, true, List, [], ◌∷◌, length, take, encode_utf8, Option, option_to_list}
 use Rattle.std.specs.Str.{all_scalars}
 use Rattle.indicatif_term.specs.Terminal.{SequencePlace, OutsideSequence, Escaped, Sequence, idle, sequence_op}
@@ -13,7 +13,7 @@ stage_place Outside = OutsideSequence
 stage_place AfterEscape = Escaped
 stage_place (InSequence number) = Sequence number
 
--- this character, which is no control character of ASCII, is spelt by as many bytes at the front
+-- this character, which is no ASCII control character, has this many bytes at the front
 pub record IsWholeChar (bytes : List ℕ) (c len : ℕ) : Type 0 where
   pub some : 0 < len
   pub within : len ≤ length bytes
@@ -21,14 +21,14 @@ pub record IsWholeChar (bytes : List ℕ) (c len : ℕ) : Type 0 where
   pub scalar : all_scalars (c ∷ []) ≡ true
   pub printable : 0x20 ≤ c
 
--- so many bytes at the front are a whole escape sequence with this number and this last character
+-- this many bytes at the front are a whole escape sequence with this number and this last character
 pub record IsWholeSequence (bytes : List ℕ) (number : Option ℕ) (last len : ℕ) : Type 0 where
   pub some : 0 < len
   pub within : len ≤ length bytes
   pub asks : ops_of idle (take len bytes) ≡ option_to_list (sequence_op number last)
   pub ends : reader_after idle (take len bytes) ≡ idle
 
--- so many bytes at the front are a beginning of an escape sequence, up to the digits of this number
+-- this many bytes at the front are a prefix of an escape sequence, up to the digits of this number
 pub record IsSequenceFront (bytes : List ℕ) (number : Option ℕ) (len : ℕ) : Type 0 where
   pub within : len ≤ length bytes
   pub asks : ops_of idle (take len bytes) ≡ []

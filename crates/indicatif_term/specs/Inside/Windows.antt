@@ -1,4 +1,4 @@
--- The size of a terminal that has some columns.
+-- The size of a terminal with columns.
 use Rattle.std.specs.Prelude.{◌≡◌, Result, MatchResult}
 use Rattle.indicatif_text.specs.declared.refusal.Refusal.{Refusal}
 use Rattle.indicatif_text.specs.declared.refusal.Refusal.TheVariants.{NoColumns}

@@ -14,7 +14,7 @@ pub(crate) fn move_line(alloc: Global, name: &str, n: usize) -> Result<String, R
     Ok(line)
 }
 
-/// A line for a text that is written. Refused: `Memory`.
+/// A line for a written text. Refused: `Memory`.
 pub(crate) fn text_line(alloc: Global, text: &str) -> Result<String, Refusal>
     ensures line { IfOk result (λ t. string_bytes t ≡ written_text text.now) }
     ensures refused { IfErr result (λ e. e ≡ Refusal.Memory) }
@@ -25,7 +25,7 @@ pub(crate) fn text_line(alloc: Global, text: &str) -> Result<String, Refusal>
     Ok(line)
 }
 
-/// A line for a text that is written, and one for the line's end. Refused: `Memory`.
+/// A line for a written text, and one for the line's end. Refused: `Memory`.
 pub(crate) fn ended_line(alloc: Global, text: &str) -> Result<String, Refusal>
     ensures line { IfOk result (λ t. string_bytes t ≡ written_text text.now ++ codes "NewLine\n") }
     ensures refused { IfErr result (λ e. e ≡ Refusal.Memory) }
@@ -35,7 +35,7 @@ pub(crate) fn ended_line(alloc: Global, text: &str) -> Result<String, Refusal>
     Ok(line)
 }
 
-/// A line of its own. Refused: `Memory`.
+/// A copy of a line. Refused: `Memory`.
 pub(crate) fn own_line(alloc: Global, line: &str) -> Result<String, Refusal>
     ensures line { IfOk result (λ t. string_bytes t ≡ line.now) }
     ensures refused { IfErr result (λ e. e ≡ Refusal.Memory) }
@@ -44,7 +44,7 @@ pub(crate) fn own_line(alloc: Global, line: &str) -> Result<String, Refusal>
     Ok(line)
 }
 
-/// Appends a text to `out` as it stands between quotation marks. Refused: `Memory`.
+/// Appends a text to `out` as it is written between quotation marks. Refused: `Memory`.
 fn quote(text: &str, out: &mut String) -> Result<(), Refusal>
     ensures quoted { OnOk result (string_bytes out.new
         ≡ string_bytes out.old ++ encode_utf8_all (flat_map quoted_char (chars text.now))) }
@@ -57,7 +57,7 @@ fn quote(text: &str, out: &mut String) -> Result<(), Refusal>
     Ok(())
 }
 
-/// Appends a character to `out` as it stands between quotation marks. Refused: `Memory`.
+/// Appends a character to `out` as it is written between quotation marks. Refused: `Memory`.
 fn quote_character(c: char, out: &mut String) -> Result<(), Refusal>
     ensures quoted { OnOk result (string_bytes out.new ≡ string_bytes out.old ++ encode_utf8_all (quoted_char c)) }
     ensures refused { IfErr result (λ e. e ≡ Refusal.Memory) }

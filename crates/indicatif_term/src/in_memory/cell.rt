@@ -1,4 +1,4 @@
-//! A cell of a row as it is kept: a few bytes, and no memory of its own. Its marks stand in the row's list of marks.
+//! A cell of a row as it is stored: a few bytes, and no memory of its own. Its marks are in the row's list of marks.
 ghost use Rattle.std.specs.Prelude.{◌≡◌, ◌++◌, [], IfOk, IfErr, OnOk, OnErr, encode_utf8_all, string_bytes, option_to_list};
 ghost use Rattle.indicatif_text.specs.Columns.{Blank, Written, Continued};
 ghost use Rattle.indicatif_term.specs.Screen.{is_continued};
@@ -12,7 +12,7 @@ use indicatif_text::columns::Refusal;
 use std::alloc::Global;
 use std::marker::Model;
 
-/// What stands in a cell.
+/// The content of a cell.
 #[derive(Clone, Copy, Drop)]
 enum CellKind {
     /// Nothing.
@@ -21,11 +21,11 @@ enum CellKind {
     Single(char),
     /// A character with marks, and the place of the last one among those of the row.
     Joined(char, u32),
-    /// A continued cell of the wide character at its left.
+    /// A further cell of the wide character on its left.
     Continued,
 }
 
-/// A cell of a row. Contracts see the place of its last mark in the place of its marks.
+/// A cell of a row. Contracts see the place of its last mark in place of its marks.
 #[derive(Drop)]
 pub(crate) struct Cell {
     kind: CellKind,
@@ -52,7 +52,7 @@ impl Cell {
         }
     }
 
-    /// A continued cell of the wide character at its left.
+    /// A further cell of the wide character on its left.
     #[inline]
     pub(crate) fn continued() -> Cell
         ensures { result ≡ Continued }
@@ -72,7 +72,7 @@ impl Cell {
         }
     }
 
-    /// Whether it is a continued cell of the wide character at its left.
+    /// Whether it is a further cell of the wide character on its left.
     #[inline]
     pub(crate) fn is_continued(&self) -> bool
         ensures { result ≡ is_continued self.now }
@@ -83,7 +83,7 @@ impl Cell {
         }
     }
 
-    /// Whether it was written and not emptied since.
+    /// Whether it was written, and not emptied since.
     pub(crate) fn is_written(&self) -> bool
         ensures { result ≡ is_written self.now }
     {
@@ -105,7 +105,7 @@ impl Cell {
         }
     }
 
-    /// Joins a mark to its character, if it has one. Refused: `Memory`; all is unchanged then.
+    /// Joins a mark to its character, if it has one. Refused: `Memory`; then nothing has changed.
     pub(crate) fn join(&mut self, marks: &mut Vec<CombiningMark>, mark: char) -> Result<(), Refusal>
         ensures joined { OnOk result (JoinsMark mark marks.old.items marks.new.items self.old self.new) }
         ensures err { OnErr result (self.new ≡ self.old) }
@@ -123,8 +123,7 @@ impl Cell {
         Ok(())
     }
 
-    /// The character that begins here, with its marks: a space where it is empty, and none where it continues one. Refused:
-    /// `Memory`.
+    /// The character that begins here, with its marks: a space if it is empty, and none if it continues one. Refused: `Memory`.
     pub(crate) fn glyph(
         &self,
         alloc: Global,
@@ -144,7 +143,7 @@ impl Cell {
         }
     }
 
-    /// Appends its characters to `out`: a blank one for an empty cell. Refused: `Memory`.
+    /// Appends its characters to `out`: a space for an empty cell. Refused: `Memory`.
     pub(crate) fn show(
         &self,
         alloc: Global,

@@ -17,8 +17,8 @@ use std::alloc::Global;
 use std::fmt::{self, Debug, Formatter};
 use std::marker::Model;
 
-/// A terminal of cells, which is fed bytes: UTF-8 first, escape sequences (ECMA-48) next. What can't be understood
-/// changes nothing. Contracts see its screen, and what it has read of a character and of a sequence.
+/// A terminal of cells, which reads bytes: UTF-8 first, escape sequences (ECMA-48) next. Unknown sequences and invalid bytes change
+/// nothing. Contracts see its screen, and what it has read of a character and of a sequence.
 ///
 /// ```
 /// let mut cells = Cells::new(rt.alloc(), 2, 4)?;
@@ -26,15 +26,14 @@ use std::marker::Model;
 /// // contents: "ab!\ncd", cursor: (0, 3)
 /// ```
 ///
-/// Memory grows with what is written: of a row the cells up to the last one that was written are kept. Rows that scroll
-/// away are kept too.
+/// Its memory grows with what is written: each row keeps its cells up to the last one that was written. Rows that scroll away are kept too.
 #[derive(Drop)]
 pub struct Cells {
     grid: Grid,
     scanner: Scanner,
 }
 
-/// Programmers are shown where the cursor stands.
+/// Shows the cursor.
 impl Debug for Cells {
     fn fmt<W: fmt::Write>(&self, f: &mut Formatter<W>) -> fmt::Result {
         f.debug_struct("Cells")
@@ -54,7 +53,7 @@ impl Model for Cells {
 impl Cells {
     /// A terminal of `rows` rows and `cols` columns, all blank, the cursor at the front of the first row.
     ///
-    /// Refused: `ZeroSize` where `rows` or `cols` is 0, which is tested before memory is taken; `Memory`.
+    /// Refused: `ZeroSize` if `rows` or `cols` is 0, which is tested before memory is taken; `Memory`.
     ///
     /// ```
     /// let cells = Cells::new(rt.alloc(), 65535, 65535)?;
@@ -75,7 +74,7 @@ impl Cells {
         })
     }
 
-    /// Reads these bytes. Any cut of the same bytes gives the same cells.
+    /// Reads these bytes. However the bytes are cut into calls, the cells are the same.
     ///
     /// ```
     /// cells.feed(b"\xE5\x9B")?;
@@ -83,8 +82,8 @@ impl Cells {
     /// // contents: "\u{56FD}", of two columns: cursor (0, 2)
     /// ```
     ///
-    /// Refused: `Memory`, with how many bytes were read; the terminal is the one after these. It comes only where the bytes that are
-    /// left first put a character, or feed a line on the last row.
+    /// Refused: `Memory`, with the number of bytes that were read; the terminal is the one after these. It comes only if the rest of the
+    /// bytes begins with a character, or feeds a line on the last row.
     pub fn feed(&mut self, bytes: &[u8]) -> Result<(), (usize, Refusal)>
         ensures fed { OnOk result (self.new ≡ after self.old bytes.now) }
         ensures stopped { IfErr result (λ e. self.new ≡ after self.old (take e.0 bytes.now)) }
@@ -102,7 +101,7 @@ impl Cells {
         Ok(())
     }
 
-    /// Reads a character or a byte, and tells how many bytes. Refused: `Memory`; all is unchanged then.
+    /// Reads a character or a byte, and returns its number of bytes. Refused: `Memory`; then nothing has changed.
     fn feed_front(&mut self, bytes: &[u8]) -> Result<usize, Refusal>
         requires { 0 < length bytes.now }
         ensures fed { IfOk result (λ n. self.new ≡ after self.old (take n bytes.now)) }
@@ -119,7 +118,7 @@ impl Cells {
         Ok(1)
     }
 
-    /// The same between two characters, outside a sequence: characters, a sequence or a byte.
+    /// Reads characters, a sequence or a byte, between two characters and outside a sequence.
     fn feed_idle(&mut self, bytes: &[u8]) -> Result<usize, Refusal>
         requires some { 0 < length bytes.now }
         requires idle { self.old.reader ≡ idle }
@@ -145,7 +144,7 @@ impl Cells {
         Ok(1)
     }
 
-    /// Reads a character that stands at the front, as often as it stands there and fits into the row.
+    /// Reads a character at the front, as often as it is repeated there and fits into the row.
     fn feed_whole(&mut self, bytes: &[u8], whole: WholeChar) -> Result<usize, Refusal>
         requires whole { IsWholeChar bytes.now whole.character whole.len }
         requires idle { self.old.reader ≡ idle }
@@ -167,7 +166,7 @@ impl Cells {
         Ok(3 * put)
     }
 
-    /// Reads an escape sequence that stands at the front.
+    /// Reads an escape sequence at the front.
     fn feed_sequence(&mut self, bytes: &[u8], sequence: WholeSequence) -> Result<usize, Refusal>
         requires whole { IsWholeSequence bytes.now sequence.number sequence.last sequence.len }
         requires idle { self.old.reader ≡ idle }
@@ -187,7 +186,7 @@ impl Cells {
         }
     }
 
-    /// Reads a byte. Refused: `Memory`; all is unchanged then.
+    /// Reads a byte. Refused: `Memory`; then nothing has changed.
     fn feed_byte(&mut self, byte: u8) -> Result<(), Refusal>
         ensures fed { OnOk result (self.new ≡ after self.old (byte ∷ [])) }
         ensures err { OnErr result (self.new ≡ self.old) }
@@ -203,8 +202,8 @@ impl Cells {
         Ok(())
     }
 
-    /// The cursor's row, counted from the first of the window, and its column. In the column after the last one it
-    /// waits.
+    /// The cursor's row, counted from the first of the window, and its column. At the end of a full row the column is the one after the
+    /// last.
     ///
     /// ```
     /// let mut cells = Cells::new(rt.alloc(), 2, 2)?;
@@ -233,8 +232,8 @@ impl Cells {
         self.grid.picture()
     }
 
-    /// The window's rows as text, up to the last one with a written cell, each without the blanks at its end, joined
-    /// by line feeds. Refused: `Memory`, never where the window has no written cell.
+    /// The window's rows as text, up to the last one with a written cell, each without the blanks at its end, joined by line feeds.
+    /// Refused: `Memory`, never if the window has no written cell.
     ///
     /// ```
     /// let mut cells = Cells::new(rt.alloc(), 3, 3)?;
@@ -248,8 +247,8 @@ impl Cells {
         self.grid.contents()
     }
 
-    /// Gets `rows` rows and `cols` columns. Each row, without the blanks at its end, is cut into rows of the new width, and rows
-    /// aren't joined again. A size that it has already changes nothing.
+    /// Sets the size to `rows` rows and `cols` columns. Each row, without the blanks at its end, is wrapped at the new width; rows aren't
+    /// joined. Its own size changes nothing.
     ///
     /// ```
     /// let mut cells = Cells::new(rt.alloc(), 4, 10)?;
@@ -260,13 +259,13 @@ impl Cells {
     /// // contents: "progr\ness b\nars" still: no row is joined to another
     /// ```
     ///
-    /// Blank rows below the cursor's row and below all others are dropped. The window is the last `rows` rows then, and those
-    /// above it have scrolled away. The cursor goes to the first row that its row became, and keeps its column, which is at
-    /// most `cols`; one that waits behind a row's end waits behind the last. Above the window it goes to the window's first
-    /// row. A character wider than `cols` is left out.
+    /// Blank rows at the end, below the cursor's row, are dropped. The window is then the last `rows` rows, and those above it have
+    /// scrolled away. The cursor goes to the first row that its row became, and keeps its column, which is at most `cols`; a cursor that
+    /// waits at a row's end waits at the end of the last. Above the window it goes to the window's first row. A character wider than `cols`
+    /// is left out.
     ///
-    /// Refused: `ZeroSize` where `rows` or `cols` is 0, which is tested before memory is taken; `Memory`, which is taken for all
-    /// rows, those that scrolled away too, before anything changes, and not at the size that it has.
+    /// Refused: `ZeroSize` if `rows` or `cols` is 0, which is tested before memory is taken; `Memory`, which is taken for all rows,
+    /// including those that scrolled away, before anything changes, and not for its own size.
     pub fn resize(&mut self, rows: u16, cols: u16) -> Result<(), Refusal>
         ensures resized { OnOk result (self.new ≡ resized_terminal cols rows self.old) }
         ensures unchanged { OnErr result (self.new ≡ self.old) }
@@ -281,7 +280,7 @@ impl Cells {
         self.grid.resize(rows, cols)
     }
 
-    /// As made anew, with no memory taken.
+    /// Resets it to a new terminal, without taking memory.
     pub(crate) fn reset(&mut self)
         ensures { self.new ≡ blank_terminal self.old.screen.height self.old.screen.columns }
     {
@@ -296,7 +295,7 @@ impl Cells {
         self.grid.columns()
     }
 
-    /// Rows of the window.
+    /// The number of rows of the window.
     pub(crate) fn height(&self) -> u16
         ensures { result ≡ self.now.screen.height }
     {

@@ -1,10 +1,10 @@
-//! A character and its marks, as they are taken out of a row.
+//! A character and its marks, as they are read from a row.
 ghost use Rattle.std.specs.Prelude.{◌≡◌, [], reverse};
 
 use std::alloc::Global;
 use std::marker::Model;
 
-/// A character, and the marks that are joined to it.
+/// A character, and the marks joined to it.
 #[derive(Drop)]
 pub(crate) struct Glyph {
     base: char,
@@ -22,7 +22,7 @@ impl Model for Glyph {
 }
 
 impl Glyph {
-    /// A character without marks. No memory is taken.
+    /// A character without marks. Takes no memory.
     pub(crate) fn plain(alloc: Global, base: char) -> Glyph
         ensures { result ≡ record { base = base; marks = [] } }
     {
@@ -32,7 +32,7 @@ impl Glyph {
         }
     }
 
-    /// A character with these marks, of which the last one stands first.
+    /// A character with these marks, the last one first.
     pub(crate) fn marked(base: char, newest_first: Vec<char>) -> Glyph
         ensures { result ≡ record { base = base; marks = reverse newest_first.items } }
     {

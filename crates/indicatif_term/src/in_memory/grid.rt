@@ -1,4 +1,4 @@
-//! The rows of a terminal, and its cursor: what each operation does to them.
+//! The rows of a terminal, and its cursor, and how each operation changes them.
 ghost use Rattle.std.specs.Prelude.{All, ◌≡◌, ℕ, ◌+◌, ◌-◌, ◌<◌, ◌≤◌, [], false, IsTrue, IfOk, IfErr, OnOk, OnErr, length, take, replicate, slice_index_or, string_bytes, map};
 ghost use Rattle.std.specs.List.{join_with_byte};
 ghost use Rattle.indicatif_text.specs.Columns.{blank_row};
@@ -19,22 +19,22 @@ use indicatif_text::columns::Refusal;
 use std::alloc::Global;
 use std::marker::Model;
 
-/// What a terminal does.
+/// An operation of a terminal.
 #[derive(Clone, Copy, Drop)]
 pub(crate) enum Op {
-    /// Shows a character at the cursor.
+    /// Writes a character at the cursor.
     Put(char),
-    /// To the front of the row.
+    /// Goes to the front of the row.
     Return,
     /// One row down.
     LineFeed,
-    /// This many rows up, to the first row of the window at most.
+    /// This many rows up, at most to the first row of the window.
     Up(u16),
-    /// This many rows down, to the last row of the window at most.
+    /// This many rows down, at most to the last row of the window.
     Down(u16),
-    /// This many columns right, to the last column at most; a waiting cursor stays.
+    /// This many columns right, at most to the last column; a waiting cursor stays.
     Right(u16),
-    /// This many columns left, to the first column at most.
+    /// This many columns left, at most to the first column.
     Left(u16),
     /// Empties the cursor's row.
     EmptyRow,
@@ -94,14 +94,15 @@ impl Grid {
         self.columns
     }
 
-    /// Rows of the window.
+    /// The number of rows of the window.
     pub(crate) fn height(&self) -> u16
         ensures { result ≡ self.now.height }
     {
         self.height
     }
 
-    /// The cursor's row, counted from the first of the window, and its column; in the column after the last it waits.
+    /// The cursor's row, counted from the first of the window, and its column; at the end of a full row the column is the one after the
+    /// last.
     pub(crate) fn cursor(&self) -> (u16, u16)
         ensures row { result.0 ≡ self.now.row - top self.now }
         ensures column { result.1 ≡ self.now.column }
@@ -118,8 +119,8 @@ impl Grid {
         texts_of(self.alloc, &self.rows)
     }
 
-    /// The texts of the window's rows up to the last one with a written cell, joined by line feeds. Refused: `Memory`, only where there
-    /// is such a cell.
+    /// The texts of the window's rows up to the last one with a written cell, joined by line feeds. Refused: `Memory`, only if there is
+    /// such a cell.
     pub(crate) fn contents(&self) -> Result<String, Refusal>
         ensures contents { IfOk result (λ t. string_bytes t ≡ contents_text self.now) }
         ensures refused { IfErr result (λ e. (e ≡ Refusal.Memory) × IsTrue (has_contents self.now)) }
@@ -131,7 +132,7 @@ impl Grid {
         Ok(text)
     }
 
-    /// As made anew, with no memory taken: the rows that scrolled away are given up, the others emptied.
+    /// Resets it to a new one, without taking memory: the rows that scrolled away are dropped, the others emptied.
     pub(crate) fn reset(&mut self)
         ensures { self.new ≡ blank_screen self.old.height self.old.columns }
     {
@@ -141,7 +142,7 @@ impl Grid {
         self.column = 0;
     }
 
-    /// Carries out an operation. Refused: `Memory`; all is unchanged then.
+    /// Carries out an operation. Refused: `Memory`; then nothing has changed.
     pub(crate) fn perform(&mut self, op: Op) -> Result<(), Refusal>
         ensures ok { OnOk result (self.new ≡ performed (op_of op) self.old) }
         ensures err { OnErr result (self.new ≡ self.old) }
@@ -161,14 +162,14 @@ impl Grid {
         Ok(())
     }
 
-    /// To the front of the row.
+    /// Goes to the front of the row.
     fn go_to_front(&mut self)
         ensures { self.new ≡ performed Return self.old }
     {
         self.column = 0;
     }
 
-    /// This many rows up, to the first row of the window at most.
+    /// This many rows up, at most to the first row of the window.
     fn go_up(&mut self, rows: u16)
         ensures { self.new ≡ performed (Up rows) self.old }
     {
@@ -176,7 +177,7 @@ impl Grid {
         self.row = self.row.saturating_sub(usize::from(rows)).max(top);
     }
 
-    /// This many rows down, to the last row of the window at most.
+    /// This many rows down, at most to the last row of the window.
     fn go_down(&mut self, rows: u16)
         ensures { self.new ≡ performed (Down rows) self.old }
     {
@@ -184,7 +185,7 @@ impl Grid {
         self.row += usize::from(rows).min(room);
     }
 
-    /// This many columns right, to the last column at most; a waiting cursor stays.
+    /// This many columns right, at most to the last column; a waiting cursor stays.
     fn go_right(&mut self, columns: u16)
         ensures { self.new ≡ performed (Right columns) self.old }
     {
@@ -194,7 +195,7 @@ impl Grid {
         }
     }
 
-    /// This many columns left, to the first column at most.
+    /// This many columns left, at most to the first column.
     fn go_left(&mut self, columns: u16)
         ensures { self.new ≡ performed (Left columns) self.old }
     {
@@ -209,7 +210,7 @@ impl Grid {
         row.empty();
     }
 
-    /// One row down; after the last row comes a blank one. Refused: `Memory`; all is unchanged then.
+    /// One row down; after the last row comes a blank one. Refused: `Memory`; then nothing has changed.
     fn feed_line(&mut self) -> Result<(), Refusal>
         ensures ok { OnOk result (self.new ≡ line_feed self.old) }
         ensures err { OnErr result (self.new ≡ self.old) }
@@ -224,7 +225,7 @@ impl Grid {
         Ok(())
     }
 
-    /// Shows a character at the cursor. Refused: `Memory`; all is unchanged then.
+    /// Writes a character at the cursor. Refused: `Memory`; then nothing has changed.
     #[inline]
     pub(crate) fn put(&mut self, c: char) -> Result<(), Refusal>
         ensures ok { OnOk result (self.new ≡ performed (Put c) self.old) }
@@ -245,7 +246,7 @@ impl Grid {
         usize::from(self.columns - self.column)
     }
 
-    /// The same where a character takes one column, else none.
+    /// The columns from the cursor to the row's end, if a character takes one column; otherwise 0.
     pub(crate) fn room_for(&mut self, c: char) -> usize
         ensures same { self.new ≡ self.old }
         ensures narrow { 0 < result → TakesOneColumn c }
@@ -257,8 +258,8 @@ impl Grid {
         }
     }
 
-    /// Shows characters of one column from the cursor on: all of them, or the first alone. Says how many. Refused: `Memory`;
-    /// all is unchanged then.
+    /// Writes characters of one column from the cursor on: all of them, or only the first. Returns how many. Refused: `Memory`; then
+    /// nothing has changed.
     pub(crate) fn put_run(&mut self, run: Run<'_>) -> Result<usize, Refusal>
         requires some { 0 < length (run_chars run) }
         requires narrow { All TakesOneColumn (run_chars run) }
@@ -276,7 +277,7 @@ impl Grid {
         Ok(written)
     }
 
-    /// Joins a mark to the character before the cursor, if there is one. Refused: `Memory`; all is unchanged then.
+    /// Joins a mark to the character before the cursor, if there is one. Refused: `Memory`; then nothing has changed.
     fn put_mark(&mut self, mark: char) -> Result<(), Refusal>
         ensures ok { OnOk result (self.new ≡ put_mark mark self.old) }
         ensures err { OnErr result (self.new ≡ self.old) }
@@ -287,7 +288,7 @@ impl Grid {
         row.join(at, mark)
     }
 
-    /// Shows a character of this many columns. Refused: `Memory`; all is unchanged then.
+    /// Writes a character of this many columns. Refused: `Memory`; then nothing has changed.
     #[inline]
     fn put_wide(&mut self, c: char, columns: usize) -> Result<(), Refusal>
         requires some { 0 < columns }
@@ -306,7 +307,7 @@ impl Grid {
         self.put_here(c, columns)
     }
 
-    /// Shows a character of this many columns at the front of the row below. Refused: `Memory`; all is unchanged then.
+    /// Writes a character of this many columns at the front of the row below. Refused: `Memory`; then nothing has changed.
     fn put_below(&mut self, c: char, columns: usize) -> Result<(), Refusal>
         requires some { 0 < columns }
         requires columns { char_width false c ≡ Some columns }
@@ -323,7 +324,7 @@ impl Grid {
         }
     }
 
-    /// The same where there is a row below.
+    /// As `put_below`, if there is a row below.
     fn put_on_next_row(&mut self, c: char, columns: usize) -> Result<(), Refusal>
         requires some { 0 < columns }
         requires columns { char_width false c ≡ Some columns }
@@ -342,7 +343,7 @@ impl Grid {
         Ok(())
     }
 
-    /// The same where there is none: the row is made and written before anything changes.
+    /// As `put_below`, if there is none: the row is made and written before anything changes.
     fn put_on_new_row(&mut self, c: char, columns: usize) -> Result<(), Refusal>
         requires some { 0 < columns }
         requires columns { char_width false c ≡ Some columns }
@@ -361,7 +362,7 @@ impl Grid {
         Ok(())
     }
 
-    /// Shows a character of this many columns, which fits into the row. Refused: `Memory`; all is unchanged then.
+    /// Writes a character of this many columns, which fits into the row. Refused: `Memory`; then nothing has changed.
     #[inline]
     fn put_here(&mut self, c: char, columns: usize) -> Result<(), Refusal>
         requires some { 0 < columns }
@@ -408,7 +409,7 @@ fn written_length(rows: &[Row]) -> usize
     0
 }
 
-/// Appends the texts of rows to `out`, a line feed between each two. Refused: `Memory`, never for no rows.
+/// Appends the texts of rows to `out`, a line feed between each two. Refused: `Memory`, never without rows.
 fn show_joined(alloc: Global, rows: &[Row], out: &mut String) -> Result<(), Refusal>
     requires { string_bytes out.old ≡ [] }
     ensures shown { OnOk result (string_bytes out.new ≡ join_with_byte 0x0A (map row_text rows.now)) }
@@ -423,7 +424,7 @@ fn show_joined(alloc: Global, rows: &[Row], out: &mut String) -> Result<(), Refu
     Ok(())
 }
 
-/// Empties each cell of rows that have this many.
+/// Empties each cell of rows with this many.
 fn clear_rows(rows: &mut [Row], columns: u16)
     requires { (k : ℕ) → k < length rows.old → length (slice_index_or rows.old k []) ≡ columns }
     ensures { rows.new ≡ replicate (length rows.old) (blank_row columns) }

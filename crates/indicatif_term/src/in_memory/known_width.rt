@@ -1,10 +1,10 @@
-//! The columns of a character, remembered while it comes again: a bar writes one many times in a row.
+//! The columns of a character, remembered while it is repeated: a bar writes one many times in a row.
 ghost use Rattle.std.specs.Prelude.{◌≡◌, false};
 ghost use Rattle.unicode_width.specs.Width.{char_width};
 
 use unicode_width::UnicodeWidthChar;
 
-/// A character and its columns; none where it has no width.
+/// A character and its columns; none if it has no width.
 #[derive(Drop)]
 pub(crate) struct KnownWidth {
     of: char,
@@ -13,7 +13,7 @@ pub(crate) struct KnownWidth {
 }
 
 impl KnownWidth {
-    /// That of a space.
+    /// The width of a space.
     pub(crate) fn new() -> KnownWidth {
         KnownWidth {
             of: ' ',
@@ -21,7 +21,7 @@ impl KnownWidth {
         }
     }
 
-    /// The columns of this character, which is the one known from here on.
+    /// The columns of this character, which is then the remembered one.
     #[inline(always)]
     pub(crate) fn columns(&mut self, c: char) -> Option<usize>
         ensures { result ≡ char_width false c }

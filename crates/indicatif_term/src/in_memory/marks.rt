@@ -1,4 +1,4 @@
-//! The marks of a row: one list, in the order in which they were joined.
+//! The marks of a row: one list, in the order of joining.
 ghost use Rattle.std.specs.Prelude.{◌≡◌, ◌+◌, ◌++◌, ◌∷◌, [], IfOk, IfErr, OnOk, OnErr, length, reverse, encode_utf8_all, string_bytes};
 ghost use Rattle.indicatif_term.specs.Inside.Marks.{chain};
 ghost use Rattle.indicatif_term.specs.Pictures.{is_empty};
@@ -6,15 +6,14 @@ ghost use Rattle.indicatif_term.specs.Pictures.{is_empty};
 use indicatif_text::columns::Refusal;
 use std::alloc::Global;
 
-/// A mark, and the place of the one that was joined to the same character before it: counted from 1, and 0 where there
-/// is none.
+/// A mark, and the place of the one that was joined to the same character before it: counted from 1, and 0 if there is none.
 #[derive(Clone, Copy, Drop)]
 pub(crate) struct CombiningMark {
     character: char,
     before: u32,
 }
 
-/// Puts a mark behind those of the row, and gives its place. Refused: `Memory`, also where it has no place below 2^32.
+/// Adds a mark after those of the row, and returns its place. Refused: `Memory`, also if there is no place below 2^32 left.
 pub(crate) fn store_mark(
     marks: &mut Vec<CombiningMark>,
     before: u32,

@@ -1,4 +1,4 @@
-//! A row of cells, and what writing into it does to its wide characters.
+//! A row of cells, and how writing into it changes its wide characters.
 ghost use Rattle.std.specs.Prelude.{◌≡◌, ◌+◌, ◌<◌, ◌≤◌, ◌++◌, ◌⊎◌, IfOk, IfErr, OnOk, OnErr, map, length, drop, take, string_bytes, encode_utf8_all, flat_map};
 ghost use Rattle.std.specs.List.{list_all};
 ghost use Rattle.indicatif_text.specs.Columns.{blank_row};
@@ -16,8 +16,7 @@ use indicatif_text::columns::Refusal;
 use std::alloc::Global;
 use std::marker::Model;
 
-/// A row of cells, of which those up to the last one that was written are kept: a row that nothing was written into
-/// takes no memory of its own.
+/// A row of cells, kept up to the last one that was written: a row without written cells takes no memory of its own.
 #[derive(Drop)]
 pub(crate) struct Row {
     columns: u16,
@@ -39,7 +38,7 @@ impl Model for Row {
 }
 
 impl Row {
-    /// A row of this many empty cells. No memory is taken.
+    /// A row of this many empty cells. Takes no memory.
     pub(crate) fn blank(alloc: Global, columns: u16) -> Row
         ensures { result ≡ blank_row columns }
     {
@@ -58,8 +57,8 @@ impl Row {
         self.marks.clear();
     }
 
-    /// Writes a character of `columns` columns at column `at`, and empties the wide characters of which it takes a cell.
-    /// Refused: `Memory`; all is unchanged then.
+    /// Writes a character of `columns` columns at column `at`, and empties the wide characters that it overwrites in part. Refused:
+    /// `Memory`; then nothing has changed.
     #[inline]
     pub(crate) fn write(&mut self, at: usize, c: char, columns: usize) -> Result<(), Refusal>
         requires some { 0 < columns }
@@ -80,8 +79,8 @@ impl Row {
         Ok(())
     }
 
-    /// Writes characters of one column from column `at` on: all where no cell is kept from there on, else the first. Says how
-    /// many. Refused: `Memory`; all is unchanged then.
+    /// Writes characters of one column from column `at` on: all if no cell is kept from there on, otherwise the first. Returns how many.
+    /// Refused: `Memory`; then nothing has changed.
     pub(crate) fn write_run(&mut self, at: usize, run: Run<'_>) -> Result<usize, Refusal>
         requires some { 0 < length (run_chars run) }
         requires fits { at + length (run_chars run) ≤ length self.old }
@@ -99,8 +98,7 @@ impl Row {
         Ok(1)
     }
 
-    /// Joins a mark to the character that ends just before column `at`, if one does. Refused: `Memory`; all is
-    /// unchanged then.
+    /// Joins a mark to the character that ends just before column `at`, if one does. Refused: `Memory`; then nothing has changed.
     pub(crate) fn join(&mut self, at: usize, mark: char) -> Result<(), Refusal>
         requires { at ≤ length self.old }
         ensures joined { OnOk result (self.new ≡ joined_at at mark self.old) }
@@ -114,7 +112,7 @@ impl Row {
         Ok(())
     }
 
-    /// Whether one of its cells was written and not emptied since.
+    /// Whether one of its cells was written, and not emptied since.
     pub(crate) fn has_written(&self) -> bool
         ensures { result ≡ has_written self.now }
     {
@@ -133,7 +131,7 @@ impl Row {
         shown_length(&self.cells, &self.marks) == 0
     }
 
-    /// Its characters with their marks, without the blanks at its end; an empty cell before is a space. Refused: `Memory`.
+    /// Its characters with their marks, without the blanks at its end; an empty cell before them is a space. Refused: `Memory`.
     pub(crate) fn glyphs(&self, alloc: Global) -> Result<Vec<Glyph>, Refusal>
         ensures glyphs { IfOk result (λ v. v.items ≡ glyphs_in self.now) }
         ensures refused { IfErr result (λ e. e ≡ Refusal.Memory) }
@@ -198,8 +196,7 @@ fn shown_length(cells: &[Cell], marks: &[CombiningMark]) -> usize
     0
 }
 
-/// Joins a mark to the character that ends just before column `at`, if one does. Refused: `Memory`; all is unchanged
-/// then.
+/// Joins a mark to the character that ends just before column `at`, if one does. Refused: `Memory`; then nothing has changed.
 fn join_before(
     cells: &mut [Cell],
     marks: &mut Vec<CombiningMark>,
@@ -225,7 +222,7 @@ fn join_before(
     Ok(())
 }
 
-/// Puts empty cells behind the others, so that there are `end` cells at least. Refused: `Memory`.
+/// Appends empty cells, so that there are at least `end` cells. Refused: `Memory`.
 #[inline]
 fn lengthen(cells: &mut Vec<Cell>, end: usize) -> Result<(), Refusal>
     ensures same { BeginTheSame end cells.new.items cells.old.items }
@@ -239,7 +236,7 @@ fn lengthen(cells: &mut Vec<Cell>, end: usize) -> Result<(), Refusal>
     Ok(())
 }
 
-/// Empties the cells before column `at` of a wide character that goes on there.
+/// Empties the cells before column `at` of a wide character that continues there.
 #[inline]
 fn empty_before(cells: &mut [Cell], at: usize)
     requires { at ≤ length cells.old }

@@ -1,4 +1,4 @@
-//! Characters of one column, which are written into a row at once.
+//! Characters of one column, which are written into a row together.
 ghost use Rattle.std.specs.Prelude.{◌≡◌, ◌+◌, ◌*◌, ◌≤◌, ◌<◌, ◌++◌, All, IsTrue, OnOk, OnErr, IfErr, length, take, drop, slice_index, replicate};
 ghost use Rattle.std.specs.Int.{IsInRange};
 ghost use Rattle.std.specs.List.{repeat};
@@ -12,12 +12,12 @@ use indicatif_text::columns::Refusal;
 pub(crate) enum Run<'a> {
     /// Printable ASCII.
     Ascii(&'a [u8]),
-    /// A character so many times.
+    /// A character, and how often it is repeated.
     Repeated(char, usize),
 }
 
 impl Run<'_> {
-    /// How many there are.
+    /// How many texts there are.
     pub(crate) fn len(self) -> usize
         ensures { result ≡ length (run_chars self.entry) }
     {
@@ -38,7 +38,7 @@ impl Run<'_> {
         }
     }
 
-    /// Puts their cells behind the others. Refused: `Memory`; all is unchanged then.
+    /// Appends their cells. Refused: `Memory`; then nothing has changed.
     pub(crate) fn append_to(self, cells: &mut Vec<Cell>) -> Result<(), Refusal>
         ensures appended { OnOk result (cells.new.items ≡ cells.old.items ++ narrow_cells (run_chars self.entry)) }
         ensures err { OnErr result (cells.new.items ≡ cells.old.items) }
@@ -51,7 +51,7 @@ impl Run<'_> {
     }
 }
 
-/// Puts the cells of ASCII characters behind the others. Refused: `Memory`; all is unchanged then.
+/// Appends the cells of ASCII characters. Refused: `Memory`; then nothing has changed.
 fn append_ascii(cells: &mut Vec<Cell>, text: &[u8]) -> Result<(), Refusal>
     ensures appended { OnOk result (cells.new.items ≡ cells.old.items ++ narrow_cells text.now) }
     ensures err { OnErr result (cells.new.items ≡ cells.old.items) }
@@ -64,7 +64,7 @@ fn append_ascii(cells: &mut Vec<Cell>, text: &[u8]) -> Result<(), Refusal>
     Ok(())
 }
 
-/// Puts the cell of a character behind the others so many times. Refused: `Memory`; all is unchanged then.
+/// Appends the cell of a character `count` times. Refused: `Memory`; then nothing has changed.
 fn append_repeated(cells: &mut Vec<Cell>, c: char, count: usize) -> Result<(), Refusal>
     ensures appended { OnOk result (cells.new.items ≡ cells.old.items ++ narrow_cells (replicate count c)) }
     ensures err { OnErr result (cells.new.items ≡ cells.old.items) }
@@ -94,7 +94,7 @@ pub(crate) fn printable_len(bytes: &[u8], most: usize) -> usize
     count
 }
 
-/// How many times the first three bytes stand at the front, up to `most`.
+/// How often the first three bytes are repeated at the front, up to `most`.
 pub(crate) fn repeats_of_three(bytes: &[u8], most: usize) -> usize
     requires three { 3 ≤ length bytes.now }
     requires some { 0 < most }

@@ -1,4 +1,4 @@
-//! What bytes ask of a terminal: characters first, escape sequences next.
+//! The operations of bytes: characters first, escape sequences next.
 ghost use Rattle.std.specs.Prelude.{◌≡◌, ◌<◌, ◌≤◌, length, slice_index, IsTrue, IfSome, option_map};
 ghost use Rattle.indicatif_text.specs.Columns.{is_parameter};
 ghost use Rattle.indicatif_term.specs.Terminal.{idle, byte_step, char_step, plain_step, sequence_op, number_with};
@@ -10,7 +10,7 @@ use crate::in_memory::spelling::Spelling;
 use indicatif_text::columns::{is_parameter, is_parameter_byte};
 use std::marker::Model;
 
-/// Where in an escape sequence the next character stands.
+/// The place of the next character in an escape sequence.
 #[derive(Clone, Copy, Drop)]
 pub(crate) enum Stage {
     /// Outside.
@@ -22,7 +22,7 @@ pub(crate) enum Stage {
 }
 
 impl Stage {
-    /// What a character asks for, and where the next one stands.
+    /// The operation of a character, and the place of the next one.
     pub(crate) fn step(self, c: char) -> (Option<Op>, Stage)
         ensures op { option_map op_of result.0 ≡ (char_step (stage_place self) c).0 }
         ensures place { stage_place result.1 ≡ (char_step (stage_place self) c).1 }
@@ -47,7 +47,7 @@ impl Stage {
     }
 }
 
-/// What a character outside a sequence asks for, and where the next one stands.
+/// The operation of a character outside a sequence, and the place of the next one.
 fn plain_step(c: char) -> (Option<Op>, Stage)
     ensures op { option_map op_of result.0 ≡ (plain_step c).0 }
     ensures place { stage_place result.1 ≡ (plain_step c).1 }
@@ -73,7 +73,7 @@ fn number_with(number: Option<u16>, c: char) -> Option<u16>
     }
 }
 
-/// What the sequence with this number and this last character asks for.
+/// The operation of the sequence with this number and this last character.
 fn sequence_op(number: Option<u16>, c: char) -> Option<Op>
     ensures { option_map op_of result ≡ sequence_op number c }
 {
@@ -98,7 +98,7 @@ pub(crate) struct WholeSequence {
 }
 
 impl WholeSequence {
-    /// The one at the front, if there is one whose last character is ASCII.
+    /// The sequence at the front, if there is one whose last character is ASCII.
     pub(crate) fn of(bytes: &[u8]) -> Option<WholeSequence>
         ensures { IfSome result (λ s. IsWholeSequence bytes.now s.number s.last s.len) }
     {
@@ -121,7 +121,7 @@ impl WholeSequence {
         })
     }
 
-    /// What it asks for.
+    /// Its operation.
     pub(crate) fn op(self) -> Option<Op>
         ensures { option_map op_of result ≡ sequence_op self.number self.last }
     {
@@ -129,7 +129,7 @@ impl WholeSequence {
     }
 }
 
-/// The number of the escape sequence that begins at the front, and how many bytes stand before its last character.
+/// The number of the escape sequence at the front, and how many bytes precede its last character.
 fn sequence_front(bytes: &[u8]) -> (Option<u16>, usize)
     requires some { 2 ≤ length bytes.now }
     requires escape { slice_index bytes.now 0 ≡ 0x1B }
@@ -146,14 +146,14 @@ fn sequence_front(bytes: &[u8]) -> (Option<u16>, usize)
     (number, len)
 }
 
-/// What a byte asks for, and the scanner after it.
+/// The operation of a byte, and the scanner after it.
 #[derive(Drop)]
 pub(crate) struct Reading {
     pub(crate) op: Option<Op>,
     pub(crate) next: Scanner,
 }
 
-/// What was read of a character and of a sequence.
+/// The state after the bytes read of a character and of a sequence.
 #[derive(Drop)]
 pub(crate) struct Scanner {
     stage: Stage,
@@ -174,7 +174,7 @@ impl Model for Scanner {
 }
 
 impl Scanner {
-    /// Nothing was read.
+    /// Before any byte.
     pub(crate) fn new() -> Scanner
         ensures { result ≡ idle }
     {
@@ -184,7 +184,7 @@ impl Scanner {
         }
     }
 
-    /// Whether nothing was read.
+    /// Whether it is between two characters and outside a sequence.
     #[inline]
     pub(crate) fn is_idle(&self) -> bool
         ensures { IsTrue result → self.now ≡ idle }
@@ -195,7 +195,7 @@ impl Scanner {
         }
     }
 
-    /// What a byte asks for, and the scanner after it.
+    /// The operation of a byte, and the scanner after it.
     pub(crate) fn read(&self, byte: u8) -> Reading
         ensures op { option_map op_of result.op ≡ (byte_step self.now byte).0 }
         ensures next { result.next ≡ (byte_step self.now byte).1 }

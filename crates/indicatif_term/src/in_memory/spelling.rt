@@ -1,4 +1,4 @@
-//! The bytes of a character that isn't whole.
+//! The bytes of an incomplete character.
 ghost use Rattle.std.specs.Prelude.{◌≡◌, ◌<◌, [], if◌then◌else◌, length, nat_lt, IsTrue, Some, None};
 ghost use Rattle.std.specs.Str.{is_utf8};
 ghost use Rattle.indicatif_term.specs.Terminal.{is_leading, spelling_with, first_char};
@@ -6,7 +6,7 @@ ghost use Rattle.indicatif_term.specs.Terminal.{is_leading, spelling_with, first
 use std::marker::Model;
 use std::str;
 
-/// At most four bytes, as many as a character has.
+/// At most four bytes, the most that a character has.
 #[derive(Drop)]
 pub(crate) struct Spelling {
     bytes: [u8; 4],
@@ -34,7 +34,7 @@ impl Spelling {
         }
     }
 
-    /// Whether there are none.
+    /// Whether it has no bytes.
     #[inline]
     pub(crate) fn is_empty(&self) -> bool
         ensures { IsTrue result → self.now ≡ [] }
@@ -42,7 +42,7 @@ impl Spelling {
         self.len == 0
     }
 
-    /// These bytes and one more; that one alone where it can begin a character.
+    /// These bytes and one more; only that one if it can begin a character.
     pub(crate) fn with(&self, byte: u8) -> Spelling
         requires { length self.now < 4 }
         ensures { result ≡ spelling_with self.now byte }
@@ -67,7 +67,7 @@ impl Spelling {
         }
     }
 
-    /// What is left of bytes that spell no character: nothing once they are four.
+    /// What is kept of bytes that are no character: nothing once they are four.
     pub(crate) fn left_over(self) -> Spelling
         ensures left_over { result ≡ (if nat_lt (length self) 4 then self else []) }
         ensures short { length result < 4 }

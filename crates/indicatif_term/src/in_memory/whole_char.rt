@@ -1,4 +1,4 @@
-//! Printable characters at the front of bytes, of the lengths that most texts have: ASCII, and three bytes.
+//! Printable characters at the front of bytes, with the usual lengths: one byte (ASCII), and three.
 ghost use Rattle.std.specs.Prelude.{◌<◌, ◌≤◌, ◌∷◌, [], IfSome};
 ghost use Rattle.indicatif_term.specs.Inside.Scanners.{IsWholeChar};
 
@@ -9,7 +9,7 @@ pub(crate) struct WholeChar {
     pub(crate) len: usize,
 }
 
-/// The printable character at the front, if it is of ASCII or of three bytes; others may be left to the scanner.
+/// The printable character at the front, if it has one byte (ASCII) or three; the scanner reads the others.
 #[inline]
 pub(crate) fn whole_char_of(bytes: &[u8]) -> Option<WholeChar>
     ensures { IfSome result (λ f. IsWholeChar bytes.now f.character f.len) }

@@ -1,4 +1,4 @@
--- A template that is half read, in the words of the grammar.
+-- A partly read template, by the grammar.
 use Rattle.std.specs.Prelude.{◌≡◌, ◌⊎◌, ℕ, List, [], ◌∷◌, ◌++◌, map, take, drop, string_bytes, if◌then◌else◌, Result, MatchResult}
 use Rattle.std.specs.Borrow.{Bor}
 use Rattle.std.specs.Str.{chars}
@@ -9,15 +9,13 @@ use Rattle.indicatif_text.specs.declared.template.stored_parts.Kind.{Kind}
 use Rattle.indicatif_text.specs.Template.{TemplatePart, LiteralText, LineBreak, KeyText, TemplatePiece, Char, Break, SpacedBrace, Keyed, LastBrace, LastKey, Front, Takes, Stops, Reads, Refuses, is_open_run, without_open_run, onto_literal, joined_parts}
 use Rattle.indicatif_text.specs.Inside.StoredParts.{part_with, part_at}
 
--- a template that is half read: its parts so far, the literal text that stays whatever follows, and the literal run that an
--- opening brace at the end would take away
+-- a partly read template: its parts so far, the literal text that stays in any case, and the literal run that an opening brace at the end would remove
 pub record Sketch : Type 0 where
   pub done : List TemplatePart
   pub fixed : List ℕ
   pub run : List ℕ
 
--- what the code has drafted, in the words of the grammar: behind the texts of its parts, the first bytes of the literal text, as many
--- as it keeps, stay whatever follows; the others are the run
+-- the code's draft, by the grammar: after the texts of its parts, the given number of bytes of the literal text stay in any case; the others are the run
 unfoldable pub sketch_of : Draft → Sketch
 sketch_of d = record {
   done = map (part_at (take d.start (string_bytes d.texts))) d.parts.items;
@@ -38,15 +36,15 @@ literal_part (c ∷ cs) = LiteralText (c ∷ cs) ∷ []
 abbrev pub sketched_parts : Sketch → List TemplatePart
 sketched_parts s = s.done ++ literal_part (s.fixed ++ s.run)
 
--- a sketch whose literal run stays whatever follows
+-- a sketch whose literal run stays in any case
 abbrev pub fixed_sketch : Sketch → Sketch
 fixed_sketch s = record s { fixed = s.fixed ++ s.run; run = [] }
 
--- a sketch whose literal text was made a part
+-- a sketch whose literal text became a part
 abbrev pub closed_sketch : Sketch → Sketch
 closed_sketch s = record { done = sketched_parts s; fixed = []; run = [] }
 
--- a sketch whose text was made a part of this kind
+-- a sketch whose text became a part of this kind
 abbrev pub parted_sketch : Sketch → Kind → Sketch
 parted_sketch s kind = record { done = s.done ++ part_with kind (s.fixed ++ s.run) ∷ []; fixed = []; run = [] }
 
@@ -54,7 +52,7 @@ parted_sketch s kind = record { done = s.done ++ part_with kind (s.fixed ++ s.ru
 abbrev pub with_part : Sketch → TemplatePart → Sketch
 with_part s part = record { done = sketched_parts s ++ part ∷ []; fixed = []; run = [] }
 
--- a sketch with further characters that stand for themselves
+-- a sketch with further literal characters
 abbrev pub with_run : Sketch → List ℕ → Sketch
 with_run s text = record s { run = s.run ++ text }
 
@@ -76,12 +74,12 @@ after_text (c ∷ cs) parts = onto_literal (c ∷ cs) parts
 unfoldable pub completed : Sketch → List TemplatePiece → List TemplatePart
 completed s ps = s.done ++ (if is_open_run ps then after_text s.fixed [] else after_text (s.fixed ++ s.run) (joined_parts (without_open_run ps)))
 
--- from one sketch and what is left of a text to another: what becomes of the rest becomes of the text
+-- from one sketch and the rest of a text to another: the outcome of the rest is that of the text
 pub record GoesOn (before : Sketch) (text : List ℕ) (after : Sketch) (rest : List ℕ) : Type 0 where
   pub reads : (ps : List TemplatePiece) → Reads rest ps → (qs : List TemplatePiece) × Reads text qs × (completed before qs ≡ completed after ps)
   pub refuses : (place : List ℕ) (error : TemplateError) → Refuses rest place error → Refuses text place error
 
--- a draft has taken up what stands in front of a text, and this text is left; or the error of the text, wherever its place, or of memory
+-- a draft has read the front of a text, and this text is left; or the error of the text, wherever its place, or want of memory
 abbrev pub TakesIn : Front TemplatePiece → Sketch → Sketch → Result (Bor (List ℕ)) TemplateError → Type 0
 TakesIn front before after answer =
     MatchResult answer (λ rest. (piece : TemplatePiece) × (front ≡ Takes (chars rest.now) piece) × (after ≡ added before piece)) (λ e. (e ≡ Memory) ⊎ ((place : List ℕ) × (front ≡ Stops place e)))

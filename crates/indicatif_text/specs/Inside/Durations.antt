@@ -3,7 +3,7 @@ use Rattle.indicatif_text.specs.Format.{TimeSpan, year, week, day, hour, minute,
 use Rattle.indicatif_text.specs.declared.format.durations.TimeUnit.{TimeUnit}
 use Rattle.indicatif_text.specs.declared.format.durations.TimeUnit.TheVariants.{Year, Week, Day, Hour, Minute, Second}
 
--- the unit of a name
+-- the unit with a name
 abbrev pub span_of : TimeUnit → TimeSpan
 span_of Year = year
 span_of Week = week

@@ -1,4 +1,4 @@
--- Texts that have grown, whatever by.
+-- Texts that have grown.
 use Rattle.std.specs.Prelude.{ℕ, List}
 use Rattle.indicatif_text.specs.Range.{Appends}
 

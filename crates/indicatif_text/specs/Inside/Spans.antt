@@ -7,7 +7,7 @@ use Rattle.indicatif_text.specs.declared.spans.Words.TheVariants.{All, Style, Al
 use Rattle.indicatif_text.specs.Inside.StyleWords.{is_word_char}
 use Rattle.indicatif_text.specs.Template.{is_key_char, is_style_char, is_alternative_char}
 
--- a character that stands for itself
+-- a literal character
 abbrev pub is_literal_char : ℕ → Bool
 is_literal_char c = not (c == 0x0A || (c == 0x7B) || (c == 0x7D))
 
@@ -23,7 +23,7 @@ belongs Literal = is_literal_char
 belongs Key = is_key_char
 belongs (Word words) = λ c. in_words words c && is_word_char c
 
--- what the bytes that end a run have in the table
+-- the table's bit of the bytes that end a run
 abbrev pub bit_of : Span → ℕ
 bit_of Literal = 1
 bit_of Key = 2

@@ -1,4 +1,4 @@
--- The parts of a template as they are stored: their texts are one list of bytes, and each part knows the place of its own.
+-- The parts of a template as they are stored: their texts are one list of bytes, and each part has the place of its own.
 use Rattle.std.specs.Prelude.{◌≤◌, ℕ, List, slice_range, All, IsCharBoundary}
 use Rattle.std.specs.Str.{chars}
 use Rattle.indicatif_text.specs.declared.template.stored_parts.Kind.{Kind}
@@ -7,21 +7,21 @@ use Rattle.indicatif_text.specs.declared.template.stored_parts.StoredPart.{Store
 use Rattle.indicatif_text.specs.Template.{TemplatePart, LiteralText, LineBreak, KeyText, plain_layout}
 use Rattle.indicatif_text.specs.Inside.Reading.{layout_of}
 
--- a part of this kind and text
+-- a part with this kind and text
 abbrev pub part_with : Kind → List ℕ → TemplatePart
 part_with Literal text = LiteralText text
 part_with NewLine text = LineBreak
 part_with Key text = KeyText text plain_layout
 part_with (Placeholder options) text = KeyText text (layout_of options)
 
--- what a stored part is, by the bytes of all texts
+-- a stored part, by the bytes of all texts
 abbrev pub part_at : List ℕ → StoredPart → TemplatePart
 part_at texts part = part_with part.kind (chars (slice_range texts part.start part.end))
 
--- the text of a stored part is a text of its own among all
+-- the text of a stored part lies within all texts
 abbrev pub IsIn : List ℕ → StoredPart → Type 0
 IsIn texts part = (part.start ≤ part.end) × IsCharBoundary texts part.start × IsCharBoundary texts part.end
 
--- and that of each of these
+-- the texts of all these parts do
 abbrev pub AreIn : List ℕ → List StoredPart → Type 0
 AreIn texts parts = All (IsIn texts) parts

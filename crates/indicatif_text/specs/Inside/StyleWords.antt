@@ -4,11 +4,11 @@ use Rattle.std.specs.List.{last_or}
 use Rattle.indicatif_text.specs.declared.style_words.Style.{Style}
 use Rattle.indicatif_text.specs.StyleWords.{foreground_number, background_number, colour_number, colour_words, background_words, sequence_of}
 
--- the foreground's number behind a further word
+-- the foreground's number after a further word
 abbrev pub foreground_after : Option ℕ → List ℕ → Option ℕ
 foreground_after before word = last_or before (option_to_list (colour_number 30 colour_words word))
 
--- the background's number behind a further word
+-- the background's number after a further word
 abbrev pub background_after : Option ℕ → List ℕ → Option ℕ
 background_after before word = last_or before (option_to_list (colour_number 40 background_words word))
 
@@ -31,7 +31,7 @@ is_word_char c = not (c == 0x2E)
 abbrev pub sequence_if : Option ℕ → List ℕ
 sequence_if number = flat_map sequence_of (option_to_list number)
 
--- what stands behind a text that these sequences stand before: the one that ends them, unless there are none
+-- what follows a text after these sequences: the reset, unless there are none
 abbrev pub closing_of : List ℕ → List ℕ
 closing_of [] = []
 closing_of (c ∷ cs) = sequence_of 0

@@ -19,7 +19,7 @@ pub(crate) fn decimal_text(n: u64) -> ShortText
     prefixed_text(n, 1000, b"kMGTPE", "B")
 }
 
-/// A number of bytes by powers of `base`, with the prefixes' letters and what follows the letter.
+/// A number of bytes by powers of `base`, with the prefixes' letters and the rest of the unit.
 #[inline(always)]
 fn prefixed_text(n: u64, base: u64, letters: &[u8; 6], tail: &str) -> ShortText
     requires low { 1000 ≤ base }
@@ -53,7 +53,7 @@ struct Power {
     exponent: usize,
 }
 
-/// The greatest of the first six powers of `base` that is at most `n`, or the first.
+/// The greatest of the first six powers of `base` that is at most `n`, or otherwise the first.
 #[inline(always)]
 fn prefix_power(base: u64, n: u64) -> Power
     requires low { 1000 ≤ base }

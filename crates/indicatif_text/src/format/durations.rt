@@ -73,7 +73,7 @@ impl TimeUnit {
     }
 }
 
-/// A duration as so many of a unit.
+/// A duration as a count of a unit.
 #[derive(Clone, Copy, Drop)]
 struct CountOfUnit {
     count: u64,
@@ -81,7 +81,7 @@ struct CountOfUnit {
 }
 
 impl CountOfUnit {
-    /// A duration in the unit that people tell it in.
+    /// A duration in the unit that `HumanDuration` shows.
     fn of(nanos: u64) -> CountOfUnit
         ensures count { result.count ≡ (count_and_unit nanos).0 }
         ensures unit { span_of result.unit ≡ (count_and_unit nanos).1 }

@@ -16,7 +16,7 @@ pub(crate) struct Quotient {
     pub(crate) den: u64,
 }
 
-/// A long division: what is left after each decimal.
+/// A long division: the remainder after each decimal.
 #[derive(Drop)]
 struct LongDivision {
     rest: u64,
@@ -25,7 +25,7 @@ struct LongDivision {
 }
 
 impl LongDivision {
-    /// The division behind the point.
+    /// The division after the point.
     fn new(quotient: Quotient) -> LongDivision
         requires { 0 < quotient.den }
         ensures rest { result.rest ≡ quotient.num % quotient.den }
@@ -58,20 +58,20 @@ impl LongDivision {
     }
 }
 
-/// A quotient rounded at some decimals, to nearest, ties to even.
+/// A quotient rounded to some decimals, to nearest, ties to even.
 #[derive(Clone, Copy, Drop)]
 pub(crate) struct Rounded {
-    /// What stands before the point.
+    /// The digits before the point, as a number.
     pub(crate) whole: u128,
-    /// How many decimals stand behind it, without the zeros at the end.
+    /// How many decimals follow, without the zeros at the end.
     pub(crate) shown: u16,
-    /// Whether the last of them is one more than the division gives; without decimals, whether `whole` is.
+    /// Whether the last of them is rounded up from the division's digit; without decimals, whether `whole` is.
     pub(crate) up: bool,
 }
 
 impl Rounded {
-    /// One pass over the decimals: the last that is no zero ends a number that isn't raised, the last that is no nine one
-    /// that is.
+    /// One pass over the decimals: a number that is rounded down ends in its last decimal other than 0, one that is rounded up in its last
+    /// other than 9.
     pub(crate) fn of(quotient: Quotient, decimals: u16) -> Rounded
         requires { 0 < quotient.den }
         ensures shown { result.shown ≤ decimals }
@@ -112,7 +112,7 @@ impl Rounded {
     }
 }
 
-/// The last place so far that counts: `place`, unless its digit is passed over.
+/// The last significant place so far: `place`, unless its digit is skipped.
 #[inline(always)]
 fn last_place(is_passed_over: bool, before: u16, place: u16) -> u16
     ensures { result ≡ (if is_passed_over then before else place) }
@@ -136,7 +136,7 @@ pub(crate) fn fill_decimals(quotient: Quotient, up: bool, out: &mut [u8])
     }
 }
 
-/// The text of a quotient at four decimals.
+/// The text of a quotient to four decimals.
 pub(crate) fn four_decimals_text(num: u128, den: u64) -> ShortText
     requires { 0 < den }
     ensures { result ≡ human_float_count num den 4 }
@@ -149,7 +149,7 @@ pub(crate) fn four_decimals_text(num: u128, den: u64) -> ShortText
     joined(rounded.whole, decimals)
 }
 
-/// What stands before the point, and what stands behind it.
+/// The text with these digits before the point, and these after it.
 fn joined(whole: u128, decimals: &[u8]) -> ShortText
     requires short { length decimals.now ≤ 4 }
     requires ascii { IsAscii decimals.now }
@@ -164,7 +164,7 @@ fn joined(whole: u128, decimals: &[u8]) -> ShortText
     text
 }
 
-/// Appends the text of a quotient at so many decimals. All memory comes first, so that a refusal leaves `out` as before.
+/// Appends the text of a quotient to `decimals` decimals. All memory is taken first, so that a refusal leaves `out` unchanged.
 pub(crate) fn push_quotient(
     quotient: Quotient,
     decimals: u16,
@@ -191,7 +191,7 @@ pub(crate) fn push_quotient(
     Ok(())
 }
 
-/// Appends the decimals of a rounded quotient, of which there are some and for which there is room.
+/// Appends the decimals of a rounded quotient, if there are any, in memory that was taken before.
 fn append_decimals(quotient: Quotient, rounded: Rounded, out: &mut String)
     requires den { 0 < quotient.den }
     requires some { 0 < rounded.shown }
@@ -208,7 +208,7 @@ fn append_decimals(quotient: Quotient, rounded: Rounded, out: &mut String)
     append_digit(out, if rounded.up { last + 1 } else { last });
 }
 
-/// Appends a decimal digit for which there is room.
+/// Appends a decimal digit, in memory that was taken before.
 fn append_digit(out: &mut String, digit: u8)
     requires digit { digit < 10 }
     requires room { string_len out.old < string_capacity out.old }

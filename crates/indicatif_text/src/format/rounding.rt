@@ -1,8 +1,8 @@
-//! Rounded quotients, exact at every value.
+//! Rounded quotients, exact for every value.
 ghost use Rattle.std.specs.Prelude.{◌≡◌, ◌*◌, ◌-◌, ◌^◌, ◌<◌, ◌≤◌};
 ghost use Rattle.indicatif_text.specs.Format.{rounds_up, round, rounded_half_up};
 
-/// Whether a quotient is rounded up from the whole number below it, by whether that is odd and by the rest.
+/// Whether a quotient is rounded up from the whole number below it, by whether that is odd and by the remainder.
 #[inline(always)]
 pub(crate) fn rounds_up(odd: bool, rest: u64, den: u64) -> bool
     requires { rest < den }
@@ -12,8 +12,8 @@ pub(crate) fn rounds_up(odd: bool, rest: u64, den: u64) -> bool
     rest > missing || (rest == missing && odd)
 }
 
-/// The nearest whole number to the quotient `num / den`, the even one of two; `den` is above 0, and the quotient below 2^64 - 1. It
-/// takes no memory.
+/// The nearest whole number to the quotient `num / den`, the even one of a tie; `den` is above 0, and the quotient below 2^64 - 1. It takes
+/// no memory.
 ///
 /// ```
 /// nearest(7, 2) // 4

@@ -7,10 +7,10 @@ use itoa::write_digits;
 use std::marker::Model;
 use std::str::from_utf8_unchecked;
 
-/// The bytes that a text has room for.
+/// The most bytes of a text.
 const ROOM: usize = 64;
 
-/// Bytes of ASCII as a text.
+/// ASCII bytes as a text.
 #[inline(always)]
 pub(crate) fn ascii_text(bytes: &[u8]) -> &str
     requires { IsAscii bytes.now }
@@ -19,14 +19,14 @@ pub(crate) fn ascii_text(bytes: &[u8]) -> &str
     unsafe { from_utf8_unchecked(bytes) }
 }
 
-/// A text of at most 64 bytes of ASCII, written from its end to its front.
+/// A text of at most 64 ASCII bytes, written from its end to its front.
 #[derive(Drop)]
 pub(crate) struct ShortText {
     bytes: [u8; ROOM],
     start: usize,
 }
 
-/// A short text is its bytes.
+/// Contracts see a short text as its bytes.
 impl Model for ShortText {
     ghost Value = { List ℕ };
 
@@ -47,7 +47,7 @@ impl ShortText {
         }
     }
 
-    /// The text as it stands.
+    /// The current text.
     #[inline(always)]
     pub(crate) fn as_str(&self) -> &str
         ensures { result.now ≡ self.now }
@@ -55,7 +55,7 @@ impl ShortText {
         ascii_text(&self.bytes[self.start..])
     }
 
-    /// Puts a byte of ASCII in front.
+    /// Puts an ASCII byte in front.
     #[inline(always)]
     pub(crate) fn prepend(&mut self, byte: u8)
         requires room { length self.old < 64 }
@@ -66,7 +66,7 @@ impl ShortText {
         self.bytes[self.start] = byte;
     }
 
-    /// Puts a text of ASCII in front.
+    /// Puts an ASCII text in front.
     #[inline(always)]
     pub(crate) fn prepend_str(&mut self, text: &str)
         requires room { length text.now + length self.old ≤ 64 }
@@ -76,7 +76,7 @@ impl ShortText {
         self.prepend_bytes(text.as_bytes());
     }
 
-    /// Puts bytes of ASCII in front.
+    /// Puts ASCII bytes in front.
     #[inline(always)]
     pub(crate) fn prepend_bytes(&mut self, text: &[u8])
         requires room { length text.now + length self.old ≤ 64 }
@@ -132,7 +132,7 @@ impl ShortText {
         self.prepend_number(left);
     }
 
-    /// The same for numbers of 128 bits.
+    /// Puts the numeral of a number of 128 bits in front, with a comma before every third digit from the right.
     pub(crate) fn prepend_wide_count(&mut self, n: u128)
         requires { length (human_count n) + length self.old ≤ 64 }
         ensures { self.new ≡ human_count n ++ self.old }

@@ -1,4 +1,4 @@
-//! A template that is half read.
+//! A partly read template.
 ghost use Rattle.std.specs.Prelude.{◌≡◌, ℕ, List, ◌∷◌, ◌++◌, [], ◌⊎◌, ◌<◌, chars, string_bytes, take, drop, length, OnOk, IfOk, IfErr, IsCharBoundary};
 ghost use Rattle.indicatif_text.specs.Inside.StoredParts.{AreIn};
 
@@ -9,11 +9,11 @@ use crate::template::stored_parts::{Kind, StoredPart};
 use crate::template::{Template, TemplateError};
 use std::alloc::{AllocError, Global};
 
-/// The most parts for which room is taken before they come.
+/// The most parts for which memory is taken in advance.
 const FIRST_PARTS: usize = 16;
 
-/// The parts so far, their texts up to the byte `start`, and behind them the literal text that comes next. Its first `fixed` bytes stay
-/// whatever follows; the others are the literal run, which an opening brace at the end would take away.
+/// The parts so far, their texts up to the byte `start`, and after them the literal text that comes next. Its first `fixed` bytes stay in
+/// any case; the others are the literal run, which an opening brace at the end would remove.
 #[derive(Drop)]
 pub(super) struct Draft {
     parts: Vec<StoredPart>,
@@ -30,7 +30,7 @@ impl Draft {
     ghost use Rattle.indicatif_text.specs.Inside.Reading.{layout_of};
     ghost use Rattle.indicatif_text.specs.Inside.Draft.{Sketch, GoesOn, TakesIn, sketch_of, empty_sketch, sketched_parts, fixed_sketch, closed_sketch, parted_sketch, with_part, with_run, added};
 
-    /// Nothing so far, with room for the texts of a text of `len` bytes, and for a part to every four of them, but for a few alone.
+    /// Nothing yet, with memory for the texts of a text of `len` bytes, and for one part for every four bytes, up to `FIRST_PARTS`.
     pub(super) fn new(alloc: Global, len: usize) -> Result<Draft, AllocError>
         ensures { IfOk result (λ draft. sketch_of draft ≡ empty_sketch) }
     {
@@ -44,14 +44,14 @@ impl Draft {
         })
     }
 
-    /// Puts the literal run to the text that stays.
+    /// Moves the literal run to the text that stays.
     fn fix_run(&mut self)
         ensures { sketch_of self.new ≡ fixed_sketch (sketch_of self.old) }
     {
         self.fixed = self.texts.len() - self.start;
     }
 
-    /// Makes the text behind the parts the text of a further part.
+    /// Makes the text after the parts the text of a further part.
     #[inline]
     fn close(&mut self, kind: Kind) -> Result<(), AllocError>
         ensures { OnOk result (sketch_of self.new ≡ parted_sketch (sketch_of self.old) kind) }
@@ -84,7 +84,7 @@ impl Draft {
         self.close(Kind::NewLine)
     }
 
-    /// Adds characters that stand for themselves.
+    /// Adds literal characters.
     #[inline]
     pub(super) fn push_run(&mut self, text: &str) -> Result<(), AllocError>
         ensures { OnOk result (sketch_of self.new ≡ with_run (sketch_of self.old) (chars text.now)) }
@@ -93,7 +93,7 @@ impl Draft {
         Ok(())
     }
 
-    /// Adds a character that stands for itself.
+    /// Adds a literal character.
     #[inline(never)]
     fn push_literal(&mut self, c: char) -> Result<(), AllocError>
         ensures { OnOk result (sketch_of self.new ≡ added (sketch_of self.old) (Char c)) }
@@ -110,7 +110,7 @@ impl Draft {
         self.texts.truncate(self.start + self.fixed);
     }
 
-    /// Adds an opening brace that a white space makes literal.
+    /// Adds an opening brace that is literal because of a white space.
     #[inline(never)]
     fn push_spaced(&mut self, key: &str, space: char) -> Result<(), AllocError>
         ensures { OnOk result (sketch_of self.new ≡ added (sketch_of self.old) (SpacedBrace ((0x7B ∷ chars key.now) ++ space ∷ []))) }
@@ -140,9 +140,9 @@ impl Draft {
         self.close(Kind::Key)
     }
 
-    /// Reads the options of the placeholder that was begun, and adds it. Answers what is left of the text.
+    /// Reads the options of the placeholder that was begun, and adds it. Returns the rest of the text.
     ///
-    /// Refused: what the options refuse; `Memory`.
+    /// Refused: as the options; `Memory`.
     #[inline(never)]
     fn read_options<'a>(&mut self, text: &'a str) -> Result<&'a str, TemplateError>
         ensures { (sketch : Sketch) (key : List ℕ) → sketch_of self.old ≡ with_run (closed_sketch sketch) key
@@ -154,7 +154,7 @@ impl Draft {
         Ok(left)
     }
 
-    /// Takes up an opening brace and these key characters, behind which the text ends.
+    /// Adds an opening brace and these key characters, at the end of the text.
     #[inline(never)]
     fn push_unfinished(&mut self, key: &str)
         ensures { sketch_of self.new ≡ added (sketch_of self.old) (unfinished (chars key.now)) }
@@ -164,9 +164,9 @@ impl Draft {
         }
     }
 
-    /// Reads what an opening brace begins, by the key characters behind it and the text after them, and answers what is left of it.
+    /// Reads what an opening brace begins, by the key characters after it and the text after them, and returns the rest.
     ///
-    /// Refused: `Unexpected` in `MaybeOpen` where there is no key; what the options refuse; `Memory`.
+    /// Refused: `Unexpected` in `MaybeOpen` if there is no key; as the options; `Memory`.
     #[inline]
     fn read_key<'a>(&mut self, key: &'a str, after: &'a str) -> Result<&'a str, TemplateError>
         ensures { TakesIn (key_ends (chars key.now) (chars after.now)) (sketch_of self.old) (sketch_of self.new) result }
@@ -191,9 +191,9 @@ impl Draft {
         Ok(rest)
     }
 
-    /// Reads what an opening brace begins, before this text, and answers what is left of it.
+    /// Reads what an opening brace begins, by the text after it, and returns the rest.
     ///
-    /// Refused: `Unexpected` in `MaybeOpen` where there is no key; what the options refuse; `Memory`.
+    /// Refused: `Unexpected` in `MaybeOpen` if there is no key; as the options; `Memory`.
     #[inline]
     fn read_open<'a>(&mut self, text: &'a str) -> Result<&'a str, TemplateError>
         ensures { TakesIn (opened (chars text.now)) (sketch_of self.old) (sketch_of self.new) result }
@@ -210,9 +210,9 @@ impl Draft {
         self.read_key(key, after)
     }
 
-    /// Reads what a closing brace begins, before this text, and answers what is left of it.
+    /// Reads what a closing brace begins, by the text after it, and returns the rest.
     ///
-    /// Refused: `Unexpected` in `DoubleClose` where another character follows; `Memory`.
+    /// Refused: `Unexpected` in `DoubleClose` if another character follows; `Memory`.
     #[inline(never)]
     fn read_close<'a>(&mut self, text: &'a str) -> Result<&'a str, TemplateError>
         ensures { TakesIn (closed (chars text.now)) (sketch_of self.old) (sketch_of self.new) result }
@@ -229,9 +229,9 @@ impl Draft {
         Ok(rest)
     }
 
-    /// Reads a run of literal characters and the piece behind it, and answers what is left of the text.
+    /// Reads a run of literal characters and the piece after it, and returns the rest of the text.
     ///
-    /// Refused: what the grammar refuses in this piece; `Memory`.
+    /// Refused: as the grammar says for this piece; `Memory`.
     #[inline]
     pub(super) fn read<'a>(&mut self, text: &'a str) -> Result<&'a str, TemplateError>
         ensures leads { IfOk result (λ rest. GoesOn (sketch_of self.old) (chars text.now) (sketch_of self.new) (chars rest.now)) }

@@ -1,4 +1,4 @@
-//! What stands in front of a text that is read as a template. Nothing here takes memory.
+//! Reading at the front of a text. Nothing here takes memory.
 ghost use Rattle.std.specs.Prelude.{◌≡◌, true, false, chars, option_map, take_while, MatchOption, IfOk, IsUtf8};
 ghost use Rattle.indicatif_text.specs.Inside.Spans.{in_words};
 ghost use Rattle.indicatif_text.specs.StyleWords.{numbers_of};
@@ -10,7 +10,7 @@ use crate::spans::{Words, split_first};
 use crate::style_words::Style;
 use crate::template::{Alignment, TemplateError};
 
-/// How a placeholder's text is laid out.
+/// The layout of a placeholder's text.
 #[derive(Clone, Copy, Debug, Drop)]
 pub(super) struct Options {
     pub align: Alignment,
@@ -30,7 +30,7 @@ impl Options {
     };
 }
 
-/// The style that the words in front of a text name, and what follows them; no text is no style.
+/// The style named by the words at the front of a text, and the rest; an empty text is no style.
 #[inline(always)]
 fn style_named<'a>(text: &'a str, words: Words) -> (Option<Style>, &'a str)
     ensures style { option_map numbers_of result.0
@@ -48,18 +48,18 @@ fn style_named<'a>(text: &'a str, words: Words) -> (Option<Style>, &'a str)
 /// Digits and exclamation marks, in any mix.
 #[derive(Clone, Copy, Drop)]
 struct Mix {
-    /// The number of the digits, if there are any; it counts only where it isn't too large.
+    /// The number of the digits, if there are any; it counts only if it isn't too large.
     width: Option<u16>,
     /// Whether the number is past 65,535.
     too_large: bool,
     /// Whether an exclamation mark stands among them.
     truncate: bool,
-    /// The state of the character behind them.
+    /// The state of the character after them.
     state: TemplateState,
 }
 
 impl Mix {
-    /// The mix with a further character; none where that is neither a digit nor an exclamation mark.
+    /// The mix with a further character; none if that is neither a digit nor an exclamation mark.
     fn with(self, c: char) -> Option<Mix>
         ensures { MatchOption result (is_width_char c ≡ false)
             (λ longer. (is_width_char c ≡ true) × TakesUp self c longer) }
@@ -89,7 +89,7 @@ impl Mix {
     }
 }
 
-/// The digits and exclamation marks in front of a text, whose first character is met in `state`, and what follows them.
+/// The digits and exclamation marks at the front of a text, whose first character is met in `state`, and the rest.
 fn read_mix(state: TemplateState, text: &str) -> (Mix, &str)
     ensures mix { IsMix state (take_while is_width_char (chars text.now)) result.0 }
     ensures rest { chars result.1.now ≡ after_run is_width_char (chars text.now) }
@@ -124,7 +124,7 @@ fn alignment_of(c: char) -> Option<Alignment>
     }
 }
 
-/// An alternative style up to the closing brace goes to the options; answers what follows it.
+/// Reads an alternative style up to the closing brace into the options, and returns the rest.
 fn with_alternative<'a>(options: &mut Options, text: &'a str) -> &'a str
     ensures value { with_alternative (layout_of options.old) (chars text.now)
         ≡ Takes (chars result.now) (layout_of options.new) }
@@ -140,7 +140,7 @@ fn with_alternative<'a>(options: &mut Options, text: &'a str) -> &'a str
     }
 }
 
-/// A style up to the closing brace goes to the options, with an alternative one behind a slash; answers what follows the brace.
+/// Reads a style up to the closing brace into the options, with an alternative one after a slash, and returns the rest.
 #[inline(always)]
 fn with_style<'a>(options: &mut Options, text: &'a str) -> &'a str
     ensures value { with_style (layout_of options.old) (chars text.now)
@@ -161,9 +161,9 @@ fn with_style<'a>(options: &mut Options, text: &'a str) -> &'a str
     }
 }
 
-/// Digits and exclamation marks go to the options, and what may follow them up to the closing brace; answers what follows the brace.
+/// Reads digits and exclamation marks into the options, and what may follow them up to the closing brace, and returns the rest.
 ///
-/// Refused: `Unexpected` at a character that fits no case, in `state` where it's the first here; `WidthTooLarge`.
+/// Refused: `Unexpected` at a character that fits no case, in `state` if it is the first here; `WidthTooLarge`.
 #[inline(never)]
 fn with_width<'a>(
     options: &mut Options,
@@ -191,7 +191,7 @@ fn with_width<'a>(
     Ok(with_style(options, rest))
 }
 
-/// The options of a placeholder up to the closing brace, which take the place of these; answers what follows the brace.
+/// Reads the options of a placeholder up to the closing brace in place of these, and returns the rest.
 ///
 /// Refused: `Unexpected` at a character that fits no case; `WidthTooLarge`.
 pub(super) fn with_options<'a>(

@@ -1,4 +1,4 @@
-//! The parts of a template as they are stored: all their texts are one, and each part knows the place of its own.
+//! The parts of a template as they are stored: their texts are one text, and each part has the place of its own.
 ghost use Rattle.std.specs.Prelude.{◌≡◌};
 ghost use Rattle.indicatif_text.specs.Template.{part_of};
 ghost use Rattle.indicatif_text.specs.Inside.StoredParts.{IsIn, part_at};
@@ -6,20 +6,20 @@ ghost use Rattle.indicatif_text.specs.Inside.StoredParts.{IsIn, part_at};
 use crate::template::reading::Options;
 use crate::template::{Alignment, Part};
 
-/// What a part of a template is, but for its text.
+/// A part of a template, except its text.
 #[derive(Clone, Copy, Debug, Drop)]
 pub(super) enum Kind {
-    /// A text that stands as it is.
+    /// A literal text.
     Literal,
     /// The end of a line.
     NewLine,
-    /// The text of a key that has no options.
+    /// A key without options.
     Key,
     /// The text of a key, laid out.
     Placeholder(Options),
 }
 
-/// A part of a template: what it is, and from which byte of the texts to which its own stands. That of a newline is empty.
+/// A part of a template: its kind, and the byte at which its text begins. That of a newline is empty.
 #[derive(Clone, Copy, Debug, Drop)]
 pub(super) struct StoredPart {
     pub kind: Kind,
@@ -28,7 +28,7 @@ pub(super) struct StoredPart {
 }
 
 impl StoredPart {
-    /// The part, whose text stands among these texts.
+    /// The part, with its text from these texts.
     #[tactic(auto, unfolding(crate::specs::Template::part_of))]
     #[inline(always)]
     pub(super) fn part<'a>(&self, texts: &'a str) -> Part<'a>

@@ -1,4 +1,4 @@
-//! Bars and boards that are shared, on terminals in memory, and how they are made.
+//! Shared bars and boards, on terminals in memory, and how they are made.
 use crate::front::clock::RowClock;
 use indicatif::{
     InMemoryTerm, Moment, MultiProgress, NoTracker, ProgressBar, ProgressDrawTarget, ProgressStyle,
@@ -8,18 +8,18 @@ use scripts::got::{Bad, Got};
 use std::alloc::Global;
 use std::sync::Wait;
 
-/// A bar that is shared, as `indicatif` has it.
+/// A shared bar, as `indicatif` has it.
 pub type Front<R> = ProgressBar<InMemoryTerm, RowClock, R>;
 
-/// An owner of such a bar. This is a type of its own, since what is generic (a list, a box, a `Result`) costs the prover much less over it.
+/// An owner of such a bar. This is a separate type, since generic types (a list, a box, a `Result`) cost the prover much less over it.
 #[derive(Drop)]
 pub struct Bar<R: Wait + Copy + Clone + Drop>(pub Front<R>);
 
-/// What comes of a call that gives an owner.
+/// The result of a call that gives an owner.
 pub type Given<R> = Result<Front<R>, Refusal>;
 
 impl<R: Wait + Copy + Clone + Drop> Bar<R> {
-    /// The owner that came of a call.
+    /// The owner from a call.
     pub fn given(given: Given<R>) -> Result<Bar<R>, Bad> {
         match given {
             Ok(bar) => Ok(Bar(bar)),
@@ -33,12 +33,12 @@ impl<R: Wait + Copy + Clone + Drop> Bar<R> {
 pub struct Weak<R: Wait + Copy + Clone + Drop>(WeakProgressBar<InMemoryTerm, RowClock, R>);
 
 impl<R: Wait + Copy + Clone + Drop> Weak<R> {
-    /// Of no bar.
+    /// A weak bar that refers to no bar.
     pub fn never() -> Weak<R> {
         Weak(WeakProgressBar::new())
     }
 
-    /// A copy of that of this bar.
+    /// A weak bar that refers to this bar.
     pub fn of(bar: &Front<R>) -> Result<Weak<R>, Bad> {
         let Ok(weak) = bar.downgrade() else {
             return Err(Bad::Refused(Refusal::Memory));
@@ -60,24 +60,24 @@ impl<R: Wait + Copy + Clone + Drop> Weak<R> {
     }
 }
 
-/// A board that is shared, as `indicatif` has it.
+/// A shared board, as `indicatif` has it.
 pub type FrontBoard<R> = MultiProgress<InMemoryTerm, RowClock, R>;
 
-/// The same as a type of its own.
+/// A shared board as a separate type.
 #[derive(Drop)]
 pub struct Shared<R: Wait + Copy + Clone + Drop>(pub FrontBoard<R>);
 
-/// What is drawn on.
+/// A target to draw on.
 pub type Target = ProgressDrawTarget<InMemoryTerm>;
 
-/// How often a second a target is drawn, and when it was made.
+/// The rate of a target, and when it was made.
 #[derive(Clone, Copy, Drop)]
 pub struct Pace {
     pub hz: u8,
     pub made: Moment,
 }
 
-/// How large terminals are, how often they are drawn where that is limited, and what clocks tell.
+/// The size of terminals, their rate if it is limited, and the moments of clocks.
 #[derive(Clone, Copy, Drop)]
 pub struct Room {
     pub rows: u16,
@@ -96,7 +96,7 @@ impl Room {
         }
     }
 
-    /// The same with a clock.
+    /// A target with a clock.
     pub fn setup(self, alloc: Global) -> Result<Setup<InMemoryTerm, RowClock>, Refusal> {
         Ok(Setup {
             target: self.target(alloc)?,
@@ -105,7 +105,7 @@ impl Room {
     }
 }
 
-/// What bars and boards are made with.
+/// Makes bars and boards.
 #[derive(Drop)]
 pub struct Maker<R> {
     pub rt: R,
@@ -114,7 +114,7 @@ pub struct Maker<R> {
 }
 
 impl<R: Wait + Copy + Clone + Drop> Maker<R> {
-    /// A board of this mark, which keeps its history if it is recorded.
+    /// A board with this mark, which keeps its history if it is recorded.
     pub fn board(&self, mark: u64, is_recorded: bool) -> Result<Shared<R>, Bad> {
         let Setup { target, clock } = self.room.setup(self.alloc)?;
         let board = match is_recorded {
@@ -127,7 +127,7 @@ impl<R: Wait + Copy + Clone + Drop> Maker<R> {
         }
     }
 
-    /// A bar that is made so: `new`, without a length where there is none, `spinner`, or on a `target`.
+    /// A bar made in this way: `new`, without a length if there is none, `spinner`, or on a `target`.
     pub fn made(&self, way: &str, len: Option<u64>) -> Result<Bar<R>, Bad> {
         let Setup { target, clock } = self.room.setup(self.alloc)?;
         Bar::given(match (way, len) {
@@ -143,7 +143,7 @@ impl<R: Wait + Copy + Clone + Drop> Maker<R> {
         })
     }
 
-    /// A bar of this length in the style of a template.
+    /// A bar with this length in the style of a template.
     pub fn bar(&self, len: Option<u64>, template: &str) -> Result<Bar<R>, Bad> {
         let style = ProgressStyle::with_template(self.alloc, template)?;
         match self.made("new", len) {
@@ -166,7 +166,7 @@ pub fn spinner(alloc: Global, last: &str) -> Result<ProgressStyle<NoTracker>, Re
     ProgressStyle::with_template(alloc, "{spinner} {msg}")?.tick_strings(&["-", "+", last])
 }
 
-/// What stands on a terminal, if there is one.
+/// The contents of a terminal, if there is one.
 pub fn contents(term: Option<&InMemoryTerm>) -> Option<Result<String, Refusal>> {
     match term {
         Some(term) => Some(term.contents()),
@@ -174,7 +174,7 @@ pub fn contents(term: Option<&InMemoryTerm>) -> Option<Result<String, Refusal>> 
     }
 }
 
-/// Appends what stands there; `nothing` where there is no terminal.
+/// Appends the contents; `nothing` if there is no terminal.
 pub fn push_contents(contents: Option<Result<String, Refusal>>, got: &mut Got) {
     match contents {
         Some(contents) => got.text_of(contents),

@@ -1,10 +1,10 @@
 //! A shared bar that stands alone beside a `LoneBar`, call by call: the same answers, the same rows on the terminal, and the same
 //! readings.
 //!
-//! `beside` begins; `learn CALL` keeps a call (`tell`) for later. `on ROWS COLS FROM STEP RATE` makes both bars anew, on terminals of
-//! this size, by clocks that stand at `FROM` and go on by `STEP`; they are drawn at most `RATE` times a second where that isn't 0, and
-//! with the rate `hidden` there is no terminal. `turn RATE` gives both another terminal. `call CALL` tells both, `each` makes the calls
-//! that were learnt, and `random N SEED` N of them, by the numbers of a generator: `same`, or the call and what differs behind it.
+//! `beside` begins; `learn CALL` keeps a call (`tell`) for later. `on ROWS COLS FROM STEP RATE` makes both bars again, on terminals of this
+//! size, with clocks that start at `FROM` and advance by `STEP`; they are drawn at most `RATE` times a second if that isn't 0, and with the
+//! rate `hidden` there is no terminal. `turn RATE` gives both another terminal. `call CALL` makes a call of both, `each` makes the kept
+//! calls, and `random N SEED` N of them, by the numbers of a generator: `same`, or the call and what differs after it.
 use crate::front::bars::{Bar, Pace, Room, Target, spinner};
 use crate::front::clock::RowClock;
 use crate::front::fronts::room_of;
@@ -25,7 +25,7 @@ use std::sync::Wait;
 #[derive(Drop)]
 struct Lone(LoneBar<NoTracker, InMemoryTerm>);
 
-/// The two, and the clock of the second, which tells what the first one's does.
+/// The two, and the clock of the second, which gives the same moments as the first one's.
 #[derive(Drop)]
 struct Both<R: Wait + Copy + Clone + Drop> {
     shared: Bar<R>,
@@ -35,7 +35,7 @@ struct Both<R: Wait + Copy + Clone + Drop> {
     room: Room,
 }
 
-/// The two, once they were made, and the calls that were learnt.
+/// The two, once they were made, and the kept calls.
 #[derive(Drop)]
 pub struct Pair<R: Wait + Copy + Clone + Drop> {
     rt: R,
@@ -50,7 +50,7 @@ fn style(alloc: Global) -> Result<ProgressStyle<NoTracker>, Refusal> {
     ProgressStyle::with_template(alloc, TEMPLATE)?.tick_strings(&["-", "+", "ok"])
 }
 
-/// What bars are drawn on at this rate.
+/// A target with this rate.
 fn target(alloc: Global, room: Room, rate: &str) -> Result<Target, Bad> {
     let pace = match (rate, number(rate)) {
         ("hidden", _) => return Ok(ProgressDrawTarget::hidden()),
@@ -64,7 +64,7 @@ fn target(alloc: Global, room: Room, rate: &str) -> Result<Target, Bad> {
     }
 }
 
-/// A shared bar that is drawn at this rate.
+/// A shared bar with this rate.
 fn shared<R: Wait + Copy + Clone + Drop>(
     rt: R,
     alloc: Global,
@@ -81,7 +81,7 @@ fn shared<R: Wait + Copy + Clone + Drop>(
     })
 }
 
-/// A `LoneBar` that is drawn at this rate, is made at the moment of the first, and is then told the same style.
+/// A `LoneBar` with this rate, made at the moment of the first, and then given the same style.
 fn lone_bar(
     alloc: Global,
     (room, rate): (Room, &str),
@@ -119,7 +119,7 @@ impl<R: Wait + Copy + Clone + Drop> Both<R> {
         same_rows(rows, rows_of(self.lone.0.term())) == Ok(true)
     }
 
-    /// Whether both tell the same numbers.
+    /// Whether both have the same numbers.
     fn count_same(&self) -> bool {
         let (one, record) = (&self.shared.0, self.lone.0.bar());
         let other = record.state();
@@ -131,7 +131,7 @@ impl<R: Wait + Copy + Clone + Drop> Both<R> {
             && one.is_hidden() == self.lone.0.is_hidden()
     }
 
-    /// Whether both tell the same times; each reading has its moment.
+    /// Whether both have the same times; each reading has its moment.
     fn time_same(&mut self) -> bool {
         let shared = &self.shared.0;
         let one = (shared.eta(), shared.duration());
@@ -143,7 +143,7 @@ impl<R: Wait + Copy + Clone + Drop> Both<R> {
         same && one == (other.elapsed(elapsed), other.per_sec(rate))
     }
 
-    /// Whether both tell the same texts, and the last texts of their styles are the same.
+    /// Whether both have the same texts, and the last texts of their styles are the same.
     fn say_same(&self) -> bool {
         let (one, other) = (&self.shared.0, self.lone.0.bar());
         match (one.message(), one.prefix(), one.style()) {
@@ -176,7 +176,7 @@ impl<R: Wait + Copy + Clone + Drop> Both<R> {
         })
     }
 
-    /// Another target of this rate for both: what the shared one answers, and whether they show the same.
+    /// Sets another target with this rate for both: the answer of the shared one, and whether they show the same.
     fn turn(&mut self, rate: &str, got: &mut Got) {
         let one = target(self.alloc, self.room, rate);
         match (one, target(self.alloc, self.room, rate)) {
@@ -191,7 +191,7 @@ impl<R: Wait + Copy + Clone + Drop> Both<R> {
         }
     }
 
-    /// Makes a call of both; whether nothing differs, and else says what does.
+    /// Makes a call of both; whether nothing differs, otherwise appends what does.
     fn is_same(&mut self, call: &str, got: &mut Got) -> bool {
         match self.differ_by(call) {
             Ok(None) => return true,
@@ -216,7 +216,7 @@ impl<R: Wait + Copy + Clone + Drop> Both<R> {
         got.text(" same");
     }
 
-    /// Makes so many of these calls, by the numbers of a generator.
+    /// Makes `times` of these calls, by the numbers of a generator.
     fn random(&mut self, calls: &[String], (times, mut seed): (u32, u64), got: &mut Got) {
         for _ in 0..times {
             let Some(call) = chosen(calls, &mut seed) else {
@@ -248,7 +248,7 @@ fn chosen<'a>(calls: &'a [String], seed: &mut u64) -> Option<&'a str> {
     }
 }
 
-/// No bars as yet, and no calls.
+/// No bars yet, and no calls.
 pub fn begin<R: Wait + Copy + Clone + Drop>(rt: R, alloc: Global) -> Result<Box<Pair<R>>, Bad> {
     let pair = Pair {
         rt,
@@ -305,7 +305,7 @@ impl<R: Wait + Copy + Clone + Drop> Pair<R> {
     }
 }
 
-/// How often, and the seed of a generator.
+/// The number of calls, and the seed of a generator.
 fn times_of(rest: &str) -> Result<(u32, u64), Bad> {
     let mut words = Words::of(rest);
     let times = (words.number(), words.last());
@@ -314,7 +314,7 @@ fn times_of(rest: &str) -> Result<(u32, u64), Bad> {
 
 // ---- calls of a bar that stands alone
 
-/// Makes the call that a text spells of a `LoneBar`.
+/// Makes the call of a text of a `LoneBar`.
 fn tell_alone(bar: &mut Lone, alloc: Global, text: &str, now: Moment) -> Result<Told, Bad> {
     match (text, text.split_once(' ')) {
         ("suspend", _) => Ok(bar.0.suspend(now, || ()).1),
@@ -329,7 +329,7 @@ fn tell_alone(bar: &mut Lone, alloc: Global, text: &str, now: Moment) -> Result<
     }
 }
 
-/// The call that a text spells. What wraps something, and what answers with the bar, comes to a command.
+/// The call of a text. A wrapper's call, and a builder, become a command.
 fn call_of(alloc: Global, text: &str) -> Result<LoneCall<NoTracker>, Bad> {
     let (name, rest) = headed(text);
     match (name, number(rest)) {

@@ -1,14 +1,14 @@
-//! Readers, writers and streams that are wrapped.
+//! Wrapped readers, writers and streams.
 //!
 //! `bytes POSITION TEXT, ANSWERS` wraps one (`scripted`) with a bar at this position that counts its moves. Then
 //!
-//! - `read N`, `read_exact N`, `room N`: a read into the front of a room of 16 bytes gives the bytes that came; the room's first bytes.
-//! - `read_to_string`, `read_to_end`, `copy`: all that is left.
+//! - `read N`, `read_exact N`, `room N`: a read into the front of a buffer of 16 bytes gives the bytes that came; the buffer's first bytes.
+//! - `read_to_string`, `read_to_end`, `copy`: the rest.
 //! - `fill_buf`, `consume N`, `read_line`; `seek start N`, `seek end N`, `seek current N`, `position`.
-//! - `write TEXT`, `write_all TEXT`, `flush`, `written`, the last of which unwraps; `next` of what is wrapped as an iterator.
-//! - `poll_read N`, `poll_write TEXT`, `poll_flush`, `poll_shutdown`, `poll_next`, `poll_next N` (so many polls).
-//! - `last`: what the last draw answered; `pos`, `finished`, and `stands`: the bar's position and how many moves it made; `place N` has it stand
-//!   there, by no move.
+//! - `write TEXT`, `write_all TEXT`, `flush`, `written`, the last of which unwraps; `next` of the value wrapped as an iterator.
+//! - `poll_read N`, `poll_write TEXT`, `poll_flush`, `poll_shutdown`, `poll_next`, `poll_next N` (N polls).
+//! - `last`: the answer of the last draw; `pos`, `finished`, and `stands`: the bar's position and how many moves it made; `place N` sets
+//!   it, without a move.
 //!
 //! A failure is spelled as in `scripted`.
 use crate::front::counted::Counted;
@@ -23,10 +23,10 @@ use std::alloc::Global;
 use std::io::{self, BufRead, Read, Seek, SeekFrom, Write};
 use std::random::RandomSource;
 
-/// What is wrapped.
+/// The wrapped value.
 pub type Wrapped<P> = ProgressBarIter<Scripted, P>;
 
-/// What is wrapped, the room that is read into, and a task for polls.
+/// The wrapped value, a buffer for reads, and a task for polls.
 #[derive(Drop)]
 pub struct Over<P> {
     pub wrapped: Option<Wrapped<P>>,
@@ -35,10 +35,10 @@ pub struct Over<P> {
     alloc: Global,
 }
 
-/// The same with a bar that counts its moves.
+/// A wrapped value with a bar that counts its moves.
 pub type OverCounted = Over<Counted>;
 
-/// What is wrapped already, to be asked.
+/// Steps over a value that is wrapped already.
 pub fn passed_over<R: AllocGlobal + RandomSource, P: Drop>(
     rt: &R,
     alloc: Global,
@@ -69,7 +69,7 @@ pub fn begin<R: AllocGlobal + RandomSource>(
     passed_over(rt, alloc, wrapped)
 }
 
-/// Makes a step, or looks at the bar.
+/// Makes a step, or reads the bar.
 pub fn step(over: &mut OverCounted, step: &str, got: &mut Got) {
     let Some(wrapped) = &mut over.wrapped else {
         return got.bad(Bad::Step);
@@ -87,7 +87,7 @@ pub fn step(over: &mut OverCounted, step: &str, got: &mut Got) {
     }
 }
 
-/// Asks what is wrapped.
+/// Makes a step of the wrapped value.
 pub fn asks<P: Moves + Drop>(over: &mut Over<P>, step: &str, got: &mut Got) {
     match (step, step.split_once(' ')) {
         ("written", _) => unwraps(over, got),
@@ -120,7 +120,7 @@ fn unwraps<P: Moves + Drop>(over: &mut Over<P>, got: &mut Got) {
 
 // ---- what came
 
-/// Appends the first bytes of a room, or a failure.
+/// Appends the first bytes of a buffer, or a failure.
 pub fn push_read(read: io::Result<usize>, room: &[u8], got: &mut Got) {
     match read {
         Ok(count) => got.bytes(room.get(..count).unwrap_or(&[])),
@@ -175,7 +175,7 @@ fn seek_of(to: &str) -> Result<SeekFrom, Bad> {
     }
 }
 
-/// A call with a number: bytes that are consumed, items, or a read into the front of the room.
+/// A call with a number: bytes that are consumed, items, or a read into the front of the buffer.
 fn counts<P: Moves + Drop>(over: &mut Over<P>, (name, count): (&str, usize), got: &mut Got) {
     let Some(wrapped) = &mut over.wrapped else {
         return got.bad(Bad::Step);
@@ -191,7 +191,7 @@ fn counts<P: Moves + Drop>(over: &mut Over<P>, (name, count): (&str, usize), got
     }
 }
 
-/// A read into the front of the room, or the room itself.
+/// A read into the front of the buffer, or the buffer itself.
 fn reads<P: Moves + Drop>(over: &mut Over<P>, (name, count): (&str, usize), got: &mut Got) {
     let (Some(wrapped), Some(room)) = (&mut over.wrapped, over.room.get_mut(..count)) else {
         return got.bad(Bad::Step);
@@ -243,7 +243,7 @@ pub fn push_item(item: Option<u8>, got: &mut Got) {
     }
 }
 
-/// All that is left, or a line of it.
+/// The rest, or a line of it.
 fn to_end<P: Moves + Drop>(wrapped: &mut Wrapped<P>, alloc: Global, name: &str, got: &mut Got) {
     let mut text = String::new(alloc);
     let mut bytes = Vec::new(alloc);

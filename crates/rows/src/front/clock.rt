@@ -1,18 +1,18 @@
-//! What clocks tell bars and boards: moments that a row says, also such as go back, and behind them steps.
+//! The moments of clocks of bars and boards: moments in a row, which may also go back, and then steps.
 use indicatif::{Clock, Moment, StepClock};
 use scripts::row::Words;
 
-/// So many readings of a clock at one moment.
+/// A number of readings of a clock at one moment.
 #[derive(Clone, Copy, Default, Drop)]
 pub struct Readings {
     count: u64,
     moment: Moment,
 }
 
-/// Readings that a row says, in their order.
+/// Readings in a row, in order.
 pub type Told = [Readings; 4];
 
-/// A clock that tells moments that it was told, and behind them goes on by steps.
+/// A clock that gives listed moments, and then advances by steps.
 #[derive(Clone, Copy, Drop)]
 pub struct RowClock {
     pub told: Told,
@@ -20,7 +20,7 @@ pub struct RowClock {
 }
 
 impl RowClock {
-    /// One that stands at this moment, and goes on by so much with each reading.
+    /// A clock that starts at this moment, and advances by `step` with each reading.
     pub fn stepping(from: Moment, step: u64) -> RowClock {
         RowClock {
             told: [Readings::default(); 4],
@@ -41,7 +41,7 @@ impl Clock for RowClock {
     }
 }
 
-/// The readings that words say: how many, and the moment, of each.
+/// The readings of words: the number, and the moment, of each.
 pub fn moments_of(words: &mut Words<'_>) -> Told {
     let mut told = [Readings::default(); 4];
     for readings in &mut told {

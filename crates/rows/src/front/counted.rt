@@ -1,4 +1,4 @@
-//! A bar that tells where it stands and counts its moves.
+//! A bar whose position can be read and which counts its moves.
 use indicatif::{Drawn, Moves, Refusal};
 use scripts::got::Got;
 
@@ -20,7 +20,7 @@ impl Counted {
         }
     }
 
-    /// Appends where it stands, and how many moves it made.
+    /// Appends its position, and how many moves it made.
     pub fn push(&self, got: &mut Got) {
         got.number(self.position);
         got.text(" ");

@@ -1,4 +1,4 @@
-//! Calls of a board as rows spell them: a style by its last text, a new bar by its message.
+//! Calls of a board in rows: a style by its last text, a new bar by its message.
 use indicatif::{BarId, Call, Candidate, InsertLocation, MultiProgressAlignment, NoTracker};
 use scripts::boards::MARK;
 use scripts::commands::{push_command, push_number};

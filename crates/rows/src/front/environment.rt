@@ -1,7 +1,7 @@
-//! What an environment says of a terminal: `environment VARIABLE=TEXT ..` gives rows, columns, whether the stream is a terminal, and the
-//! kind, in quotes, or `none`; `colours VARIABLE=TEXT ..` whether colours are wanted; `stream VARIABLE=TEXT ..` rows and columns of what
-//! bars are made with there, and who ends a full row, the `program` or the `terminal`, or `hidden`; `sized ROWS COLS VARIABLE=TEXT ..` the
-//! same of a target of this size there. A stream that is no terminal has `not` in front of its variables.
+//! The facts of an environment about a terminal: `environment VARIABLE=TEXT ..` gives rows, columns, whether the stream is a terminal, and
+//! the kind, in quotes, or `none`; `colours VARIABLE=TEXT ..` whether colours are wanted; `stream VARIABLE=TEXT ..` rows and columns of the
+//! setup of a bar there, and who ends a full row, the `program` or the `terminal`, or `hidden`; `sized ROWS COLS VARIABLE=TEXT ..` the same
+//! for a target of this size there. A stream that is no terminal has `not` before its variables.
 use indicatif::machine::{StreamTerm, facts_of, on_stream, sized_target, wants_colors};
 use indicatif::{Facts, ProgressDrawTarget, TermLike};
 use scripts::got::Got;
@@ -12,7 +12,7 @@ use std::env::{Env, FillError};
 use std::io::{self, ErrorKind, IsTerminal, Write};
 use std::time::{Clock, Duration};
 
-/// A program's environment: variables and what they say with escapes, parted by spaces.
+/// A program's environment: variables and their values with escapes, separated by spaces.
 #[derive(Clone, Copy, Drop)]
 struct Told<'a> {
     words: &'a str,
@@ -20,7 +20,7 @@ struct Told<'a> {
 }
 
 impl<'a> Told<'a> {
-    /// What the variable says.
+    /// The value of the variable.
     fn said(&self, name: &str) -> Option<&'a str> {
         for word in self.words.split(' ') {
             if let Some((variable, text)) = word.split_once('=') {
@@ -59,7 +59,7 @@ impl Env for Told<'_> {
     }
 }
 
-/// It tells no time.
+/// It has no time.
 impl Clock for Told<'_> {
     fn monotonic(&self) -> io::Result<Duration> {
         Err(io::Error::from(ErrorKind::Unsupported))
@@ -106,7 +106,7 @@ impl Write for Stream {
     }
 }
 
-/// Appends what an environment says.
+/// Appends the facts of an environment.
 pub fn said(alloc: Global, rest: &str, got: &mut Got) {
     let told = Told { words: rest, alloc };
     match facts_of(&(told, alloc), &Stream::of(alloc, rest)) {
@@ -124,7 +124,7 @@ pub fn wants(alloc: Global, rest: &str, got: &mut Got) {
     }
 }
 
-/// Appends what bars are made with on a stream.
+/// Appends the setup of a bar on a stream.
 pub fn opens(alloc: Global, rest: &str, got: &mut Got) {
     let told = Told { words: rest, alloc };
     match on_stream(&(told, alloc), Stream::of(alloc, rest)) {
@@ -133,7 +133,7 @@ pub fn opens(alloc: Global, rest: &str, got: &mut Got) {
     }
 }
 
-/// Appends what a target is on a stream that is told its size.
+/// Appends a target on a stream with a given size.
 pub fn sizes(alloc: Global, rest: &str, got: &mut Got) {
     let mut words = Words::of(rest);
     let (rows, cols): (u16, u16) = (words.number(), words.number());
@@ -165,7 +165,7 @@ fn push_target(target: ProgressDrawTarget<StreamTerm<Stream>>, got: &mut Got) {
     }
 }
 
-/// Whether a drawing begins with an escape sequence: that turns the terminal's own wrap off.
+/// Whether a draw begins with an escape sequence: that turns the terminal's own wrap off.
 fn turns_wrap_off(term: &mut StreamTerm<Stream>) -> io::Result<bool> {
     term.write_str("a")?;
     term.flush()?;

@@ -1,30 +1,30 @@
 //! Bars that stand alone or on boards, and the boards.
 //!
-//! `fronts ROWS COLS FROM STEP` begins with nothing, on terminals of this size, by clocks that stand at `FROM` and go on by `STEP`
+//! `fronts ROWS COLS FROM STEP` begins with nothing, on terminals of this size, with clocks that start at `FROM` and advance by `STEP`
 //! nanoseconds with each reading. Then
 //!
-//! - `rate HZ MOMENT`: what is made from now on is drawn at most so often a second, by a target that was made then; `moments COUNT
-//!   MOMENT ..`: its clock tells this moment so many times, the next one so many times, and then goes on as it began.
-//! - `board`, `recorded`: a board without and with a history, of the next id, from 1 on; `on ID`: steps speak of this board.
-//! - `alone TEXT`, `bar LEN TEMPLATE`, `hidden_bar`: a bar that stands alone, whose owner comes behind the others: owners are numbered
-//!   from 0.
-//! - `made WAY LEN`: a bar as it is made: `new`, without a length by `no_length`; `spinner`, which has none; on a `target`; or by the `board`,
-//!   as a spinner where it has no length.
-//! - `add BAR`, `insert N BAR`, `back N BAR`, `before OWNER BAR`, `after OWNER BAR`: a new bar with this message, behind `=` another owner
-//!   of a bar, or with `<` the last owner itself; the owner that comes back stands behind the others.
-//! - `own OWNER`, `release`, `drop`: another owner; the last owner is given up, or dropped.
+//! - `rate HZ MOMENT`: bars and boards made afterwards draw at most HZ times a second, on a target made at this moment; `moments COUNT
+//!   MOMENT ..`: their clock gives each MOMENT COUNT times, and then advances as at first.
+//! - `board`, `recorded`: a board without and with a history, with the next id, from 1 on; `on ID`: the following steps are of this board.
+//! - `alone TEXT`, `bar LEN TEMPLATE`, `hidden_bar`: a bar that stands alone, whose owner comes after the others: owners are numbered from
+//!   0.
+//! - `made WAY LEN`: a bar made in this way: `new`, without a length by `no_length`; `spinner`, which has none; on a `target`; or by the
+//!   `board`, as a spinner if it has no length.
+//! - `add BAR`, `insert N BAR`, `back N BAR`, `before OWNER BAR`, `after OWNER BAR`: a new bar with this message, after `=` another owner
+//!   of a bar, or with `<` the last owner itself; the owner that comes back is listed after the others.
+//! - `own OWNER`, `release`, `drop`: another owner; the last owner is released, or dropped.
 //! - `remove OWNER`, `log TEXT`, `clear`, `suspend`, `top`, `bottom`, `turn` (to another target), `hide` (to none): calls of the board.
-//! - `OWNER: CALL`: a call of a bar (`tell`), a reading (`readings`), `target` (to a target of its own), `as OWNER` (in the style of another
-//!   bar), `ticker NANOS`, `ticker off`, `ticks_past N` (whether it ticks more often than so, for ten seconds; from the
-//!   last `note` on), `ticks_since` (how often it has ticked since then), `rests` (whether it
-//!   doesn't tick for 50 milliseconds) and `comes_to_rest` (whether it rests after a while).
-//! - `wrap_iter OWNER TEXT`, `wrap_read ..`, `wrap_write ..`, `wrap_stream ..`, `wrap_async_read ..`, `wrap_async_write ..`: something
-//!   (`scripted`) that the bar wraps; `| STEP` asks it (`bytes`).
-//! - `weak OWNER`, `never`, `upgrades`, `upgrade`: a weak bar; whether it is a bar again; and an owner by it.
+//! - `OWNER: CALL`: a call of a bar (`tell`), a reading (`readings`), `target` (to its own target), `as OWNER` (in the style of another
+//!   bar), `ticker NANOS`, `ticker off`, `ticks_past N` (whether it ticks more than N times within ten seconds, from the last `note` on),
+//!   `ticks_since` (how often it has ticked since then), `rests` (whether it doesn't tick for 50 milliseconds) and `comes_to_rest` (whether
+//!   it rests after a while).
+//! - `wrap_iter OWNER TEXT`, `wrap_read ..`, `wrap_write ..`, `wrap_stream ..`, `wrap_async_read ..`, `wrap_async_write ..`: a value
+//!   (`scripted`) that the bar wraps; `| STEP` makes a step of it (`bytes`).
+//! - `weak OWNER`, `never`, `upgrades`, `upgrade`: a weak bar; whether it can be upgraded; and its new owner.
 //! - `history_rests`: whether the history stays for 50 milliseconds; `kept_at`: the moments of its calls.
-//! - `shows`, `hidden`, `order`, `adds`: what is seen of the board; the calls that its history has gained since it was last asked.
-//!   `adds OWNER: CALL`: a call, and what it adds. Behind them stands `!answer` where the last of them is kept with another answer than
-//!   was given, and `!run` where a fresh board that makes all that were kept gives another answer or shows something else.
+//! - `shows`, `hidden`, `order`, `adds`: readings of the board; the calls that its history has gained since the last `adds`. `adds OWNER:
+//!   CALL`: a call, and what it adds. It is followed by `!answer` if the last of them is kept with another answer than was given, and by
+//!   `!run` if a new board that makes all kept calls gives another answer or shows something else.
 use crate::front::bars::{
     Bar, Front, FrontBoard, Maker, Pace, Room, Shared, Target, Weak, contents, push_contents,
 };
@@ -44,12 +44,11 @@ use std::sync::Wait;
 use std::thread::{self, Threads};
 use std::time::{Clock, Duration};
 
-/// What a bar wraps, to be asked.
+/// A value that a bar wraps.
 #[derive(Drop)]
 struct Wrapped<R: Wait + Copy + Clone + Drop>(Box<Over<Front<R>>>);
 
-/// Boards and owners of bars, and what one of these bars wraps. What is wrapped stands apart: a step that has nothing to do with it is
-/// proved without it.
+/// Boards and owners of bars, and the wrapped value of one of these bars. That is separate: a step without it is proved without it.
 #[derive(Drop)]
 pub struct World<R: Wait + Copy + Clone + Drop> {
     fronts: Fronts<R>,
@@ -81,7 +80,7 @@ pub fn room_of(words: &mut Words<'_>) -> Result<Room, Bad> {
     })
 }
 
-/// Nothing as yet.
+/// Nothing yet.
 pub fn begin<R: Wait + Copy + Clone + Drop>(
     rt: R,
     alloc: Global,
@@ -109,7 +108,7 @@ pub fn begin<R: Wait + Copy + Clone + Drop>(
 }
 
 impl<R: Wait + Copy + Clone + Drop> Fronts<R> {
-    /// The board that steps speak of.
+    /// The current board.
     fn board(&self) -> Option<&FrontBoard<R>> {
         match self.boards.get(self.on) {
             Some(board) => Some(&board.0),
@@ -117,7 +116,7 @@ impl<R: Wait + Copy + Clone + Drop> Fronts<R> {
         }
     }
 
-    /// The bar of the owner of this number.
+    /// The bar of the owner with this number.
     fn bar(&self, place: &str) -> Option<&Front<R>> {
         let Ok(place) = number::<usize>(place) else {
             return None;
@@ -128,7 +127,7 @@ impl<R: Wait + Copy + Clone + Drop> Fronts<R> {
         }
     }
 
-    /// Stores an owner that comes, or tells why none does.
+    /// Stores an owner, or appends why there is none.
     fn store(&mut self, bar: Result<Bar<R>, Bad>, got: &mut Got) {
         let stored = match bar {
             Ok(bar) => match self.bars.push(bar) {
@@ -144,7 +143,7 @@ impl<R: Wait + Copy + Clone + Drop> Fronts<R> {
 
     // ---- what is made from now on
 
-    /// Sets what is made from now on, or which board steps speak of.
+    /// Sets how bars are made, or the current board.
     fn sets(&mut self, step: &str, got: &mut Got) {
         let mut words = Words::of(step);
         let mut room = self.maker.room;
@@ -170,7 +169,7 @@ impl<R: Wait + Copy + Clone + Drop> Fronts<R> {
 
     // ---- boards and owners
 
-    /// Another board, which keeps its history where it is recorded.
+    /// Adds a board, with or without a history.
     fn begins(&mut self, is_recorded: bool, got: &mut Got) {
         let count = self.boards.len();
         let mark = (count as u64).wrapping_add(1);
@@ -185,7 +184,7 @@ impl<R: Wait + Copy + Clone + Drop> Fronts<R> {
         }
     }
 
-    /// The last owner goes: it is given up, or dropped.
+    /// Releases or drops the last owner.
     fn goes(&mut self, is_released: bool, got: &mut Got) {
         self.answer = Answered::Untold;
         match self.bars.pop() {
@@ -197,7 +196,7 @@ impl<R: Wait + Copy + Clone + Drop> Fronts<R> {
         }
     }
 
-    /// A bar that stands alone, or another owner, where the step asks for one.
+    /// A bar that stands alone, or another owner, if the step asks for one.
     fn coming(&self, step: &str) -> Option<Result<Bar<R>, Bad>> {
         Some(match (step, step.split_once(' ')) {
             ("hidden_bar", _) => {
@@ -224,7 +223,7 @@ impl<R: Wait + Copy + Clone + Drop> Fronts<R> {
         self.maker.bar(len, template.as_str())
     }
 
-    /// A bar as one of the ways to make it leaves it.
+    /// A bar made in one of the ways.
     fn made(&self, rest: &str) -> Result<Bar<R>, Bad> {
         let mut words = Words::of(rest);
         let (way, len) = (words.word(), words.optional());
@@ -236,7 +235,7 @@ impl<R: Wait + Copy + Clone + Drop> Fronts<R> {
         }
     }
 
-    /// Another owner of the bar of this one.
+    /// Another owner of the same bar.
     fn another(&self, place: &str) -> Result<Bar<R>, Bad> {
         let Some(bar) = self.bar(place) else {
             return Err(Bad::Step);
@@ -250,7 +249,7 @@ impl<R: Wait + Copy + Clone + Drop> Fronts<R> {
 
     // ---- insertions
 
-    /// A bar taken in.
+    /// Inserts a bar.
     fn takes_in(&mut self, step: &str, got: &mut Got) {
         let mut words = Words::of(step);
         let name = words.word();
@@ -269,7 +268,7 @@ impl<R: Wait + Copy + Clone + Drop> Fronts<R> {
         self.store(taken, got);
     }
 
-    /// The bar that a word says.
+    /// The bar of a word.
     fn entrant(&mut self, word: &str) -> Result<Bar<R>, Bad> {
         match (word, word.strip_prefix('=')) {
             ("<", _) => match self.bars.pop() {
@@ -334,7 +333,7 @@ impl<R: Wait + Copy + Clone + Drop> Fronts<R> {
         }
     }
 
-    /// Another target, or none.
+    /// Another target, or a hidden one.
     fn turned_to(&self, is_hidden: bool) -> Result<Target, Refusal> {
         match is_hidden {
             true => Ok(ProgressDrawTarget::hidden()),
@@ -342,7 +341,7 @@ impl<R: Wait + Copy + Clone + Drop> Fronts<R> {
         }
     }
 
-    /// Shows something of the board, or makes a call of it that draws.
+    /// Reads the board, or makes a call of it that draws.
     fn draws(&mut self, step: &str, got: &mut Got) {
         let Some(board) = self.board() else {
             return got.bad(Bad::Step);
@@ -363,7 +362,7 @@ impl<R: Wait + Copy + Clone + Drop> Fronts<R> {
         }
     }
 
-    /// Keeps what a call answered, and appends it.
+    /// Keeps the answer of a call, and appends it.
     fn answered(&mut self, told: Result<Told, Bad>, got: &mut Got) {
         match told {
             Ok(told) => {
@@ -374,7 +373,7 @@ impl<R: Wait + Copy + Clone + Drop> Fronts<R> {
         }
     }
 
-    /// What a call of the board that draws answers.
+    /// The answer of a call of the board that draws.
     fn board_told(&self, step: &str) -> Result<Told, Bad> {
         let Some(board) = self.board() else {
             return Err(Bad::Step);
@@ -390,7 +389,7 @@ impl<R: Wait + Copy + Clone + Drop> Fronts<R> {
         }
     }
 
-    /// What a call of a bar answers.
+    /// The answer of a call of a bar.
     fn bar_told(&self, place: &str, rest: &str) -> Result<Told, Bad> {
         let Some(bar) = self.bar(place) else {
             return Err(Bad::Step);
@@ -421,7 +420,7 @@ impl<R: Wait + Copy + Clone + Drop> Fronts<R> {
         }
     }
 
-    /// The calls that the history has gained since it was last looked at.
+    /// The calls that the history has gained since it was last read.
     fn push_added(&mut self, got: &mut Got) {
         let question = Question::Added {
             from: self.looked_at,
@@ -450,7 +449,7 @@ impl<R: Wait + Copy + Clone + Drop> Fronts<R> {
 }
 
 impl<R: AllocGlobal + RandomSource + Wait + Copy + Clone + Drop> Fronts<R> {
-    /// What a bar wraps by the call of this name, to be asked.
+    /// The value that a bar wraps by the call with this name.
     fn wrapped_by(&self, name: &str, rest: &str) -> Result<Wrapped<R>, Bad> {
         let (place, script) = headed(rest);
         let Some(bar) = self.bar(place) else {
@@ -500,8 +499,7 @@ impl<
 impl<
     R: AllocGlobal + RandomSource + Wait + Threads + Clock + Copy + Clone + Drop + Send + 'static,
 > Fronts<R> {
-    /// Makes a step that has nothing to do with what is wrapped. What it doesn't know it passes on to `takes_in`, that to `settles`, and that to
-    /// `draws`.
+    /// Makes a step without the wrapped value. Unknown steps go to `takes_in`, then to `settles`, and then to `draws`.
     fn step(&mut self, step: &str, got: &mut Got) {
         let (name, rest) = headed(step);
         match step.split_once(": ") {
@@ -534,7 +532,7 @@ impl<
         }
     }
 
-    /// Has to do with a bar's ticker, reads something of the bar, or makes a call of it.
+    /// Sets a bar's ticker, reads the bar, or makes a call of it.
     fn of_bar(&mut self, place: &str, rest: &str, got: &mut Got) {
         let rt = &self.maker.rt;
         match (self.bar(place), rest, rest.split_once(' ')) {
@@ -577,14 +575,14 @@ impl<R: Wait + Clock + Copy + Clone + Drop> Fronts<R> {
     }
 }
 
-/// Fifty turns of a millisecond: a ticker of a millisecond that goes on ticks meanwhile.
+/// Fifty turns of a millisecond: a running ticker of a millisecond ticks meanwhile.
 fn pause<R: Clock>(rt: &R) {
     for _ in 0..50u32 {
         thread::sleep(rt, Duration::from_millis(1));
     }
 }
 
-/// Tells a bar's ticker off, or on with this interval.
+/// Disables a bar's ticker, or enables one with this interval.
 fn set_ticker<R: Wait + Threads + Clock + Copy + Clone + Drop + Send + 'static>(
     bar: &Front<R>,
     nanos: &str,
@@ -600,7 +598,7 @@ fn set_ticker<R: Wait + Threads + Clock + Copy + Clone + Drop + Send + 'static>(
     }
 }
 
-/// Whether the bar has ticked more often than so, by the last of 10,000 readings a millisecond apart.
+/// Whether the bar has ticked more often than the given number, at the latest after 10,000 readings a millisecond apart.
 fn ticks_past<R: Wait + Clock + Copy + Clone + Drop>(rt: &R, bar: &Front<R>, before: u64) -> bool {
     for _ in 0..10_000u32 {
         if bar.ticks() > before {
@@ -611,7 +609,7 @@ fn ticks_past<R: Wait + Clock + Copy + Clone + Drop>(rt: &R, bar: &Front<R>, bef
     false
 }
 
-/// Whether the bar ticks no more: one of so many tries finds two readings of the ticks, with 50 turns of a millisecond between them, equal.
+/// Whether the bar ticks no more: one of `tries` tries finds two equal readings of the ticks, with 50 turns of a millisecond between them.
 fn rests<R: Wait + Clock + Copy + Clone + Drop>(rt: &R, bar: &Front<R>, tries: u32) -> bool {
     for _ in 0..tries {
         let before = bar.ticks();

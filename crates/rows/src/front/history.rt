@@ -1,4 +1,4 @@
-//! What a board has kept: its order, its calls, and whether a fresh board that makes them gives the same answers and the same picture.
+//! The history of a board: its order, its calls, and whether a new board that makes them gives the same answers and the same picture.
 use crate::front::bars::{FrontBoard, Room};
 use crate::front::entries::push_call;
 use crate::front::tell::Told;
@@ -9,25 +9,25 @@ use scripts::got::Got;
 use std::alloc::Global;
 use std::sync::Wait;
 
-/// What the last call answered, if that was told.
+/// The answer of the last call, if it is known.
 #[derive(Clone, Copy, Drop)]
 pub enum Answered {
     Untold,
     Answer(Told),
 }
 
-/// What is asked of a board with its history.
+/// A question to a board with its history.
 #[derive(Drop)]
 pub enum Question {
-    /// Its bars, in their order.
+    /// Its bars, in order.
     Order,
-    /// When its calls were made.
+    /// The moments of its calls.
     Moments,
-    /// The calls from this one on, of which the last was answered so.
+    /// The calls from this one on, of which the last had this answer.
     Added { from: usize, answer: Answered },
 }
 
-/// A question, and what a fresh board is made with.
+/// A question, and the setup of a new board.
 #[derive(Drop)]
 pub struct Look {
     pub alloc: Global,
@@ -35,14 +35,14 @@ pub struct Look {
     pub question: Question,
 }
 
-/// What is said, and how many calls were kept.
+/// The text, and how many calls were kept.
 #[derive(Drop)]
 pub struct Seen {
     said: Got,
     recorded: usize,
 }
 
-/// Appends what a board answers to a question; how many calls it has kept.
+/// Appends the answer to a question; how many calls the board has kept.
 pub fn shown<R: Wait + Copy + Clone + Drop>(
     board: &FrontBoard<R>,
     look: Look,
@@ -92,7 +92,7 @@ fn answer(look: &Look, record: &Recorded<NoTracker, InMemoryTerm>, said: &mut Go
     record.entries().len()
 }
 
-/// Appends the moments of calls, a space between two.
+/// Appends the moments of calls, separated by spaces.
 fn push_moments(entries: &[Entry<NoTracker>], said: &mut Got) {
     let mut parting = "";
     for entry in entries {
@@ -102,7 +102,7 @@ fn push_moments(entries: &[Entry<NoTracker>], said: &mut Got) {
     }
 }
 
-/// Whether a call was answered so; one that neither draws nor is refused counts as `Limited`.
+/// Whether a call had this answer; one that neither draws nor is refused counts as `Limited`.
 fn is_answered(entry: Option<&Entry<NoTracker>>, wanted: Answered) -> bool {
     let (Some(entry), Answered::Answer(wanted)) = (entry, wanted) else {
         return true;
@@ -114,11 +114,11 @@ fn is_answered(entry: Option<&Entry<NoTracker>>, wanted: Answered) -> bool {
     }
 }
 
-/// A fresh board.
+/// A new board.
 #[derive(Drop)]
 struct Fresh(Board<NoTracker, InMemoryTerm>);
 
-/// Whether a fresh board makes the calls that were kept with the same answers, and then shows the same rows.
+/// Whether a new board makes the kept calls with the same answers, and then shows the same rows.
 fn is_replayed(look: &Look, recorded: &Recorded<NoTracker, InMemoryTerm>) -> Result<bool, Refusal> {
     let target = look.room.target(look.alloc)?;
     let fresh = Fresh(Board::new(look.alloc, target, recorded.opening().mark));
@@ -143,7 +143,7 @@ fn replays(
     same_rows(rows_of(fresh.term()), rows_of(recorded.board().term()))
 }
 
-/// The rows of a terminal, those that have scrolled away first; of none nothing.
+/// The rows of a terminal, those that scrolled away first; none without a terminal.
 pub type Rows = Result<Option<Vec<String>>, Refusal>;
 
 /// The rows of a terminal, if there is one.
@@ -157,7 +157,7 @@ pub fn rows_of(term: Option<&InMemoryTerm>) -> Rows {
     }
 }
 
-/// Whether two terminals show the same rows; two that aren't there do.
+/// Whether two terminals show the same rows; two missing ones do.
 pub fn same_rows(one: Rows, other: Rows) -> Result<bool, Refusal> {
     match (one, other) {
         (Ok(one), Ok(other)) => Ok(one == other),

@@ -1,7 +1,7 @@
-//! Lists that are wrapped with a bar that counts its moves.
+//! Wrapped lists with a bar that counts its moves.
 //!
-//! `list POSITION ITEMS`, the items parted by spaces, begins; `next`, `next_back`, `size` (the two bounds and the length), `last`,
-//! `stands`, `finished`, and `unwrap`, which gives where the bar stands that comes back.
+//! `list POSITION ITEMS`, the items separated by spaces, begins; `next`, `next_back`, `size` (the two bounds and the length), `last`,
+//! `stands`, `finished`, and `unwrap`, which gives the position of the bar that comes back.
 use crate::front::counted::Counted;
 use indicatif::{ProgressBarIter, ProgressIterator};
 use scripts::got::{Bad, Got};
@@ -12,7 +12,7 @@ use std::vec::IntoIter;
 
 type Wrapped = ProgressBarIter<IntoIter<u32>, Counted>;
 
-/// A list that is wrapped.
+/// A wrapped list.
 #[derive(Drop)]
 pub struct List {
     wrapped: Option<Wrapped>,
@@ -39,7 +39,7 @@ pub fn begin(alloc: Global, rest: &str) -> Result<Box<List>, Bad> {
     Ok(Box::new(alloc, list)?)
 }
 
-/// Makes a step, or looks at the bar.
+/// Makes a step, or reads the bar.
 pub fn step(list: &mut List, step: &str, got: &mut Got) {
     if step == "unwrap" {
         return unwraps(list, got);

@@ -1,9 +1,8 @@
-//! Loops over lists with a bar of their own, on a terminal in memory.
+//! Loops over lists with their own bar, on a terminal in memory.
 //!
-//! `loop ROWS COLS FROM STEP HOW: ITEMS` begins, by a clock that stands at `FROM` and goes on by `STEP`; `HOW` is `progress`, `count LEN`,
-//! `style TEMPLATE`, or `made` (a bar of length 1 that was made before). Then `next`, `shows`, `last`, `pos`, `len`, `finished`, and what is
-//! said of the bar before it moves: `with_style TEMPLATE`, `with_prefix TEXT`, `with_message TEXT`, `with_position N`, `with_elapsed N`,
-//! `with_finish CALL`.
+//! `loop ROWS COLS FROM STEP HOW: ITEMS` begins, with a clock that starts at `FROM` and advances by `STEP`; `HOW` is `progress`, `count
+//! LEN`, `style TEMPLATE`, or `made` (a bar of length 1 that was made before). Then `next`, `shows`, `last`, `pos`, `len`, `finished`, and
+//! the builders: `with_style TEMPLATE`, `with_prefix TEXT`, `with_message TEXT`, `with_position N`, `with_elapsed N`, `with_finish CALL`.
 use crate::front::bars::Room;
 use crate::front::clock::RowClock;
 use crate::front::fronts::room_of;
@@ -20,14 +19,14 @@ use scripts::spelling::number;
 use std::alloc::Global;
 use std::vec::IntoIter;
 
-/// A list that is wrapped with a bar of its own.
+/// A wrapped list with its own bar.
 type Wrapped = ProgressBarIter<IntoIter<u32>, OwnedBar<NoTracker, InMemoryTerm, RowClock>>;
 
-/// The same as a type of its own.
+/// A shared board as a separate type.
 #[derive(Drop)]
 struct Loop(Wrapped);
 
-/// A loop; none once a call refused something and gave it up.
+/// A loop; none after a call was refused and dropped it.
 #[derive(Drop)]
 pub struct Looped {
     alloc: Global,
@@ -106,7 +105,7 @@ fn wrapped(alloc: Global, room: Room, text: &str) -> Result<Box<Loop>, Bad> {
 }
 
 impl Looped {
-    /// Makes a step, or looks at the bar.
+    /// Makes a step, or reads the bar.
     pub fn step(&mut self, step: &str, got: &mut Got) {
         match (&mut self.wrapped, step.split_once(' ')) {
             (_, Some(said)) => self.tell(said, got),
@@ -115,7 +114,7 @@ impl Looped {
         }
     }
 
-    /// Says something of the bar before it moves.
+    /// Calls a builder.
     fn tell(&mut self, said: (&str, &str), got: &mut Got) {
         let told = match (self.wrapped.take(), said_of(self.alloc, said)) {
             (Some(wrapped), Ok(said)) => boxed(self.alloc, told(Box::into_inner(wrapped).0, said)),
@@ -129,7 +128,7 @@ impl Looped {
     }
 }
 
-/// Goes on with a loop, or looks at its bar.
+/// Continues a loop, or reads its bar.
 fn look(wrapped: &mut Wrapped, step: &str, got: &mut Got) {
     match step {
         "next" => push_item(wrapped.next(), got),
@@ -149,7 +148,7 @@ fn look(wrapped: &mut Wrapped, step: &str, got: &mut Got) {
     }
 }
 
-/// What is said of a bar before it moves.
+/// A builder.
 #[derive(Drop)]
 enum Said<'a> {
     Style(ProgressStyle<NoTracker>),

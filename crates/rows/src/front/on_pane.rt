@@ -1,14 +1,14 @@
-//! A board on a pane of another size than it was told.
+//! A board on a pane of another size than it was given.
 //!
-//! `told ROWS COLS on ROWS COLS` begins with a board that is told the first size, on a pane of the second one; `trusted ROWS COLS on ROWS
-//! COLS` with one whose rows are left to the terminal; `row K/N ROWS COLS on ROWS COLS` with one on row K of N. Then
+//! `told ROWS COLS on ROWS COLS` begins with a board that gets the first size, on a pane of the second one; `trusted ROWS COLS on ROWS
+//! COLS` with one whose rows the terminal ends; `row K/N ROWS COLS on ROWS COLS` with one on row K of N. Then
 //!
-//! - `size ROWS COLS`: the board is told another size. `pane ROWS COLS`: the pane gets another one. `target ROWS COLS`: the board goes on
-//!   there on a target of this size, whose rows are left to the terminal.
-//! - `others TEXT`: what another program writes. `fails N`: the write of this number fails, counted from now on.
-//! - `rows`: what stands there, up to the last row that isn't empty. `above N`: its first rows, so many. `wraps`: whether the wrap is on.
-//! - `clipped N TEXT`: whether behind the first N rows these rows stand, each without what has no room before the pane's last column.
-//! - `written`: all bytes that came there.
+//! - `size ROWS COLS`: the board gets another size. `pane ROWS COLS`: the pane gets another one. `target ROWS COLS`: the board continues
+//!   there on a target of this size, whose rows the terminal ends.
+//! - `others TEXT`: another program writes this. `fails N`: the Nth write from now on fails.
+//! - `rows`: the rows up to the last one that isn't empty. `above N`: the first N rows. `wraps`: whether the wrap is on.
+//! - `clipped N TEXT`: whether after the first N rows these rows stand, each cut before the pane's last column.
+//! - `written`: all bytes that it got.
 //! - Any other step is a call of the board or of a bar.
 use crate::front::pane::{Pane, Wire};
 use indicatif::{Answer, Board, NoTracker, OwnRows, ProgressDrawTarget, Term, TermLike};
@@ -24,7 +24,7 @@ use std::rc::Rc;
 #[derive(Drop)]
 struct Shown(Board<NoTracker, OwnRows<Term<Wire>>>);
 
-/// The board, and what it is shown on.
+/// The board, and its pane.
 #[derive(Drop)]
 pub struct OnPane {
     at: At,
@@ -51,7 +51,7 @@ pub fn begin(alloc: Global, name: &str, rest: &str) -> Result<Box<OnPane>, Bad> 
     at.boxed(OnPane { at, board, pane })
 }
 
-/// Makes a call of a board, and appends what it answers.
+/// Makes a call of a board, and appends its answer.
 pub fn call<T: TermLike + Drop>(
     board: &mut Board<NoTracker, T>,
     at: At,
@@ -79,7 +79,7 @@ fn answers<T: TermLike + Drop>(
 }
 
 impl OnPane {
-    /// The pane takes so many bytes from now on, and then refuses one write.
+    /// Lets the pane take `bytes` more bytes, and then refuse one write.
     pub fn breaks_behind(&self, bytes: usize) {
         self.pane.breaks.set(Some(bytes));
     }
@@ -96,7 +96,7 @@ impl OnPane {
         }
     }
 
-    /// Tells the board another size, gives it a target of this size, or gives it to the pane.
+    /// Gives the board another size or a target of this size, or resizes the pane.
     fn resize(&mut self, step: &str, words: &str, got: &mut Got) {
         match (headed(step).0, size(words)) {
             ("size", Ok((rows, columns))) => got.done(self.board.0.resize(rows, columns)),

@@ -1,12 +1,11 @@
-//! Boards that are told one size, each on a pane of its own.
+//! Boards with one size, each on its own pane.
 //!
 //! `widths FIRST LAST ROWS COLS on ROWS` begins with a board for each number of columns of a pane, from the first to the last. `broken FIRST LAST ROWS
 //! COLS on ROWS COLS` begins with one for each number of bytes that a pane takes. Then
 //!
-//! - `breaks`: each of these panes takes so many bytes from now on, and then refuses one write.
-//! - `any STEP`: the step is made of each, whatever it gives.
-//! - Any other step is made of each (`on_pane`), and gives what all of them give. What one gives that differs from the first stands behind its
-//!   number.
+//! - `breaks`: each of these panes takes its number of bytes, and then refuses one write.
+//! - `any STEP`: makes the step of each, whatever its result.
+//! - Any other step is made of each (`on_pane`), and gives the result of all. A result that differs from the first follows its number.
 use crate::front::on_pane::{self, OnPane};
 use scripts::got::{Bad, Got};
 use scripts::row::{At, Words, headed};
@@ -19,7 +18,7 @@ struct Numbered {
     board: Box<OnPane>,
 }
 
-/// All of them.
+/// All parts.
 #[derive(Drop)]
 pub struct OnPanes {
     alloc: Global,
@@ -40,7 +39,7 @@ pub fn begin(alloc: Global, name: &str, rest: &str) -> Result<Box<OnPanes>, Bad>
     At { alloc, now: 0 }.boxed(OnPanes { alloc, boards })
 }
 
-/// The one of this number.
+/// The board with this number.
 fn begin_one(alloc: Global, name: &str, sizes: &str, number: u16) -> Result<Box<OnPane>, Bad> {
     if name == "broken" {
         return on_pane::begin(alloc, "told", sizes);
@@ -73,7 +72,7 @@ impl OnPanes {
         }
     }
 
-    /// What all give, and behind its number what one gives that differs from the first.
+    /// The result of all, and a result that differs from the first, after its number.
     fn agree(&mut self, step: &str, got: &mut Got) {
         let mut wanted = Got::new(self.alloc);
         let mut given = Got::new(self.alloc);

@@ -1,8 +1,8 @@
 //! A terminal whose wrap can be turned off and on: a screen, and DEC's private mode 7 before it (ESC `[?7l`, ESC `[?7h`). It also knows how
 //! to empty a row from the cursor on (ESC `[K`).
 //!
-//! With the wrap off a character on the last column leaves the cursor there, so that the next one takes its place; one of two columns
-//! that would begin there is passed over. So does tmux. Synchronized updates (DEC's private mode 2026) change nothing.
+//! With the wrap off a character on the last column leaves the cursor there, so that the next one takes its place; one of two columns that
+//! would begin there is skipped. So does tmux. Synchronized updates (DEC's private mode 2026) change nothing.
 use indicatif::{Refusal, Term, width};
 use scripts::got::{Bad, Got};
 use scripts::row::{Words, headed};
@@ -20,11 +20,11 @@ pub struct Pane {
     pub screen: Rc<Screen>,
     columns: Cell<u16>,
     pub wraps: Cell<bool>,
-    /// How many writes from now on the one is that fails; none where it is 0.
+    /// How many writes from now on the one that fails is; none if it is 0.
     pub fails: Cell<u64>,
     /// How many bytes are taken before one write fails.
     pub breaks: Cell<Option<usize>>,
-    /// All that was shown.
+    /// All bytes.
     written: RefCell<Vec<u8>>,
 }
 
@@ -42,7 +42,7 @@ impl Pane {
         Ok(Rc::new(alloc, pane)?)
     }
 
-    /// A terminal that is told a size, on a pane of another one: `ROWS COLS on ROWS COLS`.
+    /// A terminal with one size, on a pane of another: `ROWS COLS on ROWS COLS`.
     pub fn told(alloc: Global, rest: &str) -> Result<(Rc<Pane>, Term<Wire>), Bad> {
         let mut words = Words::of(rest);
         let told = (words.number(), words.number());
@@ -54,8 +54,8 @@ impl Pane {
         Ok((pane, term))
     }
 
-    /// Makes a step of the pane, or reads something of it: `others TEXT`, `fails N`, `wraps`, `rows`, `above N`, `clipped N TEXT`,
-    /// `written`. Whether the step is one.
+    /// Makes a step of the pane, or reads it: `others TEXT`, `fails N`, `wraps`, `rows`, `above N`, `clipped N TEXT`, `written`. Whether
+    /// the step is one.
     pub fn step(&self, alloc: Global, step: &str, got: &mut Got) -> bool {
         match headed(step) {
             ("others", text) => match unescaped(alloc, text) {
@@ -83,14 +83,14 @@ impl Pane {
         true
     }
 
-    /// All bytes that were shown.
+    /// All bytes.
     fn push_written(&self, got: &mut Got) {
         if let Ok(written) = self.written.try_borrow() {
             got.bytes(&written);
         }
     }
 
-    /// The first rows that stand, so many.
+    /// The first rows, as many as given.
     fn push_above(&self, count: &str, got: &mut Got) {
         match (number::<usize>(count), self.screen.picture()) {
             (Ok(count), Ok(rows)) => got.rows(rows.get(..count).unwrap_or(&rows)),
@@ -99,7 +99,7 @@ impl Pane {
         }
     }
 
-    /// Whether what stands behind the first rows, so many, are these rows, each without what has no room before the last column.
+    /// Whether the rows after the given number are these, each cut before the last column.
     fn is_clipped(&self, alloc: Global, words: &str) -> Result<bool, Bad> {
         let mut words = Words::of(words);
         let above: usize = words.number();
@@ -123,7 +123,7 @@ impl Pane {
         Ok(())
     }
 
-    /// Keeps bytes that are shown.
+    /// Keeps bytes.
     fn keep(&self, bytes: &[u8]) -> io::Result<()> {
         match self.written.try_borrow_mut() {
             Ok(mut written) => Ok(written.extend_from_slice(bytes)?),
@@ -144,7 +144,7 @@ impl Pane {
         Ok(())
     }
 
-    /// Turns the wrap off or on, where the text begins with that; what stands behind it.
+    /// Turns the wrap off or on, if the text begins with that; the rest.
     fn switched<'a>(&self, text: &'a str) -> Option<&'a str> {
         let off = text.strip_prefix("\u{1b}[?7l");
         let on = text.strip_prefix("\u{1b}[?7h");
@@ -153,7 +153,7 @@ impl Pane {
         off.or(on).or(behind_update(text))
     }
 
-    /// Empties the row from the cursor on, where the text begins with that (ESC `[K`), or shows what it begins with; what stands behind it.
+    /// Empties the row from the cursor on, if the text begins with that (ESC `[K`), or shows what it begins with; the rest.
     fn show_next<'a>(&self, text: &'a str) -> io::Result<&'a str> {
         match text.strip_prefix("\u{1b}[K") {
             Some(behind) => self.empty_behind(behind),
@@ -161,7 +161,7 @@ impl Pane {
         }
     }
 
-    /// Empties the row from the cursor on, where this stands behind the sequence that asks for it.
+    /// Empties the row from the cursor on, after its sequence.
     fn empty_behind<'a>(&self, text: &'a str) -> io::Result<&'a str> {
         let columns = self.columns.get().saturating_sub(self.column());
         self.feed_times(b" ", columns)?;
@@ -169,7 +169,7 @@ impl Pane {
         Ok(text)
     }
 
-    /// Hands bytes to the screen so many times.
+    /// Writes bytes to the screen `times` times.
     fn feed_times(&self, bytes: &[u8], times: u16) -> io::Result<()> {
         for _ in 0..times {
             self.screen.feed(bytes)?;
@@ -177,7 +177,7 @@ impl Pane {
         Ok(())
     }
 
-    /// Shows the first character, or the escape sequence at the front; what stands behind it.
+    /// Shows the first character, or the escape sequence at the front; the rest.
     fn show_first<'a>(&self, text: &'a str) -> io::Result<&'a str> {
         let mut chars = text.chars();
         let Some(first) = chars.next() else {
@@ -195,7 +195,7 @@ impl Pane {
         Ok(chars.as_str())
     }
 
-    /// The column of the cursor, and whether it stands behind a full row.
+    /// The column of the cursor, and whether it is at the end of a full row.
     fn column(&self) -> u16 {
         match self.screen.cursor() {
             Some((_, column)) => column,
@@ -217,7 +217,7 @@ impl Pane {
         self.stay_within()
     }
 
-    /// Brings the cursor back from behind a full row.
+    /// Takes the cursor back from the end of a full row.
     fn stay_within(&self) -> io::Result<()> {
         if self.column() < self.columns.get() {
             return Ok(());
@@ -225,7 +225,7 @@ impl Pane {
         self.screen.feed(b"\x1b[1D")
     }
 
-    /// Hands a character to the screen.
+    /// Writes a character to the screen.
     fn feed(&self, c: char) -> io::Result<()> {
         let mut bytes = [0u8; 4];
         let text = c.encode_utf8(&mut bytes);
@@ -233,7 +233,7 @@ impl Pane {
     }
 }
 
-/// The longest front of a row that has room in so many columns, without blanks at its end.
+/// The longest prefix of a row that fits in `room` columns, without blanks at its end.
 fn clipped(row: &str, room: usize) -> &str {
     let mut wide = 0_usize;
     let mut end = 0_usize;
@@ -247,19 +247,19 @@ fn clipped(row: &str, room: usize) -> &str {
     row.get(..end).unwrap_or(row).trim_end_matches(' ')
 }
 
-/// What stands behind the sequence with which a synchronized update begins or ends, where the text begins with that: a pane shows all as it
+/// The text after the sequence with which a synchronized update begins or ends, if it begins with that: a pane shows everything as it
 /// comes.
 fn behind_update(text: &str) -> Option<&str> {
     let begun = text.strip_prefix("\u{1b}[?2026h");
     begun.or(text.strip_prefix("\u{1b}[?2026l"))
 }
 
-/// The writer that leads to a pane. It takes texts whole, but where it breaks off.
+/// The writer that leads to a pane. It takes whole texts, except where it breaks off.
 #[derive(Drop)]
 pub struct Wire(pub Rc<Pane>);
 
 impl Wire {
-    /// How many of so many bytes are taken; none where the write fails.
+    /// How many of `count` bytes are taken; none if the write fails.
     fn takes(&mut self, count: usize) -> Option<usize> {
         let Some(left) = self.0.breaks.get() else {
             return Some(count);

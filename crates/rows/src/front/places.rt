@@ -1,7 +1,7 @@
-//! The greatest of the last places, and the place that moves and seeks show.
+//! The greatest of the last places, and the position that moves and seeks show.
 //!
-//! `places 10` or `places 1` begins with none, and remembers so many: `put P ..` gives the greatest once these came. `places seeks`
-//! begins with neither moves nor seeks: `seek P` and `move P BYTES` give the place that is shown.
+//! `places 10` or `places 1` begins with none, and keeps the last 10 or 1: `put P ..` adds these and gives the greatest. `places seeks`
+//! begins with neither moves nor seeks: `seek P` and `move P BYTES` give the position that is shown.
 use indicatif::{MaxRingBuf, SeekMax};
 use scripts::got::{Bad, Got};
 use scripts::row::{Words, headed};
@@ -16,7 +16,7 @@ pub enum Places {
     Seeks(SeekMax<5, 10>),
 }
 
-/// None as yet.
+/// No places yet.
 pub fn begin(alloc: Global, rest: &str) -> Result<Box<Places>, Bad> {
     let places = match rest {
         "10" => Places::Ten(MaxRingBuf::new()),
@@ -44,7 +44,7 @@ impl Places {
     }
 }
 
-/// The greatest place, once these came behind what came before.
+/// The greatest place, after these were added.
 fn greatest<const N: usize>(places: &mut MaxRingBuf<N>, new: &str) -> Result<u64, Bad> {
     for place in new.split(' ') {
         if !place.is_empty() {

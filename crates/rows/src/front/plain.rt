@@ -1,8 +1,8 @@
 //! A hidden bar as plain lines.
 //!
-//! `plain EVERY LEN BAR` begins with a bar that was made at moment 0, and a line of it each so many nanoseconds. Then
+//! `plain EVERY LEN BAR` begins with a bar that was made at moment 0, and one line each EVERY nanoseconds. Then
 //!
-//! - `look @NOW`: the line that is due, each of its rows with a line end, or `-`.
+//! - `look @NOW`: the line that is due, with a line end after each row, or `-`.
 //! - Any other step is a command of the bar, and gives nothing.
 use indicatif::{Moment, PlainLines};
 use scripts::commands::command;
@@ -11,7 +11,7 @@ use scripts::lone::{Bar, bar_of};
 use scripts::row::{At, Words, timed};
 use std::alloc::Global;
 
-/// The bar, and when it was told.
+/// The bar, and the state of its plain lines.
 #[derive(Drop)]
 pub struct Plain {
     alloc: Global,
@@ -19,7 +19,7 @@ pub struct Plain {
     lines: PlainLines,
 }
 
-/// A bar of which no line was asked for yet.
+/// A bar without a line yet.
 pub fn begin(alloc: Global, rest: &str) -> Result<Box<Plain>, Bad> {
     let at = At { alloc, now: 0 };
     let mut words = Words::of(rest);

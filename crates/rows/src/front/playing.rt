@@ -1,4 +1,4 @@
-//! Files of rows, played on the stage. A step may start a ticker's thread, which no method of a trait can: so the stage is no `World` of
+//! Files of rows, played on the stage. A step may start a ticker's thread, which no method of a trait can do: so the stage is no `World` of
 //! `scripts`.
 use crate::front::stage::{On, Stage};
 use scripts::got::Got;
@@ -10,7 +10,7 @@ use std::sync::Wait;
 use std::thread::Threads;
 use std::time::Clock;
 
-/// Plays the rows of what a reader gives on a new stage, and prints each that differs under this name.
+/// Plays the rows of a reader on a new stage, and prints each that differs under this name.
 pub fn play_on_new_stage<
     R: AllocGlobal
         + Print
@@ -65,7 +65,7 @@ fn play_lines<
     Ok(tally)
 }
 
-/// Makes steps one after another; `got` has what they gave.
+/// Makes steps one after another, with their results in `got`.
 fn play_steps<
     R: AllocGlobal + RandomSource + Wait + Threads + Clock + Copy + Clone + Drop + Send + 'static,
 >(steps: &str, stage: &mut Stage<R>, got: &mut Got) {

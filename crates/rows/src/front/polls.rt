@@ -1,4 +1,4 @@
-//! Polls of what is wrapped, by hand.
+//! Polls of wrapped values, by hand.
 use crate::front::bytes::{Wrapped, push_done, push_item, push_number, push_read};
 use futures::stream::Stream;
 use futures::task::Poll;
@@ -8,12 +8,12 @@ use scripts::got::Got;
 use std::io;
 use tokio::io::{AsyncRead, AsyncWrite};
 
-/// What a poll asks for.
+/// A poll.
 #[derive(Drop)]
 pub enum Asked<'a> {
-    /// To read into this room.
+    /// Reads into this buffer.
     Read(&'a mut [u8]),
-    /// To write these bytes.
+    /// Writes these bytes.
     Write(&'a [u8]),
     Flush,
     ShutDown,
@@ -21,7 +21,7 @@ pub enum Asked<'a> {
     Next,
 }
 
-/// Polls once, and appends what that gives.
+/// Polls once, and appends its result.
 pub fn poll<P: Moves + Drop>(
     wrapped: &mut Wrapped<P>,
     task: &MockTask,

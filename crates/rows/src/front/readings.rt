@@ -1,11 +1,11 @@
-//! What a bar tells of itself: `shows`, `message`, `prefix`, `pos`, `len`, `ticks`, `finished`, `hidden`, `tab_width`, `eta`, `duration`,
-//! `elapsed`; and `per_sec`, steps and the nanoseconds in which they came.
+//! The readings of a bar: `shows`, `message`, `prefix`, `pos`, `len`, `ticks`, `finished`, `hidden`, `tab_width`, `eta`, `duration`,
+//! `elapsed`; and `per_sec`, steps and the nanoseconds that they took.
 use crate::front::bars::{Front, contents, push_contents};
 use scripts::got::Got;
 use scripts::lone::push_rate;
 use std::sync::Wait;
 
-/// Reads something of a bar; whether the text asks for that.
+/// Reads a bar; whether the text is a reading.
 pub fn read<R: Wait + Copy + Clone + Drop>(bar: &Front<R>, text: &str, got: &mut Got) -> bool {
     match text {
         "shows" => push_contents(bar.with_term(contents), got),

@@ -12,18 +12,18 @@ use std::alloc::Global;
 use std::io::{self, BufRead, Cursor, ErrorKind, Read, Seek, SeekFrom, Write};
 use tokio::io::{AsyncRead, AsyncWrite};
 
-/// What a call does.
+/// The effect of a call.
 #[derive(Clone, Copy, Drop)]
 pub enum Answer {
     /// A poll that isn't ready.
     Pending,
-    /// At most so many bytes.
+    /// At most this many bytes.
     Bytes(usize),
     /// This failure.
     Fails(ErrorKind),
 }
 
-/// Bytes to be read, bytes that were written, and what the calls of both do, one after another; behind them all calls do the last.
+/// Bytes to read, bytes that were written, and the effects of the calls of both, one after another; afterwards all calls have the last one.
 #[derive(Drop)]
 pub struct Scripted {
     bytes: Cursor<Vec<u8>>,
@@ -32,7 +32,7 @@ pub struct Scripted {
     calls: usize,
 }
 
-/// `TEXT`, `#N` (N bytes that are 0, 1, 2 and so on, modulo 256) or `*N` (N times `x`); behind `, ` what the calls do.
+/// `TEXT`, `#N` (N bytes that are 0, 1, 2 and so on, modulo 256) or `*N` (N times `x`); after `, ` the effects of the calls.
 pub fn script_of(alloc: Global, rest: &str) -> Result<Scripted, Bad> {
     let (text, answers) = rest.split_once(", ").unwrap_or((rest, ""));
     match (bytes_of(alloc, text), answers_of(alloc, answers)) {
@@ -87,7 +87,7 @@ fn answer_of(word: &str) -> Result<Answer, Bad> {
     }
 }
 
-/// A failure as rows spell it.
+/// A failure in a row.
 pub fn kind_name(kind: ErrorKind) -> &'static str {
     match kind {
         ErrorKind::Interrupted => "interrupted",
@@ -102,7 +102,7 @@ pub fn kind_name(kind: ErrorKind) -> &'static str {
 }
 
 impl Scripted {
-    /// What the next call does.
+    /// The effect of the next call.
     fn answer(&mut self) -> Answer {
         let at = self.calls;
         self.calls = self.calls.saturating_add(1);
@@ -112,7 +112,7 @@ impl Scripted {
         }
     }
 
-    /// Keeps bytes that are written.
+    /// Keeps written bytes.
     fn store(&mut self, bytes: &[u8]) -> io::Result<usize>
         ensures { IfOk result (λ n. n ≤ length bytes.now) }
     {
@@ -128,7 +128,7 @@ impl Scripted {
     }
 }
 
-/// How many of so many bytes an answer takes.
+/// How many of `room` bytes an answer takes.
 fn count_of(answer: Answer, room: usize) -> io::Result<usize>
     ensures { IfOk result (λ n. n ≤ room) }
 {
@@ -198,7 +198,7 @@ impl Stream for Scripted {
 }
 
 impl Scripted {
-    /// How many of so many bytes a poll takes.
+    /// How many of `room` bytes a poll takes.
     fn polled(&mut self, cx: &mut Context<'_>, room: usize) -> Poll<io::Result<usize>>
         ensures bound { count_moved result ≤ room }
         ensures registered { OnPending result (Covers cx.new (λ _. ⊥)) }

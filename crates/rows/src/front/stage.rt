@@ -1,4 +1,4 @@
-//! What steps are played on, and which module plays a step. A new kind of world is a module, a variant of `On`, and a line each in
+//! The world that steps are played on, and the module of a step. A new kind of world is a module, a variant of `On`, and a line each in
 //! `begun` and `step`; a question that needs no world is a module and a line in `play`.
 use crate::front::beside::Pair;
 use crate::front::bytes::{self, OverCounted};
@@ -18,7 +18,7 @@ use std::sync::Wait;
 use std::thread::Threads;
 use std::time::Clock;
 
-/// What is played on.
+/// A world that steps are played on.
 #[derive(Drop)]
 pub enum On<R: Wait + Copy + Clone + Drop> {
     Nothing,
@@ -33,7 +33,7 @@ pub enum On<R: Wait + Copy + Clone + Drop> {
     Plain(Box<Plain>),
 }
 
-/// What is played on, and the machine.
+/// A world, and the machine.
 #[derive(Drop)]
 pub struct Stage<R: Wait + Copy + Clone + Drop> {
     pub rt: R,
@@ -42,7 +42,7 @@ pub struct Stage<R: Wait + Copy + Clone + Drop> {
 }
 
 impl<R: AllocGlobal + RandomSource + Wait + Copy + Clone + Drop> Stage<R> {
-    /// The world that the step of this name begins.
+    /// The world that the step with this name begins.
     fn begun(&self, name: &str, rest: &str) -> Option<Result<On<R>, Bad>> {
         Some(match name {
             "fronts" => on!(Fronts, fronts::begin(self.rt, self.alloc, rest)),
@@ -82,7 +82,7 @@ impl<
 impl<
     R: AllocGlobal + RandomSource + Wait + Threads + Clock + Copy + Clone + Drop + Send + 'static,
 > Stage<R> {
-    /// Makes a step, and appends what it gives.
+    /// Makes a step, and appends its result.
     pub fn play(&mut self, step: &str, got: &mut Got) {
         let (name, rest) = headed(step);
         match name {

@@ -1,13 +1,13 @@
-//! A bar's calls as rows spell them: a name and what belongs to it.
+//! A bar's calls in rows: a name and its argument.
 //!
 //! - The commands of `scripts::commands`, but for `update`, and those of a ticker; and `with_elapsed`.
-//! - Without an argument: `suspend`; `at_end`: by what wraps something, at its end.
-//! - With a number: `further`: an update of the position; `advance` and `place`: by what wraps something; `absorb`: a sum of one worker that
-//!   has added so much.
+//! - Without an argument: `suspend`; `at_end`: by a wrapper, at its end.
+//! - With a number: `further`: an update of the position; `advance` and `place`: by a wrapper; `absorb`: a sum of one worker that has added
+//!   the number.
 //! - With a text: `log`; `set_style` and `with_style`: a spinner whose last text is this one; `template`: the bar's own style with another
 //!   template.
 //!
-//! What answers with the bar counts as `limited`, since it draws nothing.
+//! A builder counts as `limited`, since it draws nothing.
 use crate::front::bars::{Front, spinner};
 use indicatif::{
     BarCommand, Change, Drawn, Moves, NoTracker, ProgressFinish, ProgressState, Refusal,
@@ -21,10 +21,10 @@ use std::sync::Wait;
 
 type Command = BarCommand<NoTracker>;
 
-/// What a call of a bar answers.
+/// The answer of a call of a bar.
 pub type Told = Result<Drawn, Refusal>;
 
-/// Makes the call that a text spells.
+/// Makes the call of a text.
 pub fn tell<R: Wait + Copy + Clone + Drop>(
     bar: &Front<R>,
     alloc: Global,
@@ -52,7 +52,7 @@ pub fn tell<R: Wait + Copy + Clone + Drop>(
     }
 }
 
-/// Makes a command by the call of its name.
+/// Makes a command by the call with its name.
 fn obeyed<R: Wait + Copy + Clone + Drop>(bar: &Front<R>, command: Command) -> Result<Told, Bad> {
     match called!(bar, &command) {
         Some(told) => Ok(told),
@@ -79,7 +79,7 @@ fn numbered<R: Wait + Copy + Clone + Drop>(
     }
 }
 
-/// So much further than this state.
+/// The change to a position `delta` further.
 pub fn further(state: &ProgressState, delta: u64) -> Change {
     Change {
         pos: Some(state.pos().wrapping_add(delta)),
@@ -87,7 +87,7 @@ pub fn further(state: &ProgressState, delta: u64) -> Change {
     }
 }
 
-/// A move that something else makes, of another owner.
+/// A move by a wrapper, of another owner.
 fn moved<R: Wait + Copy + Clone + Drop>(bar: &Front<R>, name: &str, n: u64) -> Told {
     let other: Result<_, _> = bar.clone();
     let Ok(mut bar) = other else {
@@ -100,7 +100,7 @@ fn moved<R: Wait + Copy + Clone + Drop>(bar: &Front<R>, name: &str, n: u64) -> T
     }
 }
 
-/// Makes a command by the call that answers with the bar, of another owner.
+/// Makes a command by its builder, of another owner.
 fn build<R: Wait + Copy + Clone + Drop>(bar: &Front<R>, command: Command) -> Result<Told, Bad> {
     let other: Result<_, _> = bar.clone();
     let Ok(bar) = other else {

@@ -1,4 +1,4 @@
-//! What has to hold of the bytes that were written: rows above stand at each of them.
+//! What must hold of the bytes that were written: rows above stand at each of them.
 use super::record::Size;
 use crate::screen::filled;
 use indicatif_term::in_memory::Cells;
@@ -8,19 +8,19 @@ use std::alloc::{AllocError, AllocFailed, Global};
 /// What is wrong with a run.
 #[derive(Clone, Copy, Debug, Drop)]
 pub enum Finding {
-    /// A row above the bars isn't what it was.
+    /// A row above the bars has changed.
     Above,
-    /// A text that was logged isn't above the bars.
+    /// A logged text isn't above the bars.
     Lost,
-    /// The first drawing behind a failure doesn't begin on a new row.
+    /// The first draw after a failure doesn't begin on a new row.
     Beginning,
-    /// A call answers what it shouldn't.
+    /// A call has a wrong answer.
     Answer,
     /// A draw that failed left other bars in the order.
     Order,
-    /// Something was written by a call that found no memory.
+    /// A call that got no memory wrote something.
     Written,
-    /// No memory to judge by.
+    /// There is no memory for the judge.
     Memory,
 }
 
@@ -42,25 +42,25 @@ impl<V: Drop> From<AllocFailed<V>> for Finding {
     }
 }
 
-/// How closely bytes are looked at.
+/// At which bytes the rows are checked.
 #[derive(Clone, Copy, Drop)]
 pub enum Look {
-    /// Behind each of them.
+    /// After each of them.
     EachByte,
-    /// Behind each from the first call that fails on, and behind the last one of each call before it.
+    /// After each from the first call that fails on, and after the last one of each call before it.
     FromFailure,
-    /// Behind each of a call that fails and of the first drawing behind it, and behind the last one of each other call.
+    /// After each of a call that fails and of the first draw after it, and after the last one of each other call.
     AtFailure,
-    /// Behind the last byte of a call.
+    /// After the last byte of a call.
     EachCall,
 }
 
 /// The rows before a script's first call.
 const BEFORE: &str = "x\r\ny\r\n";
 
-/// What stands on a terminal, and which of its rows nothing may change.
+/// The rows of a terminal, and which of them must not change.
 pub struct Judge {
-    /// Where it takes its memory.
+    /// Its allocator.
     pub alloc: Global,
     size: Size,
     look: Look,
@@ -87,7 +87,7 @@ impl Drop for Judge {
 }
 
 impl Judge {
-    /// A terminal of this size on which two rows stand, with the cursor at the front of the next.
+    /// A terminal of this size, on which two rows stand, with the cursor at the front of the next.
     pub fn new(alloc: Global, size: Size, look: Look) -> Result<Judge, Finding> {
         let cells = Cells::new(alloc, size.rows, size.cols)?;
         let mut judge = Judge {
@@ -106,13 +106,13 @@ impl Judge {
         }
     }
 
-    /// Two rows stand.
+    /// Writes the two rows.
     fn begin(&mut self) -> Result<(), Finding> {
         self.takes(BEFORE.as_bytes())?;
         self.keeps(2)
     }
 
-    /// The first rows are those that nothing may change from now on.
+    /// Notes that the first rows must not change from now on.
     fn keeps(&mut self, rows: usize) -> Result<(), Finding> {
         let mut above = self.cells.picture()?;
         above.truncate(rows);
@@ -151,7 +151,7 @@ impl Judge {
         Ok(())
     }
 
-    /// Reads bytes, behind the last of which the rows above stand.
+    /// Reads bytes, and checks the rows above after the last one.
     fn reads_all(&mut self, bytes: &[u8]) -> Result<(), Finding> {
         self.takes(bytes)?;
         let picture = self.cells.picture()?;
@@ -161,8 +161,8 @@ impl Judge {
         }
     }
 
-    /// The terminal gets another size: each row above is cut into rows, which stand from now on. Where nothing was drawn since a call
-    /// failed, the cursor may be within its row: of the rows that this one becomes those below the cursor needn't stand.
+    /// Gives the terminal another size: each row above is wrapped into rows, which must stand from now on. If nothing was drawn since a
+    /// call failed, the cursor may be within its row: of the rows that this one becomes, those below the cursor needn't stand.
     pub fn resizes(&mut self, size: Size) -> Result<(), Finding> {
         let above = cut_rows(self.alloc, &self.above, usize::from(size.cols))?;
         self.cells.resize(size.rows, size.cols)?;
@@ -176,7 +176,7 @@ impl Judge {
         Ok(())
     }
 
-    /// Reads bytes of which nothing has to hold.
+    /// Reads bytes without a check.
     pub fn takes(&mut self, bytes: &[u8]) -> Result<(), Finding> {
         match self.cells.feed(bytes) {
             Ok(()) => Ok(()),
@@ -184,7 +184,7 @@ impl Judge {
         }
     }
 
-    /// The rows that stand, those among them that left the window, down to the last one that isn't empty.
+    /// The rows that stand, including those that scrolled away, down to the last one that isn't empty.
     pub fn rows(&self) -> Result<Vec<String>, Finding> {
         let mut rows = self.cells.picture()?;
         let count = filled(&rows).len();
@@ -192,7 +192,7 @@ impl Judge {
         Ok(rows)
     }
 
-    /// How many rows have left the window.
+    /// How many rows have scrolled away.
     fn rows_before(&self) -> Result<usize, Finding> {
         let rows = self.cells.picture()?.len();
         Ok(rows.saturating_sub(usize::from(self.size.rows)))
@@ -205,8 +205,8 @@ impl Judge {
         Ok(before.saturating_add(usize::from(row)).saturating_add(1))
     }
 
-    /// A text was logged: it stands somewhere below the rows above, and belongs to them from now on. Its rows hold nothing else, also where a
-    /// call failed before. Only once the terminal got another size since then, what that call left may stand behind a row of the text.
+    /// Notes a logged text: it stands somewhere below the rows above, and belongs to them from now on. Its rows hold nothing else, even if
+    /// a call failed before. Only if the terminal got another size since then, what that call left may stand after a row of the text.
     pub fn logged(&mut self, text: &str) -> Result<(), Finding> {
         let picture = self.cells.picture()?;
         let rows = rows_of(self.alloc, text, usize::from(self.size.cols))?;
@@ -217,12 +217,12 @@ impl Judge {
     }
 }
 
-/// Whether the first drawing after a failure begins on a new row; one that fails too, or writes nothing, needn't.
+/// Whether the first draw after a failure begins on a new row; one that fails too, or writes nothing, needn't.
 fn begins_anew(bytes: &[u8], has_failed: bool) -> bool {
     has_failed || bytes.is_empty() || bytes.starts_with(b"\r\n")
 }
 
-/// Where the first of these rows end that stand from this one on or later, as they are or at the front of others.
+/// The end of these rows in the picture, from this row on or later, unchanged or at the front of others.
 fn end_of(picture: &[String], rows: &[String], from: usize, is_cut: bool) -> Option<usize> {
     for at in from..picture.len() {
         let rest = picture.get(at..)?;
@@ -233,7 +233,7 @@ fn end_of(picture: &[String], rows: &[String], from: usize, is_cut: bool) -> Opt
     None
 }
 
-/// Whether these rows are fronts of the first ones.
+/// Whether these rows are prefixes of the first ones.
 fn fronts_are(rows: &[String], fronts: &[String]) -> bool {
     for (front, row) in fronts.iter().zip(rows) {
         if !row.as_str().starts_with(front.as_str()) {
@@ -243,7 +243,7 @@ fn fronts_are(rows: &[String], fronts: &[String]) -> bool {
     fronts.len() <= rows.len()
 }
 
-/// Rows of letters and blanks, each cut into rows of so many columns, without the blanks at their ends.
+/// Rows of letters and blanks, each wrapped into rows of `cols` columns, without the blanks at their ends.
 fn cut_rows(alloc: Global, rows: &[String], cols: usize) -> Result<Vec<String>, Finding> {
     let mut all = Vec::new(alloc);
     for row in rows {
@@ -252,7 +252,7 @@ fn cut_rows(alloc: Global, rows: &[String], cols: usize) -> Result<Vec<String>, 
     Ok(all)
 }
 
-/// The pieces of a row behind others, without the blanks at their ends.
+/// Appends the pieces of a row, without the blanks at their ends.
 fn push_cut(all: &mut Vec<String>, alloc: Global, pieces: &[String]) -> Result<(), Finding> {
     for piece in pieces {
         all.push(String::from_str(alloc, piece.as_str().trim_end_matches(' '))?)?;

@@ -10,14 +10,14 @@ use indicatif_term::term_like::Resize;
 use indicatif_text::columns::Refusal;
 use std::alloc::Global;
 
-/// A lone bar, all of whose calls are made at the moment 0.
+/// A lone bar, with all calls at the moment 0.
 #[derive(Drop)]
 pub struct OnBar<T: Drop> {
     bar: Box<LoneBar<NoTracker, T>>,
 }
 
 impl<T: Resize + Drop> OnBar<T> {
-    /// A bar that says `a` on this terminal.
+    /// A bar with the message `a` on this terminal.
     pub fn new(alloc: Global, term: T) -> Result<OnBar<T>, Refusal> {
         let bar = saying(alloc, "a")?;
         let target = ProgressDrawTarget::term_like(term);

@@ -13,7 +13,7 @@ use std::alloc::Global;
 /// The board's mark.
 const MARK: u64 = 1;
 
-/// A board, all of whose calls are made at the moment 0.
+/// A board, with all calls at the moment 0.
 #[derive(Drop)]
 pub struct OnBoard<T: Drop> {
     alloc: Global,
@@ -24,7 +24,7 @@ fn id(number: u64) -> BarId {
     BarId { mark: MARK, number }
 }
 
-/// What a call answers that draws nothing.
+/// The answer of a call that draws nothing.
 pub fn done(answer: Result<(), Refusal>) -> Said {
     match answer {
         Ok(()) => Ok(Drawn::Limited),
@@ -32,7 +32,7 @@ pub fn done(answer: Result<(), Refusal>) -> Said {
     }
 }
 
-/// A bar that says this.
+/// Adds a bar with this message.
 pub fn saying(alloc: Global, text: &str) -> Result<BarState<NoTracker>, Refusal> {
     let style = ProgressStyle::with_template(alloc, "{msg}")?;
     let mut bar = BarState::styled(alloc, style, None, 0)?;
@@ -50,14 +50,14 @@ impl<T: Resize + Drop> OnBoard<T> {
         }
     }
 
-    /// The same, whose draws write over what stands by moves of the cursor alone.
+    /// A board without bars on this terminal, which draws by cursor moves alone.
     pub fn moving(alloc: Global, term: T) -> Result<OnBoard<T>, Refusal> {
         let mut stage = OnBoard::new(alloc, term)?;
         stage.board.set_move_cursor(true);
         Ok(stage)
     }
 
-    /// A new bar that says this comes before another, or last.
+    /// Adds a new bar with this message before another, or last.
     fn add(&mut self, anchor: Option<u64>, text: &str) -> Said {
         let candidate = Candidate::New(saying(self.alloc, text)?);
         let taken = match anchor {
@@ -74,7 +74,7 @@ impl<T: Resize + Drop> OnBoard<T> {
         self.board.command(id(bar), command, 0)
     }
 
-    /// A bar says this, and is drawn or not.
+    /// Sets the message of a bar, which is drawn or not.
     fn say(&mut self, step: Step, bar: u64, text: &str) -> Said {
         let text = String::from_str(self.alloc, text)?;
         let command = match step {

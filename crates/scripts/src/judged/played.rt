@@ -6,19 +6,19 @@ use indicatif_text::columns::Refusal;
 use std::alloc::Global;
 use std::io::ErrorKind;
 
-/// What makes the calls of a script.
+/// Makes the calls of a script.
 pub trait Stage {
     /// Makes a call.
     fn make(&mut self, step: Step) -> Said;
 
-    /// The numbers of its bars in their order; none where they aren't told.
+    /// The numbers of its bars in order; none if it can't tell them.
     fn order(&self) -> &[u64];
 }
 
-/// Makes calls one after another, each of which answers as it should and leaves what has to stand; how many of them failed.
+/// Makes calls one after another, checks each one's answer and rows, and returns how many of them failed.
 ///
-/// A call in which the writer failed answers `BrokenPipe`, and its draw leaves all bars in the order. Any other answers what it does where
-/// nothing fails.
+/// A call in which the writer failed answers `BrokenPipe`, and its draw leaves all bars in the order. Any other gives its answer as if
+/// nothing had failed.
 pub fn played<S: Stage>(
     stage: &mut S,
     record: &Record,
@@ -34,7 +34,7 @@ pub fn played<S: Stage>(
     Ok(failed)
 }
 
-/// Makes a call that has to answer and to leave what it should; whether the writer failed in it.
+/// Makes a call and checks its answer and its rows; whether the writer failed in it.
 fn is_failing<S: Stage>(
     stage: &mut S,
     record: &Record,
@@ -81,7 +81,7 @@ fn succeeded(said: Said, (step, bytes): (Step, &[u8]), judge: &mut Judge) -> Res
     }
 }
 
-/// A size is written nowhere, and the terminal has it from then on, if it isn't refused.
+/// A size writes nothing, and the terminal has it from then on, unless it is refused.
 pub fn resized(said: Said, (step, bytes): (Step, &[u8]), judge: &mut Judge) -> Result<(), Finding> {
     match (step.resized(), said) {
         (Some(_), _) if !bytes.is_empty() => Err(Finding::Written),

@@ -1,4 +1,4 @@
-//! A writer that keeps its bytes and fails as it is told to.
+//! A writer that keeps its bytes and fails as planned.
 use indicatif_term::term_like::Term;
 use indicatif_text::columns::Refusal;
 use std::alloc::Global;
@@ -7,23 +7,23 @@ use std::io;
 use std::io::{Error, ErrorKind, Write};
 use std::rc::Rc;
 
-/// When the writer fails, with `BrokenPipe`. Its calls are counted from 1, flushes among them.
+/// When the writer fails, with `BrokenPipe`. Its calls are counted from 1, including flushes.
 #[derive(Clone, Copy, Debug, Drop)]
 pub enum Plan {
-    /// It doesn't.
+    /// Never.
     Never,
-    /// The call of this number fails, and takes nothing.
+    /// The call with this number fails, and takes nothing.
     Call(u64),
-    /// When so many bytes are taken the next one isn't, once.
+    /// After this many bytes the next one isn't taken, once.
     Byte(usize),
-    /// Both calls fail, and take nothing.
+    /// The two calls with these numbers fail, and take nothing.
     Both(u64, u64),
-    /// This call fails, and so does each one behind it.
+    /// This call and each one after it fail.
     From(u64),
 }
 
 impl Plan {
-    /// Whether the call of this number takes nothing.
+    /// Whether the call with this number takes nothing.
     fn denies(self, call: u64) -> bool {
         match self {
             Plan::Never | Plan::Byte(_) => false,
@@ -34,7 +34,7 @@ impl Plan {
     }
 }
 
-/// What a writer was given so far.
+/// How much a writer got so far.
 #[derive(Clone, Copy, Default, Drop)]
 pub struct Point {
     /// Bytes.
@@ -45,7 +45,7 @@ pub struct Point {
     pub failures: u64,
 }
 
-/// What a writer was given, and how it fails.
+/// The bytes of a writer, and how it fails.
 #[derive(Drop)]
 pub struct Record {
     plan: Cell<Plan>,
@@ -56,7 +56,7 @@ pub struct Record {
 }
 
 impl Record {
-    /// Nothing yet, with room for so many bytes.
+    /// No bytes yet, with room for `room` bytes.
     pub fn new(alloc: Global, plan: Plan, room: usize) -> Result<Rc<Record>, Refusal> {
         let record = Record {
             plan: Cell::new(plan),
@@ -68,17 +68,17 @@ impl Record {
         Ok(Rc::new(alloc, record)?)
     }
 
-    /// From now on it doesn't fail.
+    /// Stops it from failing.
     pub fn heal(&self) {
         self.plan.set(Plan::Never);
     }
 
-    /// How much it was given.
+    /// How much it got so far.
     pub fn point(&self) -> Point {
         self.point.get()
     }
 
-    /// The number of the call that failed last; 0 if none has.
+    /// The number of the last call that failed; 0 if none has.
     pub fn failed_call(&self) -> u64 {
         self.failed_call.get()
     }
@@ -88,12 +88,12 @@ impl Record {
         self.failed_by.get()
     }
 
-    /// The bytes that it has taken behind this point.
+    /// The bytes that it took after this point.
     pub fn since(&self, alloc: Global, point: Point) -> Result<Vec<u8>, Refusal> {
         self.between(alloc, point, self.point())
     }
 
-    /// The bytes that it has taken between two points.
+    /// The bytes that it took between two points.
     pub fn between(&self, alloc: Global, from: Point, to: Point) -> Result<Vec<u8>, Refusal> {
         match self.taken.try_borrow() {
             Ok(taken) => {
@@ -115,7 +115,7 @@ impl Record {
         !self.plan.get().denies(point.calls)
     }
 
-    /// Counts a failure of this kind.
+    /// Counts a failure of this kind, and returns it.
     fn failure(&self, kind: ErrorKind) -> Error {
         let mut point = self.point.get();
         point.failures = point.failures.saturating_add(1);
@@ -125,7 +125,7 @@ impl Record {
         Error::from(kind)
     }
 
-    /// How many bytes may be taken now; none once where the next one isn't.
+    /// How many bytes may be taken now; none if the next one isn't.
     fn room(&self) -> Option<usize> {
         let Plan::Byte(at) = self.plan.get() else {
             return Some(usize::MAX);
@@ -180,7 +180,7 @@ impl Write for Wire {
 /// A terminal behind such a writer.
 pub type Behind = Term<Wire>;
 
-/// How large a terminal is.
+/// The size of a terminal.
 #[derive(Clone, Copy, Debug, Drop, PartialEq, Eq)]
 pub struct Size {
     /// Rows.

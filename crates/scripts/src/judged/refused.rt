@@ -1,7 +1,7 @@
-//! Scripts that are played where memory is refused once, and judged.
+//! Scripts that are played with memory refused once, and judged.
 //!
-//! While a script is played, what its calls do is noted in room that was taken before. It is judged behind the last call, where memory is
-//! there again.
+//! While a script is played, what its calls do is noted in memory that was taken before. It is judged after the last call, when there is
+//! memory again.
 use super::judge::{Finding, Judge, Look};
 use super::played::{Stage, resized};
 use super::record::{Plan, Point, Record, Size};
@@ -11,7 +11,7 @@ use std::alloc::Global;
 use std::io::ErrorKind;
 use std::rc::Rc;
 
-/// What makes stages, each on a terminal behind a record.
+/// Makes stages, each on a terminal with a record.
 pub trait Stages {
     /// A stage.
     type Made: Stage + Drop;
@@ -23,21 +23,21 @@ pub trait Stages {
     fn script(&self) -> &'static [Step];
 }
 
-/// Where memory was refused, counted in calls from 0 on.
+/// Where memory was refused, in calls counted from 0.
 #[derive(Clone, Copy, Drop)]
 pub enum Where {
-    /// No call answered so.
+    /// No call was refused memory.
     Nowhere,
     /// The stage wasn't made.
     Unmade,
     /// This call answered `Memory`.
     Call(usize),
-    /// The terminal's own memory in this call, which answered `Terminal`.
+    /// The terminal's own memory was refused in this call, which answered `Terminal`.
     Terminal(usize),
 }
 
 impl Where {
-    /// What is said of a run that is as defined.
+    /// The name of the outcome, for a run that is as defined.
     pub fn name(self) -> &'static str {
         match self {
             Where::Nowhere => "no call was refused",
@@ -48,7 +48,7 @@ impl Where {
     }
 }
 
-/// What a call did: its answer, what the terminal was given by then, and where its order ends among all orders.
+/// What a call did: its answer, how much the terminal got by then, and where its order ends among all orders.
 #[derive(Clone, Copy, Drop)]
 struct Note {
     said: Said,
@@ -56,7 +56,7 @@ struct Note {
     end: usize,
 }
 
-/// Whether there was memory for all.
+/// Whether there was memory for everything.
 fn found_room(has_found: bool) -> Result<(), Finding> {
     match has_found {
         true => Ok(()),
@@ -72,7 +72,7 @@ pub struct Notes {
 }
 
 impl Notes {
-    /// Nothing yet, with room for 40 calls.
+    /// No notes yet, with room for 40 calls.
     pub fn new(alloc: Global) -> Result<Notes, Finding> {
         Ok(Notes {
             calls: Vec::with_capacity(alloc, 40)?,
@@ -95,12 +95,12 @@ impl Notes {
         found_room(has_order && has_note)
     }
 
-    /// What the last of so many calls did.
+    /// The note of the last of the first `calls` calls.
     fn last_of(&self, calls: usize) -> Option<&Note> {
         self.calls.get(calls.checked_sub(1)?)
     }
 
-    /// What the terminal was given before a call.
+    /// How much the terminal got before a call.
     fn before(&self, call: usize) -> Point {
         match self.last_of(call) {
             Some(note) => note.point,
@@ -108,7 +108,7 @@ impl Notes {
         }
     }
 
-    /// The order behind so many calls.
+    /// The order after the first `calls` calls.
     fn order(&self, calls: usize) -> &[u64] {
         let Some(note) = self.last_of(calls) else {
             return &[];
@@ -128,7 +128,7 @@ impl Notes {
         }
     }
 
-    /// The answers of those of these calls that are compared.
+    /// The answers of the calls that are compared.
     fn answers(&self, alloc: Global, calls: &[Turn]) -> Result<Vec<Said>, Finding> {
         let mut answers = Vec::new(alloc);
         let mut has_room = true;
@@ -157,14 +157,14 @@ pub fn noted<S: Stage>(
     Ok(())
 }
 
-/// A call, and whether what it answers and shows is compared.
+/// A call, and whether its answer and its rows are compared.
 #[derive(Clone, Copy, Drop)]
 struct Turn {
     step: Step,
     is_compared: bool,
 }
 
-/// What is seen of a run, call by call.
+/// The state of a look at a run, call by call.
 #[derive(Drop)]
 struct Seen {
     judge: Judge,
@@ -172,29 +172,29 @@ struct Seen {
     found: Where,
 }
 
-/// A script that was played, on a terminal of this size behind this record, and what its calls did.
+/// A script that was played, on a terminal of this size with this record, and its notes.
 #[derive(Drop)]
 pub struct Run<'a, M> {
-    /// Where its memory was taken.
+    /// Its allocator.
     pub alloc: Global,
     /// The size of the terminal.
     pub size: Size,
-    /// What the script says.
+    /// The stages that make the script.
     pub stages: &'a M,
     /// What was written.
     pub record: &'a Record,
-    /// What its calls did.
+    /// The notes of its calls.
     pub notes: &'a Notes,
 }
 
 impl<M: Stages> Run<'_, M> {
-    /// Where memory was refused in a run that is as it is defined.
+    /// Where memory was refused, in a run that is as defined.
     ///
-    /// Each call answers what it does where nothing is refused, or `Memory`, or `Terminal` with the kind `OutOfMemory` where the
-    /// terminal's own growth was refused; the first of these leaves the order. A call with `Memory` writes nothing. Rows above stand behind
-    /// each byte. What comes behind, by the answers and by what each drawing shows, is what a new stage does that makes the same calls with
-    /// ample memory: without the refused call, or with what that call had begun; or on a terminal that fails at that very call of the writer.
-    /// Only one call answers `Memory`.
+    /// Each call answers as if nothing had been refused, or `Memory`, or `Terminal` with the kind `OutOfMemory` if the terminal's own
+    /// growth was refused; the first of these leaves the order unchanged. A call with `Memory` writes nothing. Rows above stand after each
+    /// byte. What follows, by its answers and the rows of each draw, is what a new stage does that makes the same calls with enough memory:
+    /// without the refused call, or with what that call had begun; or on a terminal that fails at that very call of the writer. Only one
+    /// call answers `Memory`.
     pub fn judged(&self) -> Result<Where, Finding> {
         let found = self.looked_at()?;
         let follows = match found {
@@ -232,7 +232,7 @@ impl<M: Stages> Run<'_, M> {
         self.look_behind(seen, (at, step), (note.said, has_failed), &bytes)
     }
 
-    /// Looks at what a call answered, in which the writer failed or didn't, behind the bytes that it wrote.
+    /// Looks at the answer of a call, in which the writer failed or didn't, after its bytes.
     fn look_behind(
         &self,
         seen: &mut Seen,
@@ -253,14 +253,14 @@ impl<M: Stages> Run<'_, M> {
         }
     }
 
-    /// The terminal's own memory was refused in this call.
+    /// Looks at a call in which the terminal's own memory was refused.
     fn breaks(&self, seen: &mut Seen, at: usize) -> Result<(), Finding> {
         self.leaves_the_order(at)?;
         seen.found = Where::Terminal(at);
         Ok(())
     }
 
-    /// A call answered what it does where nothing fails.
+    /// Looks at a call that answered as if nothing had failed.
     fn succeeds(
         &self,
         seen: &mut Seen,
@@ -272,7 +272,7 @@ impl<M: Stages> Run<'_, M> {
         log(&mut seen.judge, step, said)
     }
 
-    /// A call answered `Memory`.
+    /// Looks at a call that answered `Memory`.
     fn refuses(
         &self,
         seen: &mut Seen,
@@ -292,8 +292,8 @@ impl<M: Stages> Run<'_, M> {
         }
     }
 
-    /// What comes behind a call with `Memory` is what comes without it; or with what it did before its draw; or with all of it right before
-    /// the next call that draws bars, where only that one shows the lines that it had stored. If that call takes back what stands, a clear
+    /// What follows a call with `Memory` is what follows without it; or with what it did before its draw; or with all of it right before
+    /// the next call that draws bars, if only that one shows the lines that it had stored. If that call erases the rows that stand, a clear
     /// comes before them: nothing that the refused draw would have pushed above the window is there.
     fn follows_a_refusal(&self, at: usize) -> Result<bool, Finding> {
         if self.is_like(at, &[])? {
@@ -316,7 +316,7 @@ impl<M: Stages> Run<'_, M> {
         }
     }
 
-    /// The first call behind this one that draws bars, and whether it takes rows back that bars left which are gone.
+    /// The first call after this one that draws bars, and whether it erases rows of bars that are gone.
     fn next_draw(&self, at: usize) -> Option<(usize, bool)> {
         let script = self.stages.script();
         let from = at.saturating_add(1);
@@ -329,15 +329,16 @@ impl<M: Stages> Run<'_, M> {
         None
     }
 
-    /// Whether a new stage answers the same and shows the same from this call on, and has the same order at the end. It makes the calls that
-    /// weren't refused; and before one of them another, if one is given.
+    /// Whether a new stage gives the same answers and rows from this call on, and has the same order at the end. It makes the calls that
+    /// weren't refused, and another one before one of them, if one is given.
     fn is_like(&self, from: usize, others: &[(usize, Step)]) -> Result<bool, Finding> {
         let mine = self.own_calls(from)?;
         let calls = self.new_calls(from, others)?;
         self.is_as_new(&mine, &calls)
     }
 
-    /// Whether a new stage that makes the second calls answers and shows what the run does in the first, and has the same order at the end.
+    /// Whether a new stage that makes the second calls gives the answers and rows of the run in the first, and has the same order at the
+    /// end.
     fn is_as_new(&self, mine: &[Turn], calls: &[Turn]) -> Result<bool, Finding> {
         let fresh = self.fresh(calls, Plan::Never)?;
         self.goes_as(&fresh, mine, calls)
@@ -354,7 +355,7 @@ impl<M: Stages> Run<'_, M> {
         Ok(answers == wanted)
     }
 
-    /// The calls of the run. Compared are those from this one on that weren't refused.
+    /// The calls of the run. Those from this one on that weren't refused are compared.
     fn own_calls(&self, from: usize) -> Result<Vec<Turn>, Finding> {
         let mut calls = Vec::new(self.alloc);
         let mut has_room = true;
@@ -372,7 +373,7 @@ impl<M: Stages> Run<'_, M> {
         }
     }
 
-    /// The calls of the run that weren't refused, and before one of them another, if one is given. Compared are those from this one on.
+    /// The calls of the run that weren't refused, and another one before one of them, if one is given. Those from this one on are compared.
     fn new_calls(&self, from: usize, others: &[(usize, Step)]) -> Result<Vec<Turn>, Finding> {
         let mut calls = Vec::new(self.alloc);
         let mut has_room = true;
@@ -400,13 +401,13 @@ impl<M: Stages> Run<'_, M> {
         }
     }
 
-    /// Whether the same stands behind the compared calls that drew, and behind the last one.
+    /// Whether the same rows stand after the compared calls that drew, and after the last one.
     fn shows_as(&self, fresh: &Fresh, mine: &[Turn], calls: &[Turn]) -> Result<bool, Finding> {
         let shown = self.shown((self.record, self.notes), mine)?;
         Ok(shown == self.shown((&fresh.record, &fresh.notes), calls)?)
     }
 
-    /// What stands behind each of these calls that drew and is compared, and behind the last one.
+    /// The rows after each of these calls that drew and is compared, and after the last one.
     fn shown(&self, played: (&Record, &Notes), calls: &[Turn]) -> Result<Pictures, Finding> {
         let mut judge = Judge::new(self.alloc, self.size, Look::EachCall)?;
         let mut pictures = Vec::new(self.alloc);
@@ -414,8 +415,8 @@ impl<M: Stages> Run<'_, M> {
         Ok(pictures)
     }
 
-    /// Whether a new stage on a terminal that fails at the same call of its writer writes the same bytes, and answers the same but for the
-    /// kind of the failure.
+    /// Whether a new stage on a terminal that fails at the same call of its writer writes the same bytes, and answers the same except for
+    /// the kind of the failure.
     fn follows_a_failure(&self, at: usize) -> Result<bool, Finding> {
         let plan = Plan::Call(self.record.failed_call());
         let calls = self.own_calls(at.saturating_add(1))?;
@@ -427,7 +428,7 @@ impl<M: Stages> Run<'_, M> {
         Ok(self.answers_as(fresh, calls, calls)? && self.bytes()? == fresh.bytes(self.alloc)?)
     }
 
-    /// What a new stage does that makes these calls.
+    /// The run of a new stage that makes these calls.
     fn fresh(&self, calls: &[Turn], plan: Plan) -> Result<Fresh, Finding> {
         let record = Record::new(self.alloc, plan, 4096)?;
         let mut stage = self.stages.on(&record)?;
@@ -457,11 +458,11 @@ impl Fresh {
     }
 }
 
-/// Rows that stand, one picture behind another.
+/// Rows that stand, one picture after another.
 type Pictures = Vec<Vec<String>>;
 
-/// Has the judge read what these calls wrote; appends what stands behind each of them that drew and is compared, and behind the last one.
-/// What a bar's drop draws may be lost: the next draw shows it.
+/// Passes the bytes of these calls to the judge; appends the rows after each of them that drew and is compared, and after the last one. The
+/// draw of a bar's drop may be lost: the next draw shows it.
 fn push_pictures(
     pictures: &mut Pictures,
     judge: &mut Judge,
@@ -480,7 +481,7 @@ fn push_rows(pictures: &mut Pictures, judge: &Judge) -> Result<(), Finding> {
     Ok(pictures.push(judge.rows()?)?)
 }
 
-/// Has the judge read what a call wrote from this point on; whether the call drew and is compared.
+/// Passes the bytes of a call from this point on to the judge; whether the call drew and is compared.
 fn is_shown(
     judge: &mut Judge,
     record: &Record,
@@ -494,13 +495,13 @@ fn is_shown(
     Ok(call.is_compared && has_drawn)
 }
 
-/// The bytes of the calls that were noted.
+/// The bytes of the noted calls.
 fn bytes_of(alloc: Global, record: &Record, notes: &Notes) -> Result<Vec<u8>, Finding> {
     let end = notes.before(notes.calls.len());
     Ok(record.between(alloc, Point::default(), end)?)
 }
 
-/// A text that was logged stands above the bars.
+/// Checks that a logged text stands above the bars.
 fn log(judge: &mut Judge, step: Step, said: Said) -> Result<(), Finding> {
     match step.logged() {
         Some(text) if said == Ok(Drawn::Yes) => judge.logged(text),
@@ -508,7 +509,7 @@ fn log(judge: &mut Judge, step: Step, said: Said) -> Result<(), Finding> {
     }
 }
 
-/// A call that found no memory wrote nothing. A `suspend` is a clear and a draw, of which the second alone may find none.
+/// Checks that a call that got no memory wrote nothing. A `suspend` is a clear and a draw, of which only the second may get none.
 fn is_unwritten(step: Step, bytes: &[u8]) -> Result<(), Finding> {
     match bytes.is_empty() || matches!(step, Step::Suspend) {
         true => Ok(()),

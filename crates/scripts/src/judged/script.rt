@@ -1,50 +1,50 @@
-//! Calls, and what each answers where nothing fails.
+//! Calls, and the answer of each if nothing fails.
 use super::record::Size;
 use indicatif_text::columns::{Drawn, Refusal};
 
-/// What a call answers; one that draws nothing counts as `Limited`.
+/// The answer of a call; one that draws nothing counts as `Limited`.
 pub type Said = Result<Drawn, Refusal>;
 
-/// A call. Bars are told by their numbers, from 0 on in the order in which they came; a lone bar has any.
+/// A call. Bars have numbers, from 0 on in the order of insertion; for a lone bar any number does.
 #[derive(Clone, Copy, Drop)]
 pub enum Step {
-    /// A new bar that says this comes last.
+    /// Adds a new bar with this message last.
     Add(&'static str),
-    /// A new bar that says this comes before another.
+    /// Adds a new bar with this message before another.
     Before(u64, &'static str),
-    /// A bar is drawn.
+    /// Draws a bar.
     Tick(u64),
-    /// A bar says something else.
+    /// Sets a bar's message.
     Message(u64, &'static str),
-    /// The same, and nothing is drawn.
+    /// Sets a bar's message without a draw.
     Told(u64, &'static str),
-    /// A bar keeps its rows when it is dropped.
+    /// Lets a bar keep its rows when it is dropped.
     Keep(u64),
-    /// A bar is finished.
+    /// Finishes a bar.
     Finish(u64),
-    /// A bar loses its owner.
+    /// Drops a bar.
     Drop(u64),
-    /// A bar is taken out.
+    /// Removes a bar.
     Remove(u64),
-    /// A text above all bars.
+    /// Logs a text above all bars.
     Log(&'static str),
-    /// The same by a bar.
+    /// Logs a text above all bars, by a call of this bar.
     BarLog(u64, &'static str),
-    /// All rows of the bars are taken back.
+    /// Erases all rows of the bars.
     Clear,
-    /// All bars are drawn.
+    /// Draws all bars.
     Redraw,
-    /// All rows are taken back, and all bars are drawn.
+    /// Erases all rows, and draws all bars.
     Suspend,
-    /// Bars stand in the last rows of what is taken back.
+    /// Puts bars in the last rows of those that a draw erases.
     Bottom,
-    /// Bars stand in the first.
+    /// Puts bars in the first rows of those that a draw erases.
     Top,
-    /// The terminal gets another size.
+    /// Gives the terminal another size.
     Size(Size),
 }
 
-/// What a size answers: one of nothing is refused.
+/// The answer of a size: one without rows or columns is refused.
 fn sized(size: Size) -> Said {
     match size.rows == 0 || size.cols == 0 {
         true => Err(Refusal::ZeroSize),
@@ -53,7 +53,7 @@ fn sized(size: Size) -> Said {
 }
 
 impl Step {
-    /// What it answers where nothing fails.
+    /// Its answer if nothing fails.
     pub fn wanted(self) -> Said {
         match self {
             Step::Add(_)
@@ -68,7 +68,7 @@ impl Step {
         }
     }
 
-    /// What it does before its draw, so that it may have done it where that draw finds no memory.
+    /// What it does before its draw, and so may have done if that draw gets no memory.
     pub fn begun(self) -> Option<Step> {
         match self {
             Step::Message(bar, text) => Some(Step::Told(bar, text)),
@@ -77,7 +77,7 @@ impl Step {
         }
     }
 
-    /// Itself, if it stores a bar's new lines before it draws: where it finds no memory behind that, the next draw shows them.
+    /// Itself, if it stores a bar's new lines before it draws: if it gets no memory after that, the next draw shows them.
     pub fn storing(self) -> Option<Step> {
         match self {
             Step::Message(..) | Step::Tick(_) | Step::Finish(_) | Step::Drop(_) => Some(self),
@@ -90,7 +90,7 @@ impl Step {
         self.wanted() == Ok(Drawn::Yes) && !matches!(self, Step::Clear)
     }
 
-    /// Whether it takes rows back that bars left which are gone.
+    /// Whether it erases rows of bars that are gone.
     pub fn takes_back(self) -> bool {
         matches!(
             self,
@@ -115,7 +115,7 @@ impl Step {
     }
 }
 
-/// Twenty calls of a board. Logged texts have letters that are nowhere else.
+/// Twenty calls of a board. Logged texts have letters that occur nowhere else.
 pub const BOARD: [Step; 20] = [
     Step::Add("a"),
     Step::Tick(0),
@@ -139,7 +139,7 @@ pub const BOARD: [Step; 20] = [
     Step::Tick(2),
 ];
 
-/// The same for a shared board, which has no redraw but behind a clear.
+/// Twenty calls of a shared board, which has no redraw except after a clear.
 pub const SHARED: [Step; 20] = [
     Step::Add("a"),
     Step::Tick(0),
@@ -179,8 +179,8 @@ pub const LONE: [Step; 12] = [
     Step::Log("F"),
 ];
 
-/// Thirty-five calls of a board whose terminal is resized between them: before and after a draw, a text and a clear, where rows of a bar
-/// that is gone stand, also behind a draw of no line, and where rows scroll away or come back.
+/// Thirty-five calls of a board whose terminal is resized between them: before and after a draw, a text and a clear, with rows of a bar
+/// that is gone, also after a draw without lines, and with rows that scroll away or come back.
 pub const SIZED_BOARD: [Step; 35] = [
     Step::Add("abcd"),
     Step::Tick(0),
@@ -219,7 +219,7 @@ pub const SIZED_BOARD: [Step; 35] = [
     Step::Log("IJ"),
 ];
 
-/// Sixteen of a lone bar.
+/// Sixteen calls of a lone bar whose terminal is resized between them.
 pub const SIZED_LONE: [Step; 16] = [
     Step::Size(Size { rows: 3, cols: 4 }),
     Step::Message(0, "abc\nde"),

@@ -10,16 +10,16 @@ use std::thread::{Promise, PromisedHandle, Scope, Threads};
 
 /// Work that several threads do at the same time.
 pub trait Work: Sync {
-    /// What it makes, one after another.
+    /// The type of its results.
     type Item: Send + Drop;
 
-    /// When it can be done.
+    /// When the work can be done.
     ghost can_work: { Self → Type 0 };
 
-    /// Of each item that it makes.
+    /// What holds of each result.
     ghost gives: { Self → Self.Item → Type 0 };
 
-    /// What one of the threads makes.
+    /// The results of one of the threads.
     fn work(&self, room: Vec<Self::Item>) -> Result<Vec<Self::Item>, AllocError>
         requires can { can_work self.now }
         requires empty { room.items ≡ [] }
@@ -34,7 +34,7 @@ impl<K: Work> Promise<Result<Vec<K::Item>, AllocError>> for Kept<K> {
     ghost kept_by = { λ p r. IfOk r (λ made. All (K.gives p.0.value) made.items) };
 }
 
-/// What so many other threads and the one that calls make of this work. All are started before one of them begins. Where one can't be,
+/// The results of the given number of other threads and of the caller. All are started before one of them begins. If one can't be started,
 /// none begins.
 pub fn by_all<R: Threads + Wait + Sync, K: Work>(
     rt: &R,
@@ -61,7 +61,7 @@ pub fn by_all<R: Threads + Wait + Sync, K: Work>(
     )
 }
 
-// So many threads of this scope, which begin as soon as all are started.
+// The given number of threads of this scope, which begin as soon as all are started.
 fn started<'s, E, R: Threads + Wait + Sync, K: Work>(
     rt: &'s R,
     alloc: Global,

@@ -9,27 +9,27 @@ use crate::parallel::workers::Gate;
 use crate::parallel::workers::crew::Work;
 use std::alloc::{AllocError, Global};
 
-/// What became of a piece.
+/// The result of a piece.
 #[derive(Drop)]
 pub struct Ended<A> {
     /// Its number, from 0.
     pub piece: usize,
-    /// Its answers, unless memory was refused to them.
+    /// Its answers, unless it got no memory for them.
     pub answers: Option<Vec<A>>,
 }
 
 /// Pieces, of which each thread takes the next that is left.
 #[derive(Drop)]
 pub struct Pieces<'a, T, F, G> {
-    /// Where answers are kept.
+    /// The allocator of the answers.
     pub alloc: Global,
     /// The pieces.
     pub pieces: &'a [Vec<T>],
     /// Which of them are taken.
     pub claims: Claims,
-    /// What answers at an item.
+    /// The function that gives an item's answer.
     pub f: &'a F,
-    /// What each passes before its first item.
+    /// What each piece passes before its first item.
     pub gate: &'a G,
 }
 
@@ -57,7 +57,7 @@ impl<'a, T: Sync, A: Send + Drop, F: Fn(&T) -> A + Sync, G: Gate> Work for Piece
     }
 }
 
-// What becomes of the piece of this number.
+// The result of the piece with this number.
 fn ended_at<T, A: Drop, F: Fn(&T) -> A>(
     alloc: Global,
     pieces: &[Vec<T>],
@@ -72,14 +72,14 @@ fn ended_at<T, A: Drop, F: Fn(&T) -> A>(
     Ended { piece, answers }
 }
 
-/// What the first pieces came to.
+/// The results of the first pieces.
 #[derive(Drop)]
 pub struct Gathered<A> {
-    /// How many these are.
+    /// The number of these pieces.
     pub pieces: usize,
-    /// Their answers, unless a piece has none.
+    /// Their answers, unless one of them has none.
     pub answers: Option<Vec<Vec<A>>>,
-    /// How many items were met, as 64 bits hold their number.
+    /// The number of items that were met, modulo 2^64.
     pub met: u64,
 }
 
@@ -134,7 +134,8 @@ impl<'a, T, A: Drop, F: Fn(&T) -> A, G> Pieces<'a, T, F, G> {
         }
     }
 
-    /// The answers in the order of the pieces, put where there is room for them, unless a piece has none; and how many items were met.
+    /// The answers in the order of the pieces, in memory that was taken before, unless a piece has none; and the number of items that were
+    /// met.
     pub fn in_order(&self, ended: Vec<Ended<A>>, room: Vec<Vec<A>>) -> (Option<Vec<Vec<A>>>, u64)
         requires ended { All (IsEnded (FnReturnsAt F.Fn self.now.f.now) self.now.pieces.now) ended.items }
         requires room { room.items ≡ [] }

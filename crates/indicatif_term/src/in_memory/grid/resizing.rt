@@ -1,4 +1,4 @@
-//! A grid that gets another size: its rows are put on a new one, each cut anew.
+//! A grid that gets another size: its rows are put on a new one, each wrapped again.
 ghost use Rattle.std.specs.Prelude.{◌≡◌, ◌==◌, ◌&&◌, ◌+◌, ◌<◌, ◌≤◌, IfOk, IfErr, IsFalse, OnOk, OnErr, length, max, reverse, take};
 ghost use Rattle.indicatif_text.specs.Columns.{width_of};
 ghost use Rattle.std.specs.Int.{is_in_range};
@@ -19,7 +19,7 @@ struct CursorRows {
 }
 
 impl Grid {
-    /// Gets this size: each row is cut anew, and rows aren't joined again. Refused: `Memory`; all is unchanged then.
+    /// Sets the size: each row is wrapped again, and rows aren't joined. Refused: `Memory`; then nothing has changed.
     pub(crate) fn resize(&mut self, height: u16, columns: u16) -> Result<(), Refusal>
         requires rows { 0 < height }
         requires columns { 0 < columns }
@@ -59,8 +59,7 @@ impl Grid {
         Ok(cut)
     }
 
-    /// Puts the rows of another grid on this one, which is new, and tells which rows that of the cursor becomes. Refused:
-    /// `Memory`.
+    /// Puts the rows of another grid on this new one, and returns the rows that the cursor's row becomes. Refused: `Memory`.
     fn put_lasting(&mut self, old: &Grid) -> Result<CursorRows, Refusal>
         requires some { 0 < self.old.height }
         requires blank { self.old ≡ blank_screen self.old.height self.old.columns }
@@ -75,7 +74,7 @@ impl Grid {
         Ok(CursorRows { first, last })
     }
 
-    /// Goes to this row, or to the first one of the window where it is above it, and to this column.
+    /// Goes to this row, or to the first one of the window if it is above that, and to this column.
     fn go_to(&mut self, row: usize, column: u16)
         requires in_rows { row < length self.old.rows }
         requires in_columns { column ≤ self.old.columns }
@@ -118,7 +117,7 @@ impl Grid {
         Ok(())
     }
 
-    /// To the front of the next row. Refused: `Memory`.
+    /// Goes to the front of the next row. Refused: `Memory`.
     fn begin_row(&mut self) -> Result<(), Refusal>
         ensures begun { OnOk result (self.new ≡ next_row self.old) }
         ensures refused { IfErr result (λ e. e ≡ Refusal.Memory) }
