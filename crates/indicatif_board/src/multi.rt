@@ -27,12 +27,12 @@ mod runs;
 
 pub use crate::bar_id::BarId;
 pub use crate::calls::{Answer, Call, Candidate, InsertLocation, Turned};
-use crate::in_window::bars_in_window;
+use crate::in_window::{bars_in_window, put};
 use crate::members::{leading, take_front};
 pub use crate::recorded::{Entry, Opening, Recorded, Size};
 use crate::shown_bars::ShownBars;
 pub use crate::slots::MultiState;
-use indicatif_bar::stage::{Stage, Writing, put};
+use indicatif_bar::stage::{Stage, Writing};
 use indicatif_bar::state::{Ask, BarCommand, BarState, Text};
 use indicatif_bar::style::Tracks;
 use indicatif_term::draw_target::{MultiProgressAlignment, ProgressDrawTarget, Segment};
