@@ -5,6 +5,7 @@ use Rattle.std.proofs.lemmas.Bool.{false≢true}
 use Rattle.indicatif_text.specs.declared.refusal.Refusal.{Refusal}
 use Rattle.indicatif_text.specs.declared.refusal.Refusal.TheVariants.{Memory, ElapsedBeyondClock}
 use Rattle.indicatif_text.specs.declared.refusal.Drawn.{Drawn}
+use Rattle.indicatif_text.specs.declared.refusal.Drawn.TheVariants.{Limited}
 use Rattle.indicatif_term.specs.Calls.{TermView}
 use Rattle.indicatif_term.specs.Limiters.{Limiter}
 use Rattle.indicatif_term.specs.Frames.{text_lines, logged_lines, bar_lines}
@@ -18,6 +19,7 @@ use Rattle.indicatif_bar.specs.Machines.{target_of, Draw, is_no, Leads}
 use Rattle.indicatif_bar.specs.Runs.{CallMade, wrote, lines_by, deed_on}
 use Rattle.indicatif_bar.specs.Lone.{LoneState, LoneCall, Obey, Log, Clear, lone_frame, draw_asked, draw_of_call, refused_at_once, deed_unless, lone}
 use Rattle.indicatif_bar.specs.LoneBars.{LoneIsIn, LoneIsNowhere, lone_bar, LoneLeadsBy, Obeys, ObeysOrNot, RefusesCommand, lone_known, lone_moves, record_of, lone_terminal}
+use Rattle.indicatif_bar.specs.Stages.{IsStaged}
 use Rattle.indicatif_bar.specs.Shown.{PutsFrame, DrewBy, DrewOn, WritesLinesOn}
 use Rattle.indicatif_term.specs.declared.lines.Segment.{Segment}
 use Rattle.indicatif_bar.specs.Inside.Writings.{IsLaidOut}
@@ -25,7 +27,7 @@ use Rattle.indicatif_bar.specs.Inside.Obeying.{IsTold, IsToldOrNot}
 use Rattle.indicatif_bar.specs.declared.ask.Ask.{Ask}
 use Rattle.indicatif_bar.specs.declared.ask.Ask.TheVariants.{Forced}
 use Rattle.indicatif_bar.specs.declared.lone.LoneBar.{LoneBar}
-use Rattle.indicatif_bar.proofs.OutcomeLemmas.{drew, drawn_answer, writes_nothing}
+use Rattle.indicatif_bar.proofs.OutcomeLemmas.{drew, drew_none, drawn_answer, outcome-unasked, writes_nothing}
 
 -- what an engine made of a frame in which the bar's lines stand is what it makes of the bar's frame: where nothing is written, it
 -- doesn't look at the frame
@@ -113,6 +115,22 @@ module _ {K T : Type 0} (m : Tracking K) (view : T → TermView) (old mid new : 
     pub drew : (takes : Bool) (s : LoneState (BarRecord K)) → LoneIsIn mid s → (next : LoneState (BarRecord K)) × LoneIsIn new next
         × DrewOn (lone_bar m) (lone_known view mid) (lone_known view new) (draw_asked (bar_kind m) (target_of (lone_known view mid)) takes ask now writing s) s.lists answer next
 
+  -- a draw on the bar's stage is one of the bar
+  pub draws_on : (ask : Ask) (writing : Writing) → is_no ask ≡ false → record_of new ≡ record_of mid → (IsFalse (wrote answer) → lone_terminal new ≡ lone_terminal mid) →
+      (LoneIsNowhere view mid → IsFalse (wrote answer)) → lone_moves new ≡ lone_moves mid →
+      ((takes : Bool) (s : LoneState (BarRecord K)) → is_no ask ≡ false → mid.shown.bar ≡ s.bar → IsStaged mid.stage s.limiter s.lists →
+      (next : LoneState (BarRecord K)) × (new.shown.bar ≡ next.bar) × IsStaged new.stage next.limiter next.lists
+      × DrewOn (lone_bar m) (lone_known view mid) (lone_known view new) (draw_asked (bar_kind m) (target_of (lone_known view mid)) takes ask now writing s) s.lists answer next) →
+      Draws ask writing
+  unfolding LoneIsIn
+  draws_on ask writing asked bar silent nowhere moves drew = record {
+    bar = bar;
+    silent = silent;
+    nowhere = nowhere;
+    moves = moves;
+    drew = λ takes s inside. let d = drew takes s asked inside.0 inside.1 in (d.0, (d.1, d.2), d.3);
+  }
+
   -- a bar that was told a command is in the state after it
   told_in : (command : Command K) (s : LoneState (BarRecord K)) → mid.shown.bar ≡ (obeyed m command old.shown.bar now).0 → mid ≡ record old { shown = record old.shown { bar = mid.shown.bar } } →
       LoneIsIn old s →
@@ -165,6 +183,21 @@ module _ {K T : Type 0} (m : Tracking K) (view : T → TermView) (old mid new : 
   pub clear_leads : Draws Forced NoFrame → LoneLeadsBy m view mid new Clear now answer
   clear_leads draws = λ s inside.
       let d = draws.drew false s inside in (d.0, d.1, call_of (bar_kind m) (lone_known view mid) Clear now s (lone_known view new) answer d.0 refl d.2)
+
+-- a draw that isn't asked for
+pub draws_none : {K T : Type 0} (m : Tracking K) (view : T → TermView) (old mid : LoneBar K T) (now : ℕ) (ask : Ask) (writing : Writing) → is_no ask ≡ true →
+    Draws m view old mid mid now (Ok Limited) ask writing
+draws_none m view old mid now ask writing none =
+    let known = lone_known view mid in
+    record {
+      bar = refl;
+      silent = λ _. refl;
+      nowhere = λ _. refl;
+      moves = refl;
+      drew = λ takes s inside.
+          let d = draw_asked (bar_kind m) (target_of known) takes ask now writing s in
+          (s, inside, drew_none (lone_bar m) known d s.lists (Ok Limited) s refl refl (outcome-unasked (target_of known) d none));
+    }
 
 -- a command that was refused
 module _ {K T : Type 0} (m : Tracking K) (view : T → TermView) (old : LoneBar K T) (command : Command K) (now : ℕ) where

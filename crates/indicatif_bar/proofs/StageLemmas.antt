@@ -8,12 +8,12 @@ use Rattle.indicatif_text.specs.declared.refusal.Drawn.{Drawn}
 use Rattle.indicatif_text.specs.declared.refusal.Drawn.TheVariants.{Hidden}
 use Rattle.indicatif_term.specs.Calls.{TermView}
 use Rattle.indicatif_term.specs.Limiters.{Limiter}
-use Rattle.indicatif_term.specs.Lists.{Lists, BarLines, logged, opening_lists}
+use Rattle.indicatif_term.specs.Lists.{Lists, BarLines, drawn, logged, cleared, opening_lists}
 use Rattle.indicatif_term.specs.Frames.{all_lines, are_plain, is_fault}
 use Rattle.indicatif_term.specs.Engines.{engine_moves, engine_term, Fits, Answers, Counted, Paints, is_failure, lists_after}
 use Rattle.indicatif_term.specs.declared.engine.Engine.{Engine}
 use Rattle.indicatif_term.proofs.SomeListsLemmas.{some_fit}
-use Rattle.indicatif_bar.specs.Kinds.{TextAndFrame, has_line}
+use Rattle.indicatif_bar.specs.Kinds.{Frame, TextAndFrame, NoFrame, has_line}
 use Rattle.indicatif_bar.specs.Machines.{target_of, Target, Machine, Draw, is_no}
 use Rattle.indicatif_bar.specs.Shown.{PutsFrame, DrewBy, DrewOn}
 use Rattle.indicatif_bar.specs.Scripts.{Sizing, Size, SizedOn, sized_lists, sized, Plays}
@@ -44,6 +44,41 @@ puts_text view text bottom gone frame rest old new r e takes answers counted unc
       paints = λ l f plain. subst (λ x. Paints v v' (is_failure r) l (lists_after r l (logged v.columns v.rows bottom text x l))) b (paints l f (subst (λ x. IsTrue (are_plain
           (text ++ all_lines x))) e plain));
     }
+
+-- a frame
+pub puts_frame : {T : Type 0} (view : T → TermView) (bottom : Bool) (gone : ℕ) (frame : List BarLines) (old new : Engine T) (r : Result Unit Refusal) →
+    (r ≡ Err Memory → 0 < length (all_lines frame)) →
+    Answers (view (engine_term old)).columns (all_lines frame) r → Counted (view (engine_term old)) (view (engine_term new)) r → IfErr r (λ e. IsFalse (is_fault e) → new ≡ old) →
+    engine_moves new ≡ engine_moves old →
+    ((l : Lists) → Fits old l → Fits new (lists_after r l (drawn (view (engine_term old)).columns (view (engine_term old)).rows bottom gone frame l))) →
+    ((l : Lists) → Fits old l → IsTrue (are_plain (all_lines frame)) →
+    Paints (view (engine_term old)) (view (engine_term new)) (is_failure r) l (lists_after r l (drawn (view (engine_term old)).columns (view (engine_term old)).rows bottom gone frame l))) →
+    PutsFrame view Frame bottom gone frame old new r
+puts_frame view bottom gone frame old new r takes answers counted unchanged moves lists paints = record {
+  answers = answers;
+  memory = λ short. lt-ltb 0 (length (all_lines frame)) (takes short);
+  counted = counted;
+  unchanged = unchanged;
+  moves = moves;
+  lists = lists;
+  paints = paints;
+}
+
+-- nothing, in the place of what stood
+pub puts_nothing : {T : Type 0} (view : T → TermView) (bottom : Bool) (gone : ℕ) (frame : List BarLines) (old new : Engine T) (r : Result Unit Refusal) → (r ≡ Err Memory → ⊥) →
+    Answers (view (engine_term old)).columns [] r → Counted (view (engine_term old)) (view (engine_term new)) r → IfErr r (λ e. IsFalse (is_fault e) → new ≡ old) →
+    engine_moves new ≡ engine_moves old → ((l : Lists) → Fits old l → Fits new (lists_after r l (cleared l))) →
+    ((l : Lists) → Fits old l → Paints (view (engine_term old)) (view (engine_term new)) (is_failure r) l (lists_after r l (cleared l))) →
+    PutsFrame view NoFrame bottom gone frame old new r
+puts_nothing view bottom gone frame old new r ample answers counted unchanged moves lists paints = record {
+  answers = answers;
+  memory = λ short. absurd (ample short);
+  counted = counted;
+  unchanged = unchanged;
+  moves = moves;
+  lists = lists;
+  paints = λ l f plain. paints l f;
+}
 
 -- what a draw of an engine says of its stage
 pub drew_staged : {S C A T : Type 0} (m : Machine S C A) (P : S → Type 0) (limiter : S → Option Limiter) (view : T → TermView) (old new : Stage T) (e e' : Engine T) (d : Target → Draw S)

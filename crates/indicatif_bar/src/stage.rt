@@ -1,16 +1,11 @@
 //! What bars draw on, a lone one and those of a board. It is public for boards, whose crate is another: programs use `LoneBar` and `Board`,
 //! which each have a private stage.
-ghost use Rattle.std.specs.Prelude.{◌≡◌, ◌⊎◌, ◌≤◌, None, Err, Option, option_map, IsTrue, ◌↔◌, IfOk, IfErr, IfSome, OnErr, false, map, length};
-ghost use Rattle.indicatif_term.specs.Frames.{bar_lines};
+ghost use Rattle.std.specs.Prelude.{◌≡◌, ◌⊎◌, None, Err, Option, option_map, IsTrue, ◌↔◌, IfOk, IfErr, IfSome, OnErr, false};
 ghost use Rattle.indicatif_term.specs.Limiters.{Limiter};
 ghost use Rattle.indicatif_term.specs.Lists.{Lists, opening_lists};
-ghost use Rattle.indicatif_term.specs.DrawTargets.{is_bottom, term_of, limiter_of};
-ghost use Rattle.indicatif_bar.specs.Shown.{PutsFrame};
-ghost use Rattle.indicatif_bar.specs.Stages.{writing_as};
+ghost use Rattle.indicatif_term.specs.DrawTargets.{term_of, limiter_of};
 
-use indicatif_term::draw_target::{
-    Engine, MultiProgressAlignment, ProgressDrawTarget, RateLimiter, Segment,
-};
+use indicatif_term::draw_target::{Engine, ProgressDrawTarget, RateLimiter};
 use indicatif_term::term_like::{Resize, TermLike};
 use indicatif_text::columns::Refusal;
 use std::alloc::Global;
@@ -147,24 +142,5 @@ impl<T: Resize + Drop> Stage<T> {
             Some(engine) => engine.resize(rows, cols),
             None => Ok(()),
         }
-    }
-}
-
-/// Writes on an engine's terminal; the first `gone` bars of the frame are those that are gone.
-#[inline(always)]
-pub fn put<T: TermLike + Drop>(
-    engine: &mut Engine<T>,
-    frame: &[Segment],
-    gone: usize,
-    alignment: MultiProgressAlignment,
-    writing: Writing<'_>,
-) -> Result<(), Refusal>
-    requires { gone ≤ length frame.now }
-    ensures { PutsFrame T.view (writing_as writing.entry) (is_bottom alignment) gone (map bar_lines frame.now) engine.old engine.new result }
-{
-    match writing {
-        Writing::Frame => engine.draw(frame, gone, alignment),
-        Writing::TextAndFrame(text) => engine.log(text, &frame[gone..], alignment),
-        Writing::NoFrame => engine.clear(),
     }
 }

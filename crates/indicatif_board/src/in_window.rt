@@ -1,6 +1,7 @@
-//! The bars of a board that its terminal may have rows for.
+//! The bars of a board that its terminal may have rows for, and how they are put there.
 ghost use Rattle.std.specs.Prelude.{◌≡◌, ◌⊎◌, ◌≤◌, Bool, Result, map, min, take, length};
 ghost use Rattle.indicatif_term.specs.Frames.{all_lines, bar_lines};
+ghost use Rattle.indicatif_term.specs.DrawTargets.{is_bottom};
 ghost use Rattle.indicatif_term.specs.declared.engine.Engine.{Engine};
 ghost use Rattle.indicatif_bar.specs.Shown.{PutsFrame};
 ghost use Rattle.indicatif_bar.specs.Stages.{writing_as};
@@ -8,8 +9,9 @@ ghost use Rattle.indicatif_board.specs.Inside.InWindow.{drawn_from};
 ghost use Rattle.indicatif_text.specs.declared.refusal.Refusal.{Refusal};
 
 use indicatif_bar::stage::Writing;
-use indicatif_term::draw_target::{Engine, Segment};
+use indicatif_term::draw_target::{Engine, MultiProgressAlignment, Segment};
 use indicatif_term::term_like::TermLike;
+use indicatif_text::columns::Refusal;
 
 /// The width of the widest character. On a terminal with as many columns no line is too wide.
 const WIDEST: u16 = 3;
@@ -59,4 +61,23 @@ fn bars_with_lines(frame: &[Segment], lines: usize) -> usize
         found = found.saturating_add(bar.lines.len());
     }
     frame.len()
+}
+
+/// Writes on an engine's terminal; the first `gone` bars of the frame are those that are gone.
+#[inline(always)]
+pub fn put<T: TermLike + Drop>(
+    engine: &mut Engine<T>,
+    frame: &[Segment],
+    gone: usize,
+    alignment: MultiProgressAlignment,
+    writing: Writing<'_>,
+) -> Result<(), Refusal>
+    requires { gone ≤ length frame.now }
+    ensures { PutsFrame T.view (writing_as writing.entry) (is_bottom alignment) gone (map bar_lines frame.now) engine.old engine.new result }
+{
+    match writing {
+        Writing::Frame => engine.draw(frame, gone, alignment),
+        Writing::TextAndFrame(text) => engine.log(text, &frame[gone..], alignment),
+        Writing::NoFrame => engine.clear(),
+    }
 }

@@ -27,13 +27,15 @@ mod runs;
 
 pub use crate::bar_id::BarId;
 pub use crate::calls::{Answer, Call, Candidate, InsertLocation, Turned};
+use crate::in_window::{bars_in_window, put};
+use crate::members::{leading, take_front};
 pub use crate::recorded::{Entry, Opening, Recorded, Size};
 use crate::shown_bars::ShownBars;
 pub use crate::slots::MultiState;
 use indicatif_bar::stage::{Stage, Writing};
 use indicatif_bar::state::{Ask, BarCommand, BarState, Text};
 use indicatif_bar::style::Tracks;
-use indicatif_term::draw_target::{MultiProgressAlignment, ProgressDrawTarget};
+use indicatif_term::draw_target::{MultiProgressAlignment, ProgressDrawTarget, Segment};
 use indicatif_term::term_like::{Resize, TermLike};
 use indicatif_text::columns::{Drawn, Moment, Refusal};
 use std::alloc::Global;
@@ -359,7 +361,7 @@ impl<K: Tracks, T: TermLike + Drop> Board<K, T> {
     }
 
     /// Lays a bar out again, if one is named, and draws, if the call asks for it, the target isn't hidden and has columns, and its limiter
-    /// allows it.
+    /// allows it. Then the dropped bars at the head leave.
     fn draw(
         &mut self,
         ask: Ask,
@@ -395,7 +397,16 @@ impl<K: Tracks, T: TermLike + Drop> Board<K, T> {
         if !ask.allows(&mut self.stage.limiter, now) {
             return Ok(Drawn::Limited);
         }
-        self.shown.write(engine, writing)
+        let shown = &mut self.shown;
+        let gone = leading(&shown.members);
+        let frame: &[Segment] = shown.frame.make_contiguous();
+        let end = bars_in_window(engine, frame, gone, &writing);
+        let alignment = shown.alignment;
+        put(engine, &frame[..end], gone.min(end), alignment, writing)?;
+        take_front(&mut shown.frame, gone);
+        take_front(&mut shown.members, gone);
+        shown.table.remove_first(gone);
+        Ok(Drawn::Yes)
     }
 }
 

@@ -1,31 +1,22 @@
-//! The bars of a board with the lines that they show, and how they are drawn.
-ghost use Rattle.std.specs.Prelude.{◌≡◌, ◌≢◌, ◌<◌, ◌≤◌, ◌^◌, MatchResult, ℕ, Bool, Option, Some, None, Ok, true, false, IsTrue, IsFalse, map, length, IfSome, IfOk, IfErr, OnErr};
+//! The bars of a board with the lines that they show, and how these are laid out.
+ghost use Rattle.std.specs.Prelude.{◌≡◌, ◌<◌, ◌≤◌, ◌^◌, MatchResult, ℕ, Option, Some, None, Ok, false, IsTrue, map, IfSome, IfOk, IfErr, OnErr};
 ghost use Rattle.std.specs.VecDeque.{deque_len};
 ghost use Rattle.indicatif_term.specs.Frames.{line_text};
-ghost use Rattle.indicatif_term.specs.Engines.{engine_moves, engine_term, Fits};
 ghost use Rattle.indicatif_term.specs.Limiters.{Limiter};
 ghost use Rattle.indicatif_bar.specs.Bars.{lines_of_bar, lines_take_memory};
 ghost use Rattle.indicatif_bar.specs.Commands.{BarRecord};
-ghost use Rattle.indicatif_bar.specs.Machines.{Target, is_no, target_of};
-ghost use Rattle.indicatif_bar.specs.Kinds.{asked_of};
-ghost use Rattle.indicatif_bar.specs.Runs.{wrote};
-ghost use Rattle.indicatif_bar.specs.Shown.{DrewBy};
-ghost use Rattle.indicatif_bar.specs.Stages.{writing_as};
-ghost use Rattle.indicatif_board.specs.BoardBars.{board_bars};
-ghost use Rattle.indicatif_board.specs.Boards.{BoardState, Location, opening_board, draw_of, index_of, taken_in, ownerless_on, board};
+ghost use Rattle.indicatif_bar.specs.Machines.{Target};
+ghost use Rattle.indicatif_board.specs.Boards.{BoardState, Location, opening_board, index_of, taken_in, ownerless_on};
 ghost use Rattle.indicatif_board.specs.Members.{place_of, without, is_head, said_of};
-ghost use Rattle.indicatif_board.specs.Slots.{LeavesHead, next_slot, seated, slot_of, unseated};
+ghost use Rattle.indicatif_board.specs.Slots.{next_slot, seated, slot_of, unseated};
 ghost use Rattle.indicatif_board.specs.Inside.Named.{HasPlace, named_laid_out, named_layout_takes};
 
-use crate::in_window::bars_in_window;
-use crate::members::{Seated, leading, queue_at, take_at, take_front};
+use crate::members::{Seated, queue_at, take_at};
 use crate::slots::MultiState;
-use indicatif_bar::stage::{Writing, put};
-use indicatif_bar::state::{Ask, BarState, SpareLines};
+use indicatif_bar::state::{BarState, SpareLines};
 use indicatif_bar::style::Tracks;
-use indicatif_term::draw_target::{Engine, LineType, MultiProgressAlignment, Segment};
-use indicatif_term::term_like::TermLike;
-use indicatif_text::columns::{Drawn, Moment, Refusal};
+use indicatif_term::draw_target::{LineType, MultiProgressAlignment, Segment};
+use indicatif_text::columns::{Moment, Refusal};
 use std::alloc::Global;
 use std::collections::VecDeque;
 use std::mem::replace;
@@ -60,8 +51,8 @@ impl<K: Drop> Drop for ShownBars<K> {
 }
 
 impl<K: Tracks> ShownBars<K> {
-    ghost use Rattle.indicatif_board.specs.ShownBars.{AreShownAs, HeadIsOwned, record_on};
-    ghost use Rattle.indicatif_board.specs.Inside.Standing.{is_of_draw, seat_of, StandsAt, AllStay, AllOthersStay};
+    ghost use Rattle.indicatif_board.specs.ShownBars.{AreShownAs, record_on};
+    ghost use Rattle.indicatif_board.specs.Inside.Standing.{seat_of, StandsAt, AllStay, AllOthersStay};
 
     /// No bars, at the top. Takes no memory.
     pub fn new(alloc: Global) -> Self
@@ -189,41 +180,6 @@ impl<K: Tracks> ShownBars<K> {
             }
             None => Ok(()),
         }
-    }
-
-    /// Draws on a terminal with columns; the dropped bars at the head leave.
-    pub fn write<T: TermLike + Drop>(
-        &mut self,
-        engine: &mut Engine<T>,
-        writing: Writing<'_>,
-    ) -> Result<Drawn, Refusal>
-        ensures silent { IsFalse (wrote result) → engine.new ≡ engine.old }
-        ensures moves { engine_moves engine.new ≡ engine_moves engine.old }
-        ensures slots { LeavesHead self.old.table self.new.table }
-        ensures head { result ≡ Ok Drawn.Yes → HeadIsOwned self.new }
-        ensures stay { result ≢ Ok Drawn.Yes → self.new.table ≡ self.old.table }
-        ensures records { AllStay self.old self.new }
-        ensures refusal { IfErr result (λ e. IsTrue (is_of_draw e)) }
-        ensures drew { (mark now : ℕ) (takes lays : Bool) (ask : Ask) (limiter : Option Limiter) (s laid : BoardState (BarRecord K)) → is_no ask ≡ false →
-            0 < (T.view (engine_term engine.old)).columns → asked_of ask now laid.limiter ≡ (true, limiter) →
-            AreShownAs self.old laid → laid.lists ≡ s.lists → Fits engine.old s.lists →
-            DrewBy (board (board_bars K.means) mark) (λ next. AreShownAs self.new next × (limiter ≡ next.limiter)) T.view engine.old engine.new
-            (draw_of (target_of (Some (T.view (engine_term engine.old)))) takes ask now (writing_as writing.entry) s laid lays) s.lists result }
-    {
-        let gone = leading(&self.members);
-        let frame: &[Segment] = self.frame.make_contiguous();
-        let end = bars_in_window(engine, frame, gone, &writing);
-        put(
-            engine,
-            &frame[..end],
-            gone.min(end),
-            self.alignment,
-            writing,
-        )?;
-        take_front(&mut self.frame, gone);
-        take_front(&mut self.members, gone);
-        self.table.remove_first(gone);
-        Ok(Drawn::Yes)
     }
 }
 

@@ -1,6 +1,6 @@
 //! The order of a board's bars, and a slot for each.
-ghost use Rattle.std.specs.Prelude.{◌≡◌, ◌<◌, ◌^◌, IfOk, IfErr, OnErr};
-ghost use Rattle.indicatif_board.specs.Slots.{opening_slots, seated, unseated, head_unseated, slot_of, IsSeated};
+ghost use Rattle.std.specs.Prelude.{◌≡◌, ◌<◌, ◌+◌, ◌^◌, IfOk, IfErr, OnErr};
+ghost use Rattle.indicatif_board.specs.Slots.{opening_slots, seated, unseated, head_unseated, made_by, slot_of, IsSeated};
 
 use crate::members::{drop_front, move_front, place_of_bar, put_at, queue_at, take_at};
 use crate::places::Places;
@@ -125,21 +125,9 @@ impl MultiState {
         ensures memory { IfErr result (λ e. e ≡ Refusal.Memory) }
         ensures unchanged { OnErr result (self.new ≡ self.old) }
     {
-        match self.next {
-            Some(number) => self.insert_as(number, at),
-            None => Err(Refusal::Memory),
-        }
-    }
-
-    /// As `insert`, with this number.
-    fn insert_as(&mut self, number: u64, at: usize) -> Result<u64, Refusal>
-        requires next { number ≡ self.old.made }
-        ensures number { IfOk result (λ n. n ≡ self.old.made) }
-        ensures fits { IfOk result (λ n. n < 2 ^ 64) }
-        ensures inserted { IfOk result (λ _. self.new ≡ seated at self.old) }
-        ensures memory { IfErr result (λ e. e ≡ Refusal.Memory) }
-        ensures unchanged { OnErr result (self.new ≡ self.old) }
-    {
+        let Some(number) = self.next else {
+            return Err(Refusal::Memory);
+        };
         self.order.reserve(1)?;
         self.slots.reserve(1)?;
         self.free.reserve(self.slots.len() + 1)?;
@@ -147,7 +135,7 @@ impl MultiState {
         let at = at.min(self.order.len());
         put_at(&mut self.order, at, number);
         queue_at(&mut self.slots, at, slot);
-        self.next = number.checked_add(1);
+        self.next = number_after(number);
         self.places.fit(self.order.len());
         self.places.inserted(number, at);
         Ok(number)
@@ -175,4 +163,11 @@ impl MultiState {
         drop_front(&mut self.order, count);
         self.places.removed_first(count);
     }
+}
+
+/// The number of the bar after this one; none past 2^64 - 1.
+fn number_after(number: u64) -> Option<u64>
+    ensures { made_by result ≡ number + 1 }
+{
+    number.checked_add(1)
 }

@@ -58,16 +58,6 @@ impl<W: Write> Term<W> {
         &self.writer
     }
 
-    /// Writes these bytes.
-    fn send(&mut self, bytes: &[u8]) -> io::Result<()>
-        ensures { Writes bytes.now (view_behind W.contents self.old) (view_behind W.contents self.new) result }
-    {
-        match write_whole(&mut self.writer, bytes) {
-            Ok(()) => Ok(()),
-            Err(e) => self.counted(Err(e)),
-        }
-    }
-
     /// Writes a cursor move by `n`, in the direction of `letter`.
     fn send_move(&mut self, letter: u8, n: usize) -> io::Result<()>
         ensures writes { Writes (move_bytes letter n) (view_behind W.contents self.old) (view_behind W.contents self.new) result }
@@ -76,7 +66,9 @@ impl<W: Write> Term<W> {
         if n == 0 {
             return Ok(());
         }
-        self.send(MoveBytes::new(letter, n).as_slice())
+        let moved = MoveBytes::new(letter, n);
+        let done = write_whole(&mut self.writer, moved.as_slice());
+        self.counted(done)
     }
 
     /// Passes on the result of a call; counts a failure, and keeps its kind.
@@ -136,16 +128,17 @@ impl<W: Write> TermLike for Term<W> {
     }
 
     fn write_line(&mut self, s: &str) -> io::Result<()> {
-        self.send(s.as_bytes())?;
-        self.send(b"\r\n")
+        self.write_str(s)?;
+        self.write_str("\r\n")
     }
 
     fn write_str(&mut self, s: &str) -> io::Result<()> {
-        self.send(s.as_bytes())
+        let done = write_whole(&mut self.writer, s.as_bytes());
+        self.counted(done)
     }
 
     fn clear_line(&mut self) -> io::Result<()> {
-        self.send(b"\r\x1B[2K")
+        self.write_str("\r\x1B[2K")
     }
 
     fn flush(&mut self) -> io::Result<()> {

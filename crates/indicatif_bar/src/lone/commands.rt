@@ -373,7 +373,9 @@ impl<K: Tracks, T: TermLike + Drop> LoneBar<K, T> {
         ensures moves { lone_moves self.new ≡ lone_moves self.old }
         ensures leads { LoneLeadsBy K.means T.view self.old self.new (Log text.now) now result }
     {
-        self.draw(Ask::Forced, Writing::TextAndFrame(text), now)
+        let writing = Writing::TextAndFrame(text);
+        self.shown
+            .draw_on(&mut self.stage, Ask::Forced, writing, now)
     }
 
     /// Clears the bar's rows, whatever the rate says. The next draw shows them again. Takes no memory.
@@ -384,7 +386,8 @@ impl<K: Tracks, T: TermLike + Drop> LoneBar<K, T> {
         ensures moves { lone_moves self.new ≡ lone_moves self.old }
         ensures leads { LoneLeadsBy K.means T.view self.old self.new Clear now result }
     {
-        self.draw(Ask::Forced, Writing::NoFrame, now)
+        self.shown
+            .draw_on(&mut self.stage, Ask::Forced, Writing::NoFrame, now)
     }
 
     /// Makes the changes that the closure returns for the bar's state; then as `tick`.

@@ -1,13 +1,20 @@
-use Rattle.std.proofs.Common.{◌≡◌, ◌<◌, ◌∙◌, refl, sym, ap, subst, arith, option_map, Ok, Err, Some, inl, inr}
+use Rattle.std.proofs.Common.{◌≡◌, ◌<◌, ◌∙◌, refl, sym, ap, subst, map, take, drop, arith, option_map, Result, Ok, Err, Some, inl, inr}
 use Rattle.std.specs.Prelude.{MatchOption}
+use Rattle.std.specs.VecDeque.{deque_with_items}
 use Rattle.std.proofs.lemmas.Result.{err_from_is_err_and}
-use Rattle.indicatif_text.specs.declared.refusal.Drawn.TheVariants.{Limited}
+use Rattle.std.proofs.lemmas.List.Sums.{prefix_len-le-length}
+use Rattle.indicatif_text.specs.declared.refusal.Drawn.{Drawn}
+use Rattle.indicatif_text.specs.declared.refusal.Drawn.TheVariants.{Limited, Yes}
+use Rattle.indicatif_text.specs.declared.refusal.Refusal.{Refusal}
 use Rattle.indicatif_text.specs.declared.refusal.Refusal.TheVariants.{NoColumns}
 use Rattle.indicatif_term.specs.Engines.{engine_moves, engine_term, Fits}
+use Rattle.indicatif_term.specs.Frames.{bar_lines}
+use Rattle.indicatif_term.specs.declared.lines.Segment.{Segment}
 use Rattle.indicatif_term.specs.DrawTargets.{is_bottom}
 use Rattle.indicatif_term.specs.Lists.{opening_lists}
 use Rattle.indicatif_bar.specs.Machines.{Target, target_of}
 use Rattle.indicatif_bar.specs.Kinds.{asked_of}
+use Rattle.indicatif_bar.specs.Shown.{PutsFrame, DrewBy}
 use Rattle.indicatif_bar.specs.Stages.{writing_as}
 use Rattle.indicatif_bar.proofs.OutcomeLemmas.{drew_none, outcome-unasked, drew_withheld, drew_limited}
 use Rattle.indicatif_bar.proofs.StageLemmas.{drew_staged, drew_hidden}
@@ -15,10 +22,13 @@ use Rattle.indicatif_board.specs.BoardBars.{board_bars}
 use Rattle.indicatif_board.specs.Boards.{draw_of, board}
 use Rattle.indicatif_board.specs.Inside.Named.{named_laid_out, named_layout_takes}
 use Rattle.indicatif_board.specs.Multi.{IsIn, known}
-use Rattle.indicatif_board.specs.ShownBars.{AreShownAs, record_on}
-use Rattle.indicatif_board.proofs.MemberLemmas.{laid_lists, laid_limiter}
-use Rattle.indicatif_board.proofs.BoardDrawLemmas.{ready_holds, asked_so}
-use Rattle.indicatif_board.proofs.LeavingLemmas.{same_left, left_after}
+use Rattle.indicatif_board.specs.Members.{leaders}
+use Rattle.indicatif_board.specs.ShownBars.{AreShownAs, Holds, record_on}
+use Rattle.indicatif_board.specs.Slots.{SlotTable}
+use Rattle.indicatif_board.proofs.BarRecordLemmas.{evenly, left_head, left_record}
+use Rattle.indicatif_board.proofs.MemberLemmas.{laid_lists, laid_limiter, leaders_of, dropped_bars}
+use Rattle.indicatif_board.proofs.BoardDrawLemmas.{ready_holds, asked_so, frame_drew, broken_holds, written_holds}
+use Rattle.indicatif_board.proofs.LeavingLemmas.{same_left}
 use Rattle.indicatif_board.proofs.multi.Board.draw.Goals as goal
 
 pub returns-then-is_no-clause-drew : goal.returns-then-is_no-clause-drew
@@ -103,6 +113,51 @@ returns-then-not-allows-clause-drew g c = λ mark takes s number inside placed.
     )) in
     (d.0, (inside.0, d.1, d.2), d.3)
 
+pub returns-in_err-put-clause-drew : goal.returns-in_err-put-clause-drew
+unfolding IsIn
+returns-in_err-put-clause-drew g c = λ mark takes s number inside placed.
+    let asked = sym c.is_no.ensures ∙ c.if-is_no.false in
+    let holds : AreShownAs c.note_place.new.self s = subst (λ b. AreShownAs b s) (sym c.note_place.ensures) inside.1 in
+    let staged = inside.2 in
+    let tracks = g.K.Tracks.means in
+    let m = board (board_bars tracks) mark in
+    let view = g.T.TermLike.view in
+    let stage = c.args.self.now.stage in
+    let engine = c.in-Some.engine in
+    let writing = writing_as c.args.writing in
+    let lays = named_layout_takes tracks number s in
+    let drawing = λ (target : Target). draw_of target takes c.args.ask c.args.now writing s (named_laid_out tracks target c.args.now number s) lays in
+    let target = target_of (Some (view (engine_term engine))) in
+    let fits = subst (λ o. MatchOption o (s.lists ≡ opening_lists) (λ e. Fits e s.lists)) c.in-Some.is staged.1 in
+    let some : 0 < (view (engine_term engine)).columns = omega (arith, ap (λ t. (view t).columns) c.term.ensures.terminal, c.width-width.ensures, c.if-width-eq0.false) in
+    let laid = c.in_ok-lay_out.ensures.laid target s number (ap (λ t. (view t).columns) (sym c.term.ensures.terminal) ∙ sym c.width-width.ensures) placed holds in
+    let after = named_laid_out tracks target c.args.now number s in
+    let same = staged.0 ∙ sym (laid_limiter tracks target c.args.now number s) in
+    let limiter = c.allows.new.limiter in
+    let allows = asked_so c.args.ask c.args.now stage.limiter after.limiter limiter same (sym c.allows.ensures.answer ∙ c.if-not-allows.false) c.allows.ensures.next in
+    let b = c.lay_out.new.self in
+    let bottom = is_bottom b.alignment in
+    let gone = c.leading-gone.result in
+    let gone_is : gone ≡ leaders after.members = c.leading-gone.ensures ∙ leaders_of b.members.items after.members laid.members_are in
+    let engine' = c.put.new.engine in
+    let puts = subst (λ f. PutsFrame view writing bottom gone (map bar_lines f) engine engine' (Err c.in_err-put.field-0.0))
+    c.make_contiguous.ensures.value (c.bars_in_window-end.ensures.sees bottom engine' (Err c.in_err-put.field-0.0)
+    (subst (λ k. PutsFrame view writing bottom k (map bar_lines (take c.bars_in_window-end.result c.make_contiguous.result.now)) engine engine' (Err c.in_err-put.field-0.0))
+    c.min.ensures c.in_err-put.ensures)) in
+    let kept = c.make_contiguous.ensures.writes_back c.make_contiguous.result.now c.make_contiguous.ensures.len ∙ c.make_contiguous.ensures.value in
+    let limiter_is = sym (ap (λ a. a.1) allows) in
+    let failed : Result Drawn Refusal = Err c.in_err-put.field-0.0 in
+    let x = err_from_is_err_and c.from_residual-in_err-put.result c.from_residual-in_err-put.ensures.1 in
+    let drew = subst (λ f. DrewBy m (λ n. Holds f b.members.items b.table.made bottom n × (limiter ≡ n.limiter)) view engine engine' (drawing target) s.lists failed) (sym kept)
+    (frame_drew tracks view mark takes c.args.ask c.args.now writing s after lays engine b.frame.items b.members.items b.table.made bottom laid
+    (λ n. Holds b.frame.items b.members.items b.table.made bottom n × (limiter ≡ n.limiter)) engine' (Err c.in_err-put.field-0.0) gone gone_is asked some
+    (ap (λ a. a.0) allows) (laid_lists tracks target c.args.now number s) fits puts (
+      (ready_holds tracks view mark takes c.args.ask c.args.now writing s after lays engine b.frame.items b.members.items b.table.made bottom laid, limiter_is),
+      (broken_holds tracks view mark takes c.args.ask c.args.now writing s after lays engine b.frame.items b.members.items b.table.made bottom laid, limiter_is),
+    )) in
+    rw (x.1 ∙ ap Err x.2) (let d = drew_staged m (Holds (deque_with_items b.frame c.make_contiguous.result.now).items b.members.items b.table.made bottom) (λ x. x.limiter) view stage
+    (record stage { engine = Some engine'; limiter = limiter }) engine engine' drawing s.lists failed c.in-Some.is refl drew in (d.0, (inside.0, d.1, d.2), d.3))
+
 pub returns-clause-drew : goal.returns-clause-drew
 unfolding IsIn
 returns-clause-drew g c = λ mark takes s number inside placed.
@@ -115,18 +170,39 @@ returns-clause-drew g c = λ mark takes s number inside placed.
     let stage = c.args.self.now.stage in
     let engine = c.in-Some.engine in
     let writing = writing_as c.args.writing in
-    let drawing = λ (target : Target). draw_of target takes c.args.ask c.args.now writing s (named_laid_out tracks target c.args.now number s) (named_layout_takes tracks number s) in
+    let lays = named_layout_takes tracks number s in
+    let drawing = λ (target : Target). draw_of target takes c.args.ask c.args.now writing s (named_laid_out tracks target c.args.now number s) lays in
     let target = target_of (Some (view (engine_term engine))) in
     let fits = subst (λ o. MatchOption o (s.lists ≡ opening_lists) (λ e. Fits e s.lists)) c.in-Some.is staged.1 in
     let some : 0 < (view (engine_term engine)).columns = omega (arith, ap (λ t. (view t).columns) c.term.ensures.terminal, c.width-width.ensures, c.if-width-eq0.false) in
     let laid = c.in_ok-lay_out.ensures.laid target s number (ap (λ t. (view t).columns) (sym c.term.ensures.terminal) ∙ sym c.width-width.ensures) placed holds in
     let after = named_laid_out tracks target c.args.now number s in
     let same = staged.0 ∙ sym (laid_limiter tracks target c.args.now number s) in
-    let next = c.allows.new.limiter in
-    let allows = asked_so c.args.ask c.args.now stage.limiter after.limiter next same (sym c.allows.ensures.answer ∙ c.if-not-allows.false) c.allows.ensures.next in
-    let d = drew_staged m (AreShownAs c.write.new.self) (λ x. x.limiter) view stage (record stage { engine = Some c.write.new.engine; limiter = next }) engine c.write.new.engine
-    drawing s.lists c.write.result c.in-Some.is refl
-    (c.write.ensures.drew mark c.args.now takes (named_layout_takes tracks number s) c.args.ask next s after asked some allows laid (laid_lists tracks target c.args.now number s) fits) in
+    let limiter = c.allows.new.limiter in
+    let allows = asked_so c.args.ask c.args.now stage.limiter after.limiter limiter same (sym c.allows.ensures.answer ∙ c.if-not-allows.false) c.allows.ensures.next in
+    let b = c.lay_out.new.self in
+    let bottom = is_bottom b.alignment in
+    let gone = c.leading-gone.result in
+    let gone_is : gone ≡ leaders after.members = c.leading-gone.ensures ∙ leaders_of b.members.items after.members laid.members_are in
+    let engine' = c.put.new.engine in
+    let puts = subst (λ f. PutsFrame view writing bottom gone (map bar_lines f) engine engine' (Ok tt))
+    c.make_contiguous.ensures.value (c.bars_in_window-end.ensures.sees bottom engine' (Ok tt)
+    (subst (λ k. PutsFrame view writing bottom k (map bar_lines (take c.bars_in_window-end.result c.make_contiguous.result.now)) engine engine' (Ok tt))
+    c.min.ensures c.in_ok-put.ensures)) in
+    let kept = c.make_contiguous.ensures.writes_back c.make_contiguous.result.now c.make_contiguous.ensures.len ∙ c.make_contiguous.ensures.value in
+    let frame' = c.take_front.new.items.items in
+    let members' = c.take_front-2.new.items.items in
+    let made = sym (ap (λ (t : SlotTable). t.made) c.remove_first.ensures.removed) in
+    let drew = subst (λ k. DrewBy m (λ n. Holds frame' members' k bottom n × (limiter ≡ n.limiter)) view engine engine' (drawing target) s.lists (Ok Yes)) made
+    (frame_drew tracks view mark takes c.args.ask c.args.now writing s after lays engine b.frame.items b.members.items b.table.made bottom laid
+    (λ n. Holds frame' members' b.table.made bottom n × (limiter ≡ n.limiter)) engine' (Ok tt) gone gone_is asked some
+    (ap (λ a. a.0) allows) (laid_lists tracks target c.args.now number s) fits puts (
+      written_holds tracks view mark takes c.args.ask c.args.now writing s after lays engine b.frame.items b.members.items b.table.made bottom laid
+          gone frame' members' (c.take_front.ensures ∙ ap (drop gone) kept) c.take_front-2.ensures gone_is,
+      sym (ap (λ a. a.1) allows),
+    )) in
+    let d = drew_staged m (Holds frame' members' c.remove_first.new.self.made bottom) (λ x. x.limiter) view stage
+    (record stage { engine = Some engine'; limiter = limiter }) engine engine' drawing s.lists (Ok Yes) c.in-Some.is refl drew in
     (d.0, (inside.0, d.1, d.2), d.3)
 
 pub returns-in_default-clause-drew : goal.returns-in_default-clause-drew
@@ -156,17 +232,6 @@ returns-in_err-lay_out-clause-keeps g c =
 pub returns-then-not-allows-clause-keeps : goal.returns-then-not-allows-clause-keeps
 returns-then-not-allows-clause-keeps g c =
     (refl, ap (option_map engine_moves) (sym c.in-Some.is), λ off. ap (option_map engine_term) (sym c.in-Some.is), λ none. refl)
-
-pub returns-clause-keeps : goal.returns-clause-keeps
-returns-clause-keeps g c = (
-  refl,
-  ap Some c.write.ensures.moves ∙ ap (option_map engine_moves) (sym c.in-Some.is),
-  λ off. ap (λ e. Some (engine_term e)) (c.write.ensures.silent off) ∙ ap (option_map engine_term) (sym c.in-Some.is),
-  λ none.
-      let view = g.T.TermLike.view in
-      let here : (view (engine_term c.in-Some.engine)).columns ≡ 0 = subst (λ o. (target_of (option_map view (option_map engine_term o))).columns ≡ 0) c.in-Some.is none in
-      absurd (c.if-width-eq0.false (c.width-width.ensures ∙ ap (λ t. (view t).columns) c.term.ensures.terminal ∙ here)),
-)
 
 pub returns-then-is_no-clause-slots : goal.returns-then-is_no-clause-slots
 returns-then-is_no-clause-slots g c = same_left c.args.self.now.shown.table c.note_place.new.self.table (ap (λ b. b.table) c.note_place.ensures)
@@ -203,15 +268,41 @@ returns-then-not-allows-clause-slots g c = same_left c.args.self.now.shown.table
 pub returns-then-not-allows-clause-stay : goal.returns-then-not-allows-clause-stay
 returns-then-not-allows-clause-stay g c = λ other. c.lay_out.ensures.slots ∙ ap (λ b. b.table) c.note_place.ensures
 
-pub returns-clause-slots : goal.returns-clause-slots
-returns-clause-slots g c =
-    left_after c.args.self.now.shown.table c.lay_out.new.self.table c.write.new.self.table (c.lay_out.ensures.slots ∙ ap (λ b. b.table) c.note_place.ensures) c.write.ensures.slots
+-- ---- the bars that leave
 
-pub returns-clause-head : goal.returns-clause-head
-returns-clause-head g c = c.write.ensures.head
+pub bars_in_window-end-requires : goal.bars_in_window-end-requires
+bars_in_window-end-requires g c =
+    let b = c.lay_out.new.self in
+    omega (arith, prefix_len-le-length (λ m. m.dropped) b.members.items, c.leading-gone.ensures, c.make_contiguous.ensures.len, b.even, b.members.ok)
 
-pub returns-clause-stay : goal.returns-clause-stay
-returns-clause-stay g c = λ other. c.write.ensures.stay other ∙ c.lay_out.ensures.slots ∙ ap (λ b. b.table) c.note_place.ensures
+pub take_front-requires : goal.take_front-requires
+take_front-requires g c =
+    let b = c.lay_out.new.self in
+    omega (arith, prefix_len-le-length (λ m. m.dropped) b.members.items, c.leading-gone.ensures, b.even, b.members.ok)
+
+pub take_front-requires-2 : goal.take_front-requires-2
+take_front-requires-2 g c =
+    let b = c.lay_out.new.self in
+    omega (arith, prefix_len-le-length (λ m. m.dropped) b.members.items, c.leading-gone.ensures, b.members.ok)
+
+pub invariant_of-shown-2-clause-seated : goal.invariant_of-shown-2-clause-seated
+invariant_of-shown-2-clause-seated g c =
+    let b = c.lay_out.new.self in
+    let kept = c.make_contiguous.ensures.writes_back c.make_contiguous.result.now c.make_contiguous.ensures.len ∙ c.make_contiguous.ensures.value in
+    ap (map (λ (x : Segment). x.bar)) (c.take_front.ensures ∙ ap (drop c.leading-gone.result) kept) ∙ dropped_bars b.frame.items b.table.order c.leading-gone.result b.seated
+    ∙ sym (ap (λ (t : SlotTable). t.order) c.remove_first.ensures.removed)
 
 pub returns-clause-records : goal.returns-clause-records
-returns-clause-records g c = λ number. c.write.ensures.records number ∙ c.lay_out.ensures.records number ∙ ap (record_on number) c.note_place.ensures
+returns-clause-records g c = λ number.
+    let b = c.lay_out.new.self in
+    let even = evenly b.frame.items b.table.order b.members.items (omega (arith, b.even, b.members.ok, b.frame.ok)) b.seated in
+    left_record number c.leading-gone.result b.table.order b.members.items even c.remove_first.new.self.order c.take_front-2.new.items.items
+    c.leading-gone.ensures (ap (λ (t : SlotTable). t.order) c.remove_first.ensures.removed)
+    c.take_front-2.ensures (c.remove_first.ensures.seated.apart number) ∙ c.lay_out.ensures.records number ∙ ap (record_on number) c.note_place.ensures
+
+pub returns-clause-head : goal.returns-clause-head
+returns-clause-head g c = λ yes head rest order.
+    let b = c.lay_out.new.self in
+    let even = evenly b.frame.items b.table.order b.members.items (omega (arith, b.even, b.members.ok, b.frame.ok)) b.seated in
+    left_head head c.leading-gone.result b.table.order b.members.items even c.remove_first.new.self.order c.take_front-2.new.items.items
+    c.leading-gone.ensures (ap (λ (t : SlotTable). t.order) c.remove_first.ensures.removed) c.take_front-2.ensures head rest order

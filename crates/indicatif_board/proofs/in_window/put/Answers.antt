@@ -3,7 +3,7 @@ use Rattle.std.proofs.lemmas.List.{take_all, drop-map}
 use Rattle.indicatif_term.specs.Frames.{bar_lines, text_lines, logged_lines}
 use Rattle.indicatif_term.specs.DrawTargets.{is_bottom}
 use Rattle.indicatif_bar.proofs.StageLemmas.{puts_text}
-use Rattle.indicatif_bar.proofs.stage.put.Goals as goal
+use Rattle.indicatif_board.proofs.in_window.put.Goals as goal
 
 pub returns-in-TextAndFrame : goal.returns-in-TextAndFrame
 returns-in-TextAndFrame g c =

@@ -4,8 +4,8 @@ use Rattle.std.specs.Option.{unwrap_or}
 use Rattle.std.specs.List.{insert}
 use Rattle.std.proofs.lemmas.List.Edits.{length-insert}
 use Rattle.indicatif_board.specs.Slots.{SlotTable, next_slot, seated, made_by}
-use Rattle.indicatif_board.proofs.SlotLemmas.{next_is, inserted_seated, inserted_is, made_next}
-use Rattle.indicatif_board.proofs.slots.MultiState.insert_as.Goals as goal
+use Rattle.indicatif_board.proofs.SlotLemmas.{next_is, inserted_seated, inserted_is}
+use Rattle.indicatif_board.proofs.slots.MultiState.insert.Goals as goal
 
 pub invariant_of-self-2 : goal.invariant_of-self-2
 invariant_of-self-2 c =
@@ -21,13 +21,13 @@ invariant_of-self-2 c =
     c.unwrap_or-slot.ensures ∙ ap (λ o. unwrap_or c.pop.result o) other
     ∙ next_is free.items (vec_len free) (length s.slots.items) (vec_len c.pop.new.self) c.pop.result free.ok.0 c.pop.ensures.cases c.pop.ensures.value
     ∙ ap (λ f. get_or f (length f - 1) (length s.slots.items)) c.in_ok-reserve-3.ensures.items in
-    let order = c.put_at.ensures ∙ ap (λ xs. insert xs c.min-at.result c.args.number) c.in_ok-reserve.ensures.items in
+    let order = c.put_at.ensures ∙ ap (λ xs. insert xs c.min-at.result c.in-Some.number) c.in_ok-reserve.ensures.items in
     let slots = c.queue_at.ensures ∙ ap (λ xs. insert xs c.min-at.result c.unwrap_or-slot.result) c.in_ok-reserve-2.ensures.items in
     let left = c.pop.ensures.rest ∙ ap (λ k. take (k - 1) free.items) free.ok.0 ∙ ap (λ f. take (length f - 1) f) c.in_ok-reserve-3.ensures.items in
-    let made = made_next c.args.number c.checked_add-self-inside.result c.ranges.number.fits c.checked_add-self-inside.ensures in (
-      inserted_seated t c.args.at c.min-at.result c.args.number c.unwrap_or-slot.result (made_by c.checked_add-self-inside.result) c.put_at.new.items.items
+    let made = c.number_after-self-inside.ensures in (
+      inserted_seated t c.args.at c.min-at.result c.in-Some.number c.unwrap_or-slot.result (made_by c.number_after-self-inside.result) c.put_at.new.items.items
           c.queue_at.new.items.items c.pop.new.self.items
-          c.self.invariant.0 place (c.requires.next ∙ sym (ap (λ (x : SlotTable). x.made) c.self.view_is)) slot order slots left made,
+          c.self.invariant.0 place (sym (ap made_by c.in-Some.is)) slot order slots left made,
       omega (
         arith,
         c.self.invariant.1,
@@ -56,9 +56,9 @@ returns-clause-inserted c =
     c.unwrap_or-slot.ensures ∙ ap (λ o. unwrap_or c.pop.result o) other
     ∙ next_is free.items (vec_len free) (length s.slots.items) (vec_len c.pop.new.self) c.pop.result free.ok.0 c.pop.ensures.cases c.pop.ensures.value
     ∙ ap (λ f. get_or f (length f - 1) (length s.slots.items)) c.in_ok-reserve-3.ensures.items in
-    let order = c.put_at.ensures ∙ ap (λ xs. insert xs c.min-at.result c.args.number) c.in_ok-reserve.ensures.items in
+    let order = c.put_at.ensures ∙ ap (λ xs. insert xs c.min-at.result c.in-Some.number) c.in_ok-reserve.ensures.items in
     let slots = c.queue_at.ensures ∙ ap (λ xs. insert xs c.min-at.result c.unwrap_or-slot.result) c.in_ok-reserve-2.ensures.items in
     let left = c.pop.ensures.rest ∙ ap (λ k. take (k - 1) free.items) free.ok.0 ∙ ap (λ f. take (length f - 1) f) c.in_ok-reserve-3.ensures.items in
-    let made = made_next c.args.number c.checked_add-self-inside.result c.ranges.number.fits c.checked_add-self-inside.ensures in
-    inserted_is t c.args.at c.min-at.result c.args.number c.unwrap_or-slot.result (made_by c.checked_add-self-inside.result) c.put_at.new.items.items c.queue_at.new.items.items c.pop.new.self.items
-    c.self.invariant.0 place (c.requires.next ∙ sym (ap (λ (x : SlotTable). x.made) c.self.view_is)) slot order slots left made ∙ ap (λ x. seated c.args.at x) c.self.view_is
+    let made = c.number_after-self-inside.ensures in
+    inserted_is t c.args.at c.min-at.result c.in-Some.number c.unwrap_or-slot.result (made_by c.number_after-self-inside.result) c.put_at.new.items.items c.queue_at.new.items.items c.pop.new.self.items
+    c.self.invariant.0 place (sym (ap made_by c.in-Some.is)) slot order slots left made ∙ ap (λ x. seated c.args.at x) c.self.view_is
