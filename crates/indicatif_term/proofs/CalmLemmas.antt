@@ -3,12 +3,12 @@ use Rattle.std.proofs.Common.{◌≡◌, ℕ, zero, suc, ◌+◌, ◌-◌, Bool,
 use Rattle.std.specs.Prelude.{◌&&◌, ◌||◌, ◌==◌, nat_le, nat_lt, is_some, slice_index, flat_map}
 use Rattle.std.specs.List.{AllByRecursion, list_all, list_any}
 use Rattle.std.specs.Int.{is_in_range}
-use Rattle.std.proofs.Math.Utf8.{encode, encodes}
+use Rattle.std.proofs.Math.Utf8.{encode, encodes, scalar, scalars}
 use Rattle.std.proofs.lemmas.Bool.{cases_Bool, and_parts, eqb-true, leb-true}
 use Rattle.std.proofs.lemmas.Grind.{flat_map-append}
 use Rattle.std.proofs.lemmas.List.{take-append-drop}
 use Rattle.std.proofs.lemmas.List.Folds.{list_all-append}
-use Rattle.std.proofs.lemmas.Str.{encodes-append, encodes-chars, encodes-IsAscii}
+use Rattle.std.proofs.lemmas.Str.{encodes-append, encodes-chars, encodes-IsAscii, scalars-chars, chars-IsAscii, IsUtf8-from_ascii}
 use Rattle.unicode_width.specs.Width.{char_width}
 use Rattle.indicatif_text.specs.Columns.{Cell, width_of, is_parameter, colour_length, visible, is_plain}
 use Rattle.indicatif_text.specs.Pieces.{TextPiece}
@@ -18,14 +18,16 @@ use Rattle.indicatif_text.proofs.WidthLemmas.{plain_width}
 use Rattle.indicatif_term.specs.Calls.{UP, DOWN, RIGHT, move_bytes, clear_bytes, anew_bytes}
 use Rattle.indicatif_term.specs.Calm.{Stroke, Character, Colours, Return, Feed, Move, Empty, stroke_bytes, is_calm, IsCalm, AreCalm, Calmly}
 use Rattle.indicatif_term.specs.Inside.Inks.{RESET, AreColours}
-use Rattle.indicatif_term.specs.Inside.Edits.{Edit, Stay, Write, Close, Open, IsWritable, edit_bytes, row_bytes}
+use Rattle.indicatif_term.specs.Inside.Edits.{Edit, Stay, Write, Close, Open, IsNarrowChar, IsWritable, edit_bytes, row_bytes}
 use Rattle.indicatif_term.specs.Inside.Bytes.{next_row, rows_down, back_bytes, reach_bytes, lines_bytes, paint_bytes}
 use Rattle.indicatif_term.specs.Inside.Changes.{Change, Leave, Within, Whole, PlacedLine, placed_height, placed_lines, emptied_bytes, step_bytes, step_down, walk_bytes, frame_bytes, rows_below, filled_whole, ending_by, ending, AreSitting, Becomes, all_stay, rewrite_bytes, free_behind, change_bytes}
 use Rattle.indicatif_term.specs.Inside.Fills.{last_of}
 use Rattle.indicatif_term.specs.Inside.LastChar.{ends_plainly}
 use Rattle.indicatif_term.proofs.ColourLemmas.{sequence_colours, reset_is}
 use Rattle.indicatif_term.proofs.GlyphLemmas.{some_width}
+use Rattle.indicatif_term.proofs.LastCharLemmas.{narrow_char}
 use Rattle.indicatif_term.proofs.PaintingLemmas.{IsDrawable, AreDrawable}
+use Rattle.indicatif_term.proofs.PartingLemmas.{space_one}
 
 -- ---- strokes
 
@@ -71,17 +73,16 @@ return_calm = calm_stroke Return refl
 one_shown : (c : ℕ) → width_of c ≡ 1 → is_some (char_width false c) ≡ true
 one_shown c e = ap is_some (some_width (char_width false c) (omega (arith, e)))
 
-char_calm : (c : ℕ) → width_of c ≡ 1 → IsCalm (encode c)
-char_calm c e = calm_stroke (Character c) (one_shown c e)
+char_calm : (c : ℕ) → IsNarrowChar c → IsCalm (encode c)
+char_calm c n = calm_stroke (Character c) (rw (n.scalar, one_shown c n.narrow) refl)
 
-space_one : width_of 0x20 ≡ 1
-unfolding char_width
-space_one = refl
+space_narrow : IsNarrowChar 0x20
+space_narrow = narrow_char 0x20 space_one (omega arith)
 
 pub spaces_calm : (n : ℕ) → IsCalm (replicate n 0x20)
 unfolding encode
 spaces_calm zero = calm_none
-spaces_calm (suc n) = calm_append (0x20 ∷ []) (replicate n 0x20) (char_calm 0x20 space_one) (spaces_calm n)
+spaces_calm (suc n) = calm_append (0x20 ∷ []) (replicate n 0x20) (char_calm 0x20 space_narrow) (spaces_calm n)
 
 parameters_end : {cs : List ℕ} {n : ℕ} → Parameters cs n → (ps : List ℕ) × (list_all is_parameter ps ≡ true) × (take n cs ≡ ps ++ 0x6D ∷ [])
 parameters_end (Ended c cs ended) = ([], refl, ap (λ x. x ∷ []) (eqb-true c 0x6D ended))
@@ -95,36 +96,44 @@ sequence_calm (Opened c d n cs opened rest) =
     ap (λ x. 0x1B ∷ 0x5B ∷ x) (sym r.2) ∙ ap (λ x. x ∷ 0x5B ∷ take n cs) (sym (eqb-true c 0x1B p.0)) ∙ ap (λ x. c ∷ x ∷ take n cs) (sym (eqb-true d 0x5B p.1)) in
     subst IsCalm is (calm_stroke (Colours r.0) r.1)
 
-abbrev IsCalmText : List ℕ → List TextPiece → Type 0
-IsCalmText cs ps = is_plain cs ≡ true → IsCalm (encodes cs)
+scalars_drop : (n : ℕ) (cs : List ℕ) → scalars cs ≡ true → scalars (drop n cs) ≡ true
+scalars_drop zero cs s = s
+scalars_drop (suc n) [] s = refl
+scalars_drop (suc n) (c ∷ cs) s = scalars_drop n cs (and_parts (scalar c) (scalars cs) s).1
 
-shown_calm : (c : ℕ) (cs : List ℕ) (ps : List TextPiece) → colour_length (c ∷ cs) ≡ None → IsCalmText cs ps → is_plain (c ∷ cs) ≡ true → IsCalm (encodes (c ∷ cs))
+abbrev IsCalmText : List ℕ → List TextPiece → Type 0
+IsCalmText cs ps = scalars cs ≡ true → is_plain cs ≡ true → IsCalm (encodes cs)
+
+shown_calm : (c : ℕ) (cs : List ℕ) (ps : List TextPiece) → colour_length (c ∷ cs) ≡ None → IsCalmText cs ps → IsCalmText (c ∷ cs) ps
 unfolding is_plain
-shown_calm c cs ps none rest plain =
+shown_calm c cs ps none rest scalars_are plain =
+    let s = and_parts (scalar c) (scalars cs) scalars_are in
     let both : (is_some (char_width false c) && list_all (λ d. is_some (char_width false d)) (visible cs)) ≡ true =
     ap (list_all (λ d. is_some (char_width false d))) (visible_past c cs none) ∙ plain in
     let p = and_parts (is_some (char_width false c)) (list_all (λ d. is_some (char_width false d)) (visible cs)) both in
-    calm_append (encode c) (encodes cs) (calm_stroke (Character c) p.0) (rest p.1)
+    calm_append (encode c) (encodes cs) (calm_stroke (Character c) (rw (s.0, p.0) refl)) (rest s.1 p.1)
 
-coloured_calm : (n : ℕ) (cs : List ℕ) (ps : List TextPiece) → Sequence cs n → IsCalmText (drop n cs) ps → is_plain cs ≡ true → IsCalm (encodes cs)
+coloured_calm : (n : ℕ) (cs : List ℕ) (ps : List TextPiece) → Sequence cs n → IsCalmText (drop n cs) ps → IsCalmText cs ps
 unfolding is_plain
-coloured_calm n cs ps s rest plain =
+coloured_calm n cs ps s rest scalars_are plain =
     let behind : is_plain (drop n cs) ≡ true = ap (list_all (λ d. is_some (char_width false d))) (sym (hidden n cs (sequence_is s) (sequence_length s))) ∙ plain in
     let same : encodes (take n cs) ++ encodes (drop n cs) ≡ encodes cs = sym (encodes-append (take n cs) (drop n cs)) ∙ ap encodes (take-append-drop n cs) in
     let colours = sequence_colours s in
-    subst IsCalm same (calm_append (encodes (take n cs)) (encodes (drop n cs)) (subst IsCalm (sym (encodes-IsAscii (take n cs) colours.ascii)) (sequence_calm s)) (rest behind))
+    let front = subst IsCalm (sym (encodes-IsAscii (take n cs) colours.ascii)) (sequence_calm s) in
+    subst IsCalm same (calm_append (encodes (take n cs)) (encodes (drop n cs)) front (rest (scalars_drop n cs scalars_are) behind))
 
-text_calm : (cs : List ℕ) → is_plain cs ≡ true → IsCalm (encodes cs)
-text_calm cs = by_pieces IsCalmText (λ _. calm_none) shown_calm coloured_calm cs
+text_calm : (cs : List ℕ) → scalars cs ≡ true → is_plain cs ≡ true → IsCalm (encodes cs)
+text_calm cs = by_pieces IsCalmText (λ _ _. calm_none) shown_calm coloured_calm cs
 
 pub line_calm : (w : ℕ) (line : List ℕ) → IsDrawable w line → IsCalm line
-line_calm w line d = subst IsCalm (encodes-chars line d.utf8) (text_calm (chars line) d.plain)
+line_calm w line d = subst IsCalm (encodes-chars line d.utf8) (text_calm (chars line) (scalars-chars line d.utf8) d.plain)
 
 colours_calm : (s : List ℕ) → AreColours s → IsCalm s
 unfolding is_plain
 colours_calm s p =
     let none : visible s ≡ [] = ap visible (sym (append-nil s)) ∙ p.unseen [] ∙ visible_none in
-    subst IsCalm (encodes-IsAscii s p.ascii) (text_calm s (ap (list_all (λ d. is_some (char_width false d))) none))
+    let scalars_are = ap scalars (sym (chars-IsAscii s p.ascii)) ∙ scalars-chars s (IsUtf8-from_ascii s p.ascii) in
+    subst IsCalm (encodes-IsAscii s p.ascii) (text_calm s scalars_are (ap (list_all (λ d. is_some (char_width false d))) none))
 
 -- ---- rows
 
@@ -172,7 +181,7 @@ edits_calm gap (Stay ∷ es) all = edits_calm (suc gap) es all.1
 edits_calm gap (Close ∷ es) all = calm_append RESET (edit_bytes gap es) (colours_calm RESET reset_is) (edits_calm gap es all.1)
 edits_calm gap (Open s ∷ es) all = calm_append s (edit_bytes gap es) (colours_calm s all.0) (edits_calm gap es all.1)
 edits_calm gap (Write c ∷ es) all =
-    calm_append (move_bytes RIGHT gap) (encode c ++ edit_bytes 0 es) (right_calm gap) (calm_append (encode c) (edit_bytes 0 es) (char_calm c all.0.narrow) (edits_calm 0 es all.1))
+    calm_append (move_bytes RIGHT gap) (encode c ++ edit_bytes 0 es) (right_calm gap) (calm_append (encode c) (edit_bytes 0 es) (char_calm c all.0) (edits_calm 0 es all.1))
 
 -- ---- changes
 
@@ -212,20 +221,21 @@ sitting_calm w looks (q ∷ ps) p more sit d dp =
 filled_calm : (w : ℕ) (p : PlacedLine) → IsCalm p.line → HasCalmSteps (filled_whole w p)
 filled_calm w p c down = whole_calm down p.rows (p.line ++ replicate (w - p.last) 0x20) (calm_append p.line (replicate (w - p.last) 0x20) c (spaces_calm (w - p.last)))
 
-again_calm : (w c down rows : ℕ) (line : List ℕ) → width_of c ≡ 1 → IsCalm (step_bytes (Within (w - 1) (Write c ∷ [])) down rows line)
+again_calm : (w c down rows : ℕ) (line : List ℕ) → IsNarrowChar c → IsCalm (step_bytes (Within (w - 1) (Write c ∷ [])) down rows line)
 again_calm w c down rows line one =
     within_calm (w - 1) (Write c ∷ []) down rows line (calm_append (move_bytes RIGHT (w - 1)) (encode c ++ []) (right_calm (w - 1)) (calm_append (encode c) [] (char_calm c one) calm_none))
 
-last_one : (line : List ℕ) → ends_plainly line ≡ true → width_of (slice_index line (length line - 1)) ≡ 1
+last_one : (line : List ℕ) → ends_plainly line ≡ true → IsNarrowChar (slice_index line (length line - 1))
 last_one line e =
     let c = slice_index line (length line - 1) in
     let p = and_parts (is_in_range 0x20 0x7E c) (not (list_any (λ b. b == 0x1B) line)) e in
     let q = and_parts (nat_le 0x20 c) (nat_le c 0x7E) p.0 in
-    plain_width c (leb-true 0x20 c q.0, leb-true c 0x7E q.1)
+    let high = leb-true c 0x7E q.1 in
+    narrow_char c (plain_width c (leb-true 0x20 c q.0, high)) (omega (arith, high))
 
 ending_calm : (w : ℕ) (change : Change) (p : PlacedLine) → p.change ≡ change → IsCalm p.line → HasCalmSteps p → HasCalmSteps (ending_by change w p)
 ending_calm w Leave p is c all down = elim (cases_Bool (nat_lt p.last w)) [
-  | inl free ↦ rw free (again_calm w 0x20 down p.rows p.line space_one)
+  | inl free ↦ rw free (again_calm w 0x20 down p.rows p.line space_narrow)
   | inr full ↦ elim (cases_Bool (ends_plainly p.line)) [
     | inl plain ↦ rw (full, plain) (again_calm w (slice_index p.line (length p.line - 1)) down p.rows p.line (last_one p.line plain))
     | inr other ↦ rw (full, other) (filled_calm w p c down)

@@ -4,6 +4,7 @@ use Rattle.std.specs.Prelude.{IsTrue, ◌&&◌, ◌||◌, ◌==◌, nat_le, nat_
 use Rattle.std.specs.Fmt.{digits, digits_onto, digit_glyph}
 use Rattle.std.specs.List.{AllByRecursion, list_all}
 use Rattle.std.specs.Int.{is_in_range}
+use Rattle.std.specs.Str.{all_scalars}
 use Rattle.std.proofs.Math.Utf8.{encode}
 use Rattle.std.proofs.lemmas.Bool.{cases_Bool, and_parts, false≢true, leb-true, ltb-true, le-leb, lt-ltb, le-ltb, ne_eqb}
 use Rattle.std.proofs.lemmas.Bool.Decides.{nat_tests}
@@ -94,7 +95,7 @@ quiet_sequence bs last rest all one q =
     ap is_quiet (append_assoc bs (last ∷ []) rest) ∙ quiet_plain bs (last ∷ rest) all (rw (one, q) refl)
 
 quiet_stroke : (s : Stroke) (rest : List ℕ) → is_calm s ≡ true → is_quiet rest ≡ true → is_quiet (stroke_bytes s ++ rest) ≡ true
-quiet_stroke (Character c) rest calm q = quiet_plain (encode c) rest (encode_plain c calm) q
+quiet_stroke (Character c) rest calm q = quiet_plain (encode c) rest (encode_plain c (and_parts (all_scalars (c ∷ [])) (is_some (char_width false c)) calm).1) q
 quiet_stroke (Colours ps) rest calm q = quiet_sequence ps 0x6D rest (parameters_plain ps calm) refl q
 quiet_stroke Return rest calm q = q
 quiet_stroke Feed rest calm q = q

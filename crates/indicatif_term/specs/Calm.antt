@@ -2,6 +2,7 @@
 use Rattle.std.specs.Prelude.{◌≡◌, ℕ, ◌==◌, ◌&&◌, ◌||◌, not, nat_le, Bool, true, false, IsTrue, IsFalse, is_some, List, [], ◌∷◌, ◌++◌, flat_map, decimal, encode_utf8, if◌then◌else◌}
 use Rattle.std.specs.List.{list_all}
 use Rattle.std.specs.Int.{is_in_range}
+use Rattle.std.specs.Str.{all_scalars}
 use Rattle.unicode_width.specs.Width.{char_width}
 use Rattle.indicatif_text.specs.Columns.{is_parameter}
 
@@ -23,9 +24,9 @@ stroke_bytes Feed = 0x0A ∷ []
 stroke_bytes (Move letter n) = 0x1B ∷ 0x5B ∷ (decimal n ++ letter ∷ [])
 stroke_bytes Empty = 0x1B ∷ 0x5B ∷ 0x32 ∷ 0x4B ∷ []
 
--- a character has to have a width, as no control character has; a move ends with a letter from A to D, for up, down, right, left
+-- a character is a Unicode scalar value, and has a width, as no control character has; a move ends with a letter from A to D, for up, down, right, left
 abbrev pub is_calm : Stroke → Bool
-is_calm (Character c) = is_some (char_width false c)
+is_calm (Character c) = all_scalars (c ∷ []) && is_some (char_width false c)
 is_calm (Colours parameters) = list_all is_parameter parameters
 is_calm Return = true
 is_calm Feed = true

@@ -29,7 +29,8 @@ pub fn bytes_of_calls()
         ≡ 0x1B ∷ 0x5B ∷ 0x32 ∷ 0x41 ∷ 0x0D ∷ 0x1B ∷ 0x5B ∷ 0x32 ∷ 0x4B ∷ 0x61 ∷ 0x62 ∷ 0x63 ∷ 0x0D ∷ 0x0A ∷ [] }
 {}
 
-/// Strokes of a calm text, and what isn't one: BEL, ESC, DEL and a move with another letter; and bytes that aren't quiet, such as ESC `c`.
+/// Strokes of a calm text, and what isn't one: BEL, ESC, DEL, a surrogate, a number past U+10FFFF and a move with another letter; and bytes that
+/// aren't quiet, such as ESC `c`.
 pub fn calm_texts()
     ensures text { flat_map stroke_bytes (Move UP 2 ∷ Return ∷ Empty ∷ Colours (codes "1;31") ∷ Character 0x2588 ∷ Colours [] ∷ Return ∷ Feed ∷ [])
         ≡ 0x1B ∷ (codes "[2A\r") ++ (0x1B ∷ codes "[2K") ++ (0x1B ∷ codes "[1;31m") ++ (0xE2 ∷ 0x96 ∷ 0x88 ∷ 0x1B ∷ codes "[m\r\n") }
@@ -38,6 +39,8 @@ pub fn calm_texts()
     ensures bell { is_calm (Character 0x07) ≡ false }
     ensures escape { is_calm (Character 0x1B) ≡ false }
     ensures delete { is_calm (Character 0x7F) ≡ false }
+    ensures surrogate { is_calm (Character 0xD800) ≡ false }
+    ensures past { is_calm (Character 0x110000) ≡ false }
     ensures home { is_calm (Move 0x48 1) ≡ false }
     ensures quiet { is_quiet (codes "a\r\n") ≡ true }
     ensures broken { is_quiet (0x1B ∷ codes "\r\n") ≡ true }

@@ -1,3 +1,4 @@
+mod AgainLemmas
 mod AnyWidthLemmas
 mod BytesLemmas
 mod CutLemmas

@@ -3,7 +3,7 @@ use Rattle.std.specs.Prelude.{◌≡◌, ℕ, ◌++◌, List, [], map, replicate
 use Rattle.indicatif_text.specs.Columns.{Cell}
 use Rattle.indicatif_term.specs.Screen.{Screen}
 use Rattle.indicatif_term.specs.Terminal.{Terminal}
-use Rattle.indicatif_term.specs.Shows.{IsOpening, resting}
+use Rattle.indicatif_term.specs.Shows.{IsOpening, looks_of, resting}
 use Rattle.indicatif_term.specs.Pictures.{row_text}
 
 -- texts are those of these rows, then empty ones
@@ -17,3 +17,7 @@ StartsAt t opening = (t ≡ resting opening) × IsOpening opening.columns openin
 -- texts begin with those of these rows
 abbrev pub BeginAs : List (List ℕ) → List (List Cell) → Type 0
 BeginAs texts rows = (others : List (List ℕ)) × (texts ≡ map row_text rows ++ others)
+
+-- all rows are these first ones, any others, some that look as the given rows, and any others
+abbrev pub StandBelow : List (List Cell) → List (List Cell) → List (List Cell) → Type 0
+StandBelow first rows all = (between shown below : List (List Cell)) × (all ≡ first ++ between ++ shown ++ below) × (looks_of shown ≡ looks_of rows)

@@ -1,17 +1,22 @@
-//! What engines show of fixed lines, also after a failure; and how many draws a limiter allows at once.
-ghost use Rattle.std.specs.Prelude.{◌≡◌, ◌⊎◌, ◌++◌, ◌∷◌, [], ℕ, map, take, replicate, codes, false, IsTrue, IfOk, IfErr};
+//! What engines show of fixed lines, also after a failure and over what it left; and how many draws a limiter allows at once.
+ghost use Rattle.std.specs.Prelude.{◌≡◌, ◌⊎◌, ◌++◌, ◌∷◌, [], ℕ, ◌+◌, map, take, replicate, codes, false, IsTrue, IfOk, IfErr};
+ghost use Rattle.indicatif_text.specs.Columns.{rows_of};
 ghost use Rattle.indicatif_term.specs.Calls.{State};
 ghost use Rattle.indicatif_term.specs.Engines.{Fits, engine_term};
 ghost use Rattle.indicatif_term.specs.Frames.{bar_lines, is_fault};
 ghost use Rattle.indicatif_term.specs.Lists.{Lists, forgotten_lists, opening_lists};
 ghost use Rattle.indicatif_term.specs.Pictures.{picture_text, row_text};
 ghost use Rattle.indicatif_term.specs.Screen.{Screen};
-ghost use Rattle.indicatif_term.specs.Shows.{Rests};
+ghost use Rattle.indicatif_term.specs.Shows.{Placed, Rests};
 ghost use Rattle.indicatif_term.specs.Terminal.{Terminal, blank_terminal};
+ghost use Rattle.uses.specs.Readings.{StandBelow};
 
 use indicatif_term::draw_target::{Engine, Keep, MultiProgressAlignment, RateLimiter, Segment};
 use indicatif_term::in_memory::InMemoryTerm;
-use indicatif_term::laws::{a_new_terminal_is_an_opening, what_is_shown_is_read};
+use indicatif_term::laws::{
+    a_new_terminal_is_an_opening, an_opening_shows_nothing, what_is_known_again,
+    what_is_shown_is_read, what_stands_over_the_rest, where_a_terminal_stands,
+};
 use indicatif_term::term_like::TermLike;
 use indicatif_text::columns::Refusal;
 use std::io::ErrorKind;
@@ -81,6 +86,26 @@ pub fn name_behind_a_failure<T: TermLike + Drop>(engine: &mut Engine<T>) -> Resu
 {
     what_is_shown_is_read();
     engine.log("a.txt", &[], MultiProgressAlignment::Top)
+}
+
+/// Logs two names on a terminal of 4 rows and 10 columns that has failed, and once more if it fails again. Wherever it broke off and whatever
+/// stands below its cursor: names that were logged stand on rows of their own, below the rows that stood down to the cursor's.
+pub fn names_logged_again<T: TermLike + Drop>(engine: &mut Engine<T>) -> Result<(), Refusal>
+    requires failed { Fits engine.old forgotten_lists }
+    requires columns { (T.view (engine_term engine.old)).columns ≡ 10 }
+    requires rows { (T.view (engine_term engine.old)).rows ≡ 4 }
+    ensures { IfOk result (λ _. (t : Terminal) → Placed 10 4 forgotten_lists t →
+        (T.view (engine_term engine.old)).told ≡ State t →
+        (next : Terminal) × ((T.view (engine_term engine.new)).told ≡ State next)
+        × StandBelow (take (t.screen.row + 1) t.screen.rows)
+        (rows_of 10 (codes "a.txt") ++ rows_of 10 (codes "b")) next.screen.rows) }
+{
+    what_is_known_again();
+    what_stands_over_the_rest();
+    match engine.log("a.txt\nb", &[], MultiProgressAlignment::Top) {
+        Err(Refusal::Terminal(_)) => engine.log("a.txt\nb", &[], MultiProgressAlignment::Top),
+        said => said,
+    }
 }
 
 /// Draws on an engine. If its terminal fails, the engine remembers no line that it drew before.

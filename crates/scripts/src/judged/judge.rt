@@ -14,6 +14,8 @@ pub enum Finding {
     Lost,
     /// The first draw after a failure doesn't begin on a new row.
     Beginning,
+    /// A row that was written after a failure holds something else beside its text.
+    Beside,
     /// A call has a wrong answer.
     Answer,
     /// A draw that failed left other bars in the order.
@@ -69,6 +71,8 @@ pub struct Judge {
     has_failed: bool,
     is_littered: bool,
     is_cut: bool,
+    /// What would stand if all had been empty where the first drawing behind a failure began, and below that.
+    emptied: Option<Cells>,
 }
 
 impl Drop for Judge {
@@ -82,6 +86,7 @@ impl Drop for Judge {
             has_failed: _,
             is_littered: _,
             is_cut: _,
+            emptied: _,
         } = self;
     }
 }
@@ -99,6 +104,7 @@ impl Judge {
             has_failed: false,
             is_littered: false,
             is_cut: false,
+            emptied: None,
         };
         match judge.begin() {
             Ok(()) => Ok(judge),
@@ -125,23 +131,36 @@ impl Judge {
         if self.has_failed && !begins_anew(bytes, has_failed) {
             return Err(Finding::Beginning);
         }
+        let rest = match bytes.strip_prefix(b"\r\n") {
+            Some(rest) if self.has_failed && !has_failed => {
+                self.looks_at(b"\r\n", has_failed)?;
+                self.emptied = Some(self.emptied_below()?);
+                rest
+            }
+            _ => bytes,
+        };
+        self.looks_at(rest, has_failed)?;
+        self.has_failed = has_failed || self.has_failed && bytes.is_empty();
+        if has_failed {
+            self.is_littered = true;
+            self.emptied = None;
+            self.keeps(self.rows_to_the_cursor()?)?;
+        }
+        self.stands_alone(rest)
+    }
+
+    /// Reads bytes of a call which failed or didn't, as closely as they are looked at.
+    fn looks_at(&mut self, bytes: &[u8], has_failed: bool) -> Result<(), Finding> {
         let is_looked_at_each = match self.look {
             Look::EachByte => true,
             Look::FromFailure => has_failed || self.is_littered,
             Look::AtFailure => has_failed || self.has_failed,
             Look::EachCall => false,
         };
-        let read = match is_looked_at_each {
+        match is_looked_at_each {
             true => self.reads_each(bytes),
             false => self.reads_all(bytes),
-        };
-        read?;
-        self.has_failed = has_failed || self.has_failed && bytes.is_empty();
-        if has_failed {
-            self.is_littered = true;
-            self.keeps(self.rows_to_the_cursor()?)?;
         }
-        Ok(())
     }
 
     fn reads_each(&mut self, bytes: &[u8]) -> Result<(), Finding> {
@@ -168,6 +187,7 @@ impl Judge {
         self.cells.resize(size.rows, size.cols)?;
         self.size = size;
         self.is_cut = self.is_littered;
+        self.emptied = None;
         self.above = above;
         self.reads_all(&[])?;
         if self.has_failed {
@@ -178,10 +198,41 @@ impl Judge {
 
     /// Reads bytes without a check.
     pub fn takes(&mut self, bytes: &[u8]) -> Result<(), Finding> {
-        match self.cells.feed(bytes) {
-            Ok(()) => Ok(()),
-            Err(_) => Err(Finding::Memory),
+        feed(&mut self.cells, bytes)
+    }
+
+    /// The rows that were written behind a failure hold nothing else: down to the last text they are what would stand if all had been empty there.
+    fn stands_alone(&mut self, bytes: &[u8]) -> Result<(), Finding> {
+        let Some(emptied) = &mut self.emptied else {
+            return Ok(());
+        };
+        feed(emptied, bytes)?;
+        let rows = emptied.picture()?;
+        match self.cells.picture()?.starts_with(filled(&rows)) {
+            true => Ok(()),
+            false => Err(Finding::Beside),
         }
+    }
+
+    /// The same terminal, if all were empty from the cursor's row on, at whose front it stands.
+    fn emptied_below(&self) -> Result<Cells, Finding> {
+        let rows = self.cells.picture()?;
+        let above = self.rows_to_the_cursor()?.saturating_sub(1);
+        let mut cells = Cells::new(self.alloc, self.size.rows, self.size.cols)?;
+        for (at, row) in rows.iter().enumerate() {
+            if at > 0 {
+                feed(&mut cells, b"\r\n")?;
+            }
+            if at < above {
+                feed(&mut cells, row.as_bytes())?;
+            }
+        }
+        let below = rows.len().saturating_sub(above).saturating_sub(1);
+        if below > 0 {
+            let up = format!(in self.alloc; "\x1b[{below}A")?;
+            feed(&mut cells, up.as_bytes())?;
+        }
+        Ok(cells)
     }
 
     /// The rows that stand, including those that scrolled away, down to the last one that isn't empty.
@@ -214,6 +265,13 @@ impl Judge {
             Some(end) => self.keeps(end),
             None => Err(Finding::Lost),
         }
+    }
+}
+
+fn feed(cells: &mut Cells, bytes: &[u8]) -> Result<(), Finding> {
+    match cells.feed(bytes) {
+        Ok(()) => Ok(()),
+        Err(_) => Err(Finding::Memory),
     }
 }
 

@@ -29,6 +29,12 @@ pub returns-clause-delete : goal.returns-clause-delete
 unfolding char_width
 returns-clause-delete c = refl
 
+pub returns-clause-surrogate : goal.returns-clause-surrogate
+returns-clause-surrogate c = refl
+
+pub returns-clause-past : goal.returns-clause-past
+returns-clause-past c = refl
+
 pub returns-clause-home : goal.returns-clause-home
 returns-clause-home c = refl
 
