@@ -1,7 +1,7 @@
 -- Worked cases of what lines mean, and of what is printed. Texts are lists of bytes.
 use Rattle.std.specs.Prelude.{◌≡◌, ℕ, false, List, [], ◌∷◌, ◌++◌, map, Option, Some, None, codes}
 use Rattle.indicatif_term.specs.Pictures.{row_text}
-use Rattle.indicatif_term.specs.declared.draw_target.MultiProgressAlignment.TheVariants.{Top, Bottom}
+use Rattle.indicatif_term.specs.declared.target.MultiProgressAlignment.TheVariants.{Top, Bottom}
 use Rattle.bars_run.specs.declared.arguments.Asked.{Asked}
 use Rattle.bars_run.specs.declared.arguments.Size.{Size}
 use Rattle.bars_run.specs.Arguments.{asked_by}

@@ -4,7 +4,7 @@ ghost use Rattle.std.specs.Char.{is_ascii_digit};
 ghost use Rattle.std.specs.List.{list_all};
 ghost use Rattle.bars_run.specs.Arguments.{is_number, number_below, size_spelled, asking, asked_behind, asked_by};
 
-use indicatif_term::draw_target::MultiProgressAlignment;
+use indicatif_term::target::MultiProgressAlignment;
 
 /// A terminal's size.
 #[derive(Clone, Copy, Drop)]

@@ -5,8 +5,8 @@ use indicatif_bar::style::{NoTracker, ProgressStyle};
 use indicatif_board::multi::{
     Answer, BarId, Call, Candidate, InsertLocation, Opening, Recorded, Size,
 };
-use indicatif_term::draw_target::ProgressDrawTarget;
-use indicatif_term::in_memory::InMemoryTerm;
+use indicatif_term::cells::InMemoryTerm;
+use indicatif_term::target::ProgressDrawTarget;
 use indicatif_text::columns::Drawn;
 use std::alloc::Global;
 use std::process::Abort;

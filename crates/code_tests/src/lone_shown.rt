@@ -4,9 +4,8 @@ use crate::checks::Granted;
 use indicatif_bar::lone::LoneBar;
 use indicatif_bar::state::BarState;
 use indicatif_bar::style::{NoTracker, ProgressStyle};
-use indicatif_term::draw_target::ProgressDrawTarget;
-use indicatif_term::in_memory::InMemoryTerm;
-use indicatif_term::term_like::TermLike;
+use indicatif_term::cells::InMemoryTerm;
+use indicatif_term::target::{ProgressDrawTarget, TermLike};
 use indicatif_text::columns::{Drawn, Refusal};
 use std::alloc::Global;
 

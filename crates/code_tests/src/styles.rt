@@ -6,7 +6,7 @@ use crate::checks::Granted;
 use crate::values::is_shown;
 use indicatif_bar::state::{BarCommand, BarState, ProgressFinish, ProgressState};
 use indicatif_bar::style::{FnTracker, ProgressStyle, ProgressTracker};
-use indicatif_term::draw_target::LineType;
+use indicatif_term::target::LineType;
 use indicatif_text::columns::{Moment, Refusal};
 use std::alloc::Global;
 use std::convert::AsStr;

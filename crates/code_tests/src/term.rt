@@ -1,8 +1,7 @@
 //! The parts of targets, and a terminal in memory whose memory is refused.
 use crate::checks::Granted;
-use indicatif_term::draw_target::{Engine, ProgressDrawTarget, Setup};
-use indicatif_term::in_memory::InMemoryTerm;
-use indicatif_term::term_like::TermLike;
+use indicatif_term::cells::InMemoryTerm;
+use indicatif_term::target::{Engine, ProgressDrawTarget, Setup, TermLike};
 use indicatif_text::columns::{Clock, Refusal, StepClock};
 use std::alloc::Global;
 use std::io::ErrorKind;

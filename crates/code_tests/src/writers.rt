@@ -1,8 +1,8 @@
 //! What a terminal passes to its writer, and how it handles the writer's answers; and terminals in a box.
 use crate::checks::Granted;
 use crate::lone_shown::{SCRIPT, STILL, Shown, Step};
-use indicatif_term::in_memory::InMemoryTerm;
-use indicatif_term::term_like::{Term, TermLike};
+use indicatif_term::cells::InMemoryTerm;
+use indicatif_term::target::{Term, TermLike};
 use indicatif_text::columns::{Drawn, Refusal};
 use scripts::judged::record::{Plan, Record, Size};
 use std::alloc::Global;

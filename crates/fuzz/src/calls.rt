@@ -6,7 +6,7 @@ use indicatif_bar::lone::LoneCall;
 use indicatif_bar::state::{BarCommand, BarState, Change, ProgressFinish};
 use indicatif_bar::style::{NoTracker, ProgressStyle};
 use indicatif_board::multi::{BarId, Call, Candidate, InsertLocation};
-use indicatif_term::draw_target::MultiProgressAlignment;
+use indicatif_term::target::MultiProgressAlignment;
 use scripts::commands::{COUNTING, bare, by_number};
 use std::alloc::Global;
 

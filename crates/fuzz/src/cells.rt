@@ -1,7 +1,7 @@
 //! Random bytes for the cell terminal.
 use crate::law::{Held, Law};
 use crate::numbers::Numbers;
-use indicatif_term::in_memory::Cells;
+use indicatif_term::cells::Cells;
 use indicatif_text::columns::columns;
 use std::alloc::Global;
 

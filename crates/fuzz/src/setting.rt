@@ -1,7 +1,7 @@
 //! The terminal on which a list of calls is played.
 use crate::law::{Held, Law};
 use crate::numbers::Numbers;
-use indicatif_term::draw_target::ProgressDrawTarget;
+use indicatif_term::target::ProgressDrawTarget;
 use indicatif_text::columns::{Drawn, Moment, Refusal};
 use scripts::judged::judge::{Judge, Look};
 use scripts::judged::record::{Behind, Plan, Point, Record, Size};

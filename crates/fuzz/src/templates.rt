@@ -4,7 +4,7 @@ use crate::numbers::Numbers;
 use crate::texts::{joined, message};
 use indicatif_bar::state::BarState;
 use indicatif_bar::style::{NoTracker, ProgressStyle};
-use indicatif_term::draw_target::LineType;
+use indicatif_term::target::LineType;
 use indicatif_text::columns::{Moment, Refusal, pieces};
 use indicatif_text::template::{Part, Template, TemplateError};
 use std::alloc::Global;

@@ -6,10 +6,10 @@ use Rattle.std.specs.declared.io.buffered.BufWriter.{BufWriter}
 use Rattle.indicatif_term.specs.Limiters.{Limiter, default_rate, draw_limiter}
 use Rattle.indicatif_term.specs.DrawTargets.{hides, term_behind}
 use Rattle.indicatif_term.specs.Writers.{WriterTerm}
-use Rattle.indicatif_term.specs.declared.draw_target.Facts.{Facts}
+use Rattle.indicatif_term.specs.declared.target.Facts.{Facts}
 use Rattle.indicatif_term.specs.OwnRows.{own_rows, left_rows}
-use Rattle.indicatif_term.specs.declared.own_row.OwnRow.{OwnRow}
-use Rattle.indicatif_term.specs.declared.own_rows.OwnRows.{OwnRows}
+use Rattle.indicatif_term.specs.declared.target.own_row.OwnRow.{OwnRow}
+use Rattle.indicatif_term.specs.declared.target.own_rows.OwnRows.{OwnRows}
 use Rattle.indicatif.specs.StderrTerm.{stderr_target}
 use Rattle.indicatif.specs.declared.machine.stderr_term.StderrTerm.{StderrTerm}
 use Rattle.indicatif.specs.declared.machine.until_gone.UntilGone.{UntilGone}

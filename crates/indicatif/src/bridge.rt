@@ -5,7 +5,7 @@ use crate::machine::{MachineClock, Shares, StderrBoard, StderrTerm};
 use crate::shared::MultiProgress;
 use indicatif_bar::style::{NoTracker, Tracks};
 pub use indicatif_board::bridge::{bridge_line, emit};
-use indicatif_term::term_like::TermLike;
+use indicatif_term::target::TermLike;
 use indicatif_text::columns::{Clock, Drawn, Refusal};
 use log::kv::Source;
 use log::sink::{Console, Discard};

@@ -15,7 +15,7 @@ ghost use Rattle.indicatif.specs.Seek.{Seeks, no_seeks, saturated, Forward, afte
 use crate::wrappers::moves::Moves;
 use crate::wrappers::wrap::ProgressBarIter;
 use indicatif_bar::style::Tracks;
-use indicatif_term::term_like::TermLike;
+use indicatif_term::target::TermLike;
 
 /// What is kept after a list of updates is its last `n`, the latest first.
 pub fn the_last_updates_stay()

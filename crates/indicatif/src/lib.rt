@@ -289,12 +289,11 @@ pub use indicatif_board::multi::{
     Answer, BarId, Board, Call, Candidate, Entry, InsertLocation, MultiState, Opening, Recorded,
     Size, Turned,
 };
-pub use indicatif_term::draw_target::{
-    DEFAULT_RATE, Engine, Facts, Keep, LineType, MultiProgressAlignment, ProgressDrawTarget,
-    RateLimiter, Segment, Setup,
+pub use indicatif_term::cells::{Cells, InMemoryTerm};
+pub use indicatif_term::target::{
+    DEFAULT_RATE, Engine, Facts, Keep, LineType, MultiProgressAlignment, OwnRow, OwnRows,
+    ProgressDrawTarget, RateLimiter, Resize, Segment, Setup, Term, TermLike, write_whole,
 };
-pub use indicatif_term::in_memory::{Cells, InMemoryTerm};
-pub use indicatif_term::term_like::{OwnRow, OwnRows, Resize, Term, TermLike, write_whole};
 pub use indicatif_text::columns::{
     Clock, Drawn, Metrics, Moment, Piece, Pieces, Refusal, StepClock, Style, TemplateState,
     columns, pieces, width, wrapped,

@@ -16,8 +16,9 @@ pub use crate::machine::stderr_term::StderrTerm;
 pub use crate::machine::until_gone::UntilGone;
 use crate::shared::{MultiProgress, ProgressBar};
 use indicatif_bar::style::{NoTracker, ProgressStyle, TICKS, Tracks};
-use indicatif_term::draw_target::{DEFAULT_RATE, Facts, ProgressDrawTarget, Setup};
-use indicatif_term::term_like::{OwnRow, OwnRows, Term};
+use indicatif_term::target::{
+    DEFAULT_RATE, Facts, OwnRow, OwnRows, ProgressDrawTarget, Setup, Term,
+};
 use indicatif_text::columns::{Clock, Moment, Refusal};
 use std::env::{self, Env, VarError};
 use std::io::{BufWriter, IsTerminal, Stderr, Stdout, Write};

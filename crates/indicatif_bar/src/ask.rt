@@ -3,7 +3,7 @@ ghost use Rattle.std.specs.Prelude.{◌≡◌};
 ghost use Rattle.indicatif_bar.specs.Kinds.{asked_of};
 ghost use Rattle.indicatif_bar.specs.Machines.{is_no};
 
-use indicatif_term::draw_target::RateLimiter;
+use indicatif_term::target::RateLimiter;
 use indicatif_text::columns::Moment;
 
 /// Whether a command asks for a draw.

@@ -7,7 +7,7 @@ ghost use Rattle.indicatif_bar.specs.Bars.{lines_of_bar, lines_take_memory, is_b
 use crate::spare::SpareLines;
 use crate::state::BarState;
 use crate::tracker::Tracks;
-use indicatif_term::draw_target::LineType;
+use indicatif_term::target::LineType;
 use indicatif_text::columns::{Moment, Refusal};
 use std::alloc::Global;
 

@@ -1,7 +1,7 @@
 //! Memory for lines that was taken before.
 ghost use Rattle.std.specs.Prelude.{◌≡◌, [], string_bytes};
 
-use indicatif_term::draw_target::LineType;
+use indicatif_term::target::LineType;
 use std::alloc::Global;
 use std::marker::Model;
 use std::mem::replace;

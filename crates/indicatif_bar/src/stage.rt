@@ -5,8 +5,7 @@ ghost use Rattle.indicatif_term.specs.Limiters.{Limiter};
 ghost use Rattle.indicatif_term.specs.Lists.{Lists, opening_lists};
 ghost use Rattle.indicatif_term.specs.DrawTargets.{term_of, limiter_of};
 
-use indicatif_term::draw_target::{Engine, ProgressDrawTarget, RateLimiter};
-use indicatif_term::term_like::{Resize, TermLike};
+use indicatif_term::target::{Engine, ProgressDrawTarget, RateLimiter, Resize, TermLike};
 use indicatif_text::columns::Refusal;
 use std::alloc::Global;
 use std::mem::replace;

@@ -6,8 +6,8 @@ use Rattle.indicatif_text.specs.declared.refusal.Refusal.{Refusal}
 use Rattle.indicatif_term.specs.Calls.{TermView}
 use Rattle.indicatif_term.specs.Frames.{text_lines, logged_lines}
 use Rattle.indicatif_term.specs.Lists.{Lists, fate, kept_of, passed, is_first}
-use Rattle.indicatif_term.specs.declared.draw_target.Keep.{Keep}
-use Rattle.indicatif_term.specs.declared.draw_target.Keep.TheVariants.{Absent, Passed, Behind}
+use Rattle.indicatif_term.specs.declared.target.Keep.{Keep}
+use Rattle.indicatif_term.specs.declared.target.Keep.TheVariants.{Absent, Passed, Behind}
 use Rattle.indicatif_bar.specs.Machines.{Target, Deed}
 use Rattle.indicatif_bar.specs.Runs.{ReadsAfter}
 use Rattle.indicatif_bar.specs.Kinds.{Writing, Frame, TextAndFrame, NoFrame}

@@ -4,8 +4,8 @@ use Rattle.std.specs.Prelude.{◌^◌, not, ◌==◌}
 use Rattle.indicatif_text.specs.declared.refusal.Refusal.{Refusal}
 use Rattle.indicatif_term.specs.Lists.{fate}
 use Rattle.indicatif_term.specs.Limiters.{Limiter}
-use Rattle.indicatif_term.specs.declared.draw_target.Keep.{Keep}
-use Rattle.indicatif_term.specs.declared.draw_target.Keep.TheVariants.{Absent, Passed, Behind}
+use Rattle.indicatif_term.specs.declared.target.Keep.{Keep}
+use Rattle.indicatif_term.specs.declared.target.Keep.TheVariants.{Absent, Passed, Behind}
 use Rattle.indicatif_bar.specs.Machines.{Target, Draw, Deed, AtOnce, Draws}
 use Rattle.indicatif_bar.specs.Bounds.{AsksLimiter, DeedAsks, IsLimited}
 use Rattle.indicatif_bar.proofs.BoundLemmas.{allowed_without}

@@ -13,8 +13,8 @@ use Rattle.indicatif_term.specs.Calls.{TermView}
 use Rattle.indicatif_term.specs.Engines.{is_failure}
 use Rattle.indicatif_term.specs.Frames.{some_wide, text_lines, logged_lines}
 use Rattle.indicatif_term.specs.Lists.{Lists, BarLines, drawn, logged, cleared, passed, fate, kept_of, is_first, live_of_frame, live_height, lists_height, shown_rows}
-use Rattle.indicatif_term.specs.declared.draw_target.Keep.{Keep}
-use Rattle.indicatif_term.specs.declared.draw_target.Keep.TheVariants.{Absent, Passed, Behind}
+use Rattle.indicatif_term.specs.declared.target.Keep.{Keep}
+use Rattle.indicatif_term.specs.declared.target.Keep.TheVariants.{Absent, Passed, Behind}
 use Rattle.indicatif_bar.specs.Commands.{BarRecord, Command}
 use Rattle.indicatif_bar.specs.Machines.{Target, target_of, Machine, Draw, Deed, AtOnce, Draws, Leads, is_no, drawn_by, outcomes}
 use Rattle.indicatif_bar.specs.Kinds.{Writing, Frame, TextAndFrame, NoFrame, written_lists}

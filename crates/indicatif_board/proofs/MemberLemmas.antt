@@ -6,9 +6,9 @@ use Rattle.std.proofs.lemmas.Bool.{cases_Bool, eq-eqb, ne_eqb}
 use Rattle.indicatif_term.specs.Lists.{Lists, BarLines}
 use Rattle.indicatif_term.specs.Frames.{bar_lines}
 use Rattle.indicatif_term.specs.Limiters.{Limiter}
-use Rattle.indicatif_term.specs.declared.lines.Segment.{Segment}
+use Rattle.indicatif_term.specs.declared.engine.lines.Segment.{Segment}
 use Rattle.indicatif_term.specs.Frames.{line_text}
-use Rattle.indicatif_term.specs.declared.lines.LineType.{LineType}
+use Rattle.indicatif_term.specs.declared.engine.lines.LineType.{LineType}
 use Rattle.std.proofs.lemmas.Simd.{map-map}
 use Rattle.std.proofs.lemmas.List.{length-map}
 use Rattle.indicatif_bar.specs.Trackers.{Tracking}

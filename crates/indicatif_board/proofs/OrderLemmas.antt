@@ -8,8 +8,8 @@ use Rattle.indicatif_text.specs.declared.refusal.Refusal.TheVariants.{Memory}
 use Rattle.indicatif_term.specs.Frames.{text_lines, logged_lines}
 use Rattle.indicatif_term.specs.Limiters.{Limiter}
 use Rattle.indicatif_term.specs.Lists.{fate}
-use Rattle.indicatif_term.specs.declared.draw_target.Keep.{Keep}
-use Rattle.indicatif_term.specs.declared.draw_target.Keep.TheVariants.{Absent, Passed, Behind}
+use Rattle.indicatif_term.specs.declared.target.Keep.{Keep}
+use Rattle.indicatif_term.specs.declared.target.Keep.TheVariants.{Absent, Passed, Behind}
 use Rattle.indicatif_bar.specs.Machines.{Target, target_of, Deed, AtOnce, Leads}
 use Rattle.indicatif_bar.specs.Kinds.{Writing, Frame, TextAndFrame, NoFrame}
 use Rattle.indicatif_bar.specs.declared.ask.Ask.{Ask}

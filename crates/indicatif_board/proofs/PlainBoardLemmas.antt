@@ -8,8 +8,8 @@ use Rattle.indicatif_text.specs.declared.refusal.Refusal.{Refusal}
 use Rattle.indicatif_term.specs.Calls.{TermView}
 use Rattle.indicatif_term.specs.Frames.{are_plain, text_lines, logged_lines}
 use Rattle.indicatif_term.specs.Lists.{fate}
-use Rattle.indicatif_term.specs.declared.draw_target.Keep.{Keep}
-use Rattle.indicatif_term.specs.declared.draw_target.Keep.TheVariants.{Absent, Passed, Behind}
+use Rattle.indicatif_term.specs.declared.target.Keep.{Keep}
+use Rattle.indicatif_term.specs.declared.target.Keep.TheVariants.{Absent, Passed, Behind}
 use Rattle.indicatif_bar.specs.Machines.{Target, Deed, Draws}
 use Rattle.indicatif_bar.specs.Runs.{Runs, AllPlain, lines_by}
 use Rattle.indicatif_bar.specs.Kinds.{Writing, Frame, TextAndFrame, NoFrame}

@@ -18,7 +18,7 @@ use Rattle.indicatif_term.specs.Calls.{TermView}
 use Rattle.indicatif_term.specs.Engines.{engine_term, Answers, Fits, Paints, is_failure, lists_after}
 use Rattle.indicatif_term.specs.Lists.{Lists, BarLines, BarRows, lines_of, fitting, grouped, shown_rows, segments_height, live_height, blanks_for, live_of_frame, passed, settled, rested, drawn, logged}
 use Rattle.indicatif_term.specs.declared.engine.Engine.{Engine}
-use Rattle.indicatif_term.specs.declared.lines.Segment.{Segment}
+use Rattle.indicatif_term.specs.declared.engine.lines.Segment.{Segment}
 use Rattle.indicatif_bar.specs.Machines.{Target, target_of}
 use Rattle.indicatif_bar.specs.Kinds.{Writing, Frame, TextAndFrame, NoFrame, has_line, lines_to_write, rows_take, written_lists}
 use Rattle.indicatif_bar.specs.Shown.{PutsFrame}

@@ -7,7 +7,7 @@ ghost use Rattle.indicatif_board.specs.Multi.{LeadsBy, RecordsStay, IsNowhere, m
 
 use crate::multi::Board;
 use indicatif_bar::style::Tracks;
-use indicatif_term::term_like::TermLike;
+use indicatif_term::target::TermLike;
 use indicatif_text::columns::{Drawn, Moment, Refusal};
 use log::Level;
 use std::alloc::Global;

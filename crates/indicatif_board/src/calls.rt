@@ -8,7 +8,7 @@ ghost use Rattle.indicatif_board.specs.Inside.Calls.{bar_in, turned_back, remove
 use crate::bar_id::BarId;
 use indicatif_bar::state::{BarCommand, BarState};
 use indicatif_bar::style::Tracks;
-use indicatif_term::draw_target::MultiProgressAlignment;
+use indicatif_term::target::MultiProgressAlignment;
 use indicatif_text::columns::{Drawn, Refusal};
 
 /// What to insert.

@@ -9,8 +9,7 @@ ghost use Rattle.indicatif_board.specs.Inside.InWindow.{drawn_from};
 ghost use Rattle.indicatif_text.specs.declared.refusal.Refusal.{Refusal};
 
 use indicatif_bar::stage::Writing;
-use indicatif_term::draw_target::{Engine, MultiProgressAlignment, Segment};
-use indicatif_term::term_like::TermLike;
+use indicatif_term::target::{Engine, MultiProgressAlignment, Segment, TermLike};
 use indicatif_text::columns::Refusal;
 
 /// The width of the widest character. On a terminal with as many columns no line is too wide.

@@ -35,8 +35,9 @@ pub use crate::slots::MultiState;
 use indicatif_bar::stage::{Stage, Writing};
 use indicatif_bar::state::{Ask, BarCommand, BarState, Text};
 use indicatif_bar::style::Tracks;
-use indicatif_term::draw_target::{MultiProgressAlignment, ProgressDrawTarget, Segment};
-use indicatif_term::term_like::{Resize, TermLike};
+use indicatif_term::target::{
+    MultiProgressAlignment, ProgressDrawTarget, Resize, Segment, TermLike,
+};
 use indicatif_text::columns::{Drawn, Moment, Refusal};
 use std::alloc::Global;
 

@@ -15,7 +15,7 @@ use crate::members::{Seated, queue_at, take_at};
 use crate::slots::MultiState;
 use indicatif_bar::state::{BarState, SpareLines};
 use indicatif_bar::style::Tracks;
-use indicatif_term::draw_target::{LineType, MultiProgressAlignment, Segment};
+use indicatif_term::target::{LineType, MultiProgressAlignment, Segment};
 use indicatif_text::columns::{Moment, Refusal};
 use std::alloc::Global;
 use std::collections::VecDeque;

@@ -11,16 +11,16 @@ use Rattle.indicatif_term.specs.Shows.{look, looks_of}
 use Rattle.indicatif_term.specs.Inside.Changes.{placed_height, Becomes, Ends, Sits, AreSitting}
 use Rattle.indicatif_term.specs.Inside.Edits.{AreSingle}
 use Rattle.indicatif_term.specs.Inside.Parting.{change_of, waits_of, whole_or_left, IsReady}
-use Rattle.indicatif_term.specs.declared.parting.Step.{Step}
+use Rattle.indicatif_term.specs.declared.engine.parting.Step.{Step}
 use Rattle.indicatif_term.specs.Standing.{placed_of, placed, texts, standing_rows, IsLine, AreLines, AreReady}
 use Rattle.indicatif_term.specs.Inside.Places.{IsAt, IsThere, AreNoted}
 use Rattle.indicatif_term.specs.Inside.Layouts.{IsSized, IsLike, AreLike, HasLines}
 use Rattle.indicatif_term.specs.Frames.{line_text}
-use Rattle.indicatif_term.specs.declared.lines.LineType.{LineType}
-use Rattle.indicatif_term.specs.declared.layout.Plan.{Plan}
-use Rattle.indicatif_term.specs.declared.remembered.StandingLine.{StandingLine}
-use Rattle.indicatif_term.specs.declared.beside.Place.{Place}
-use Rattle.indicatif_term.specs.declared.beside.SizedLine.{SizedLine}
+use Rattle.indicatif_term.specs.declared.engine.lines.LineType.{LineType}
+use Rattle.indicatif_term.specs.declared.engine.layout.Plan.{Plan}
+use Rattle.indicatif_term.specs.declared.engine.remembered.StandingLine.{StandingLine}
+use Rattle.indicatif_term.specs.declared.engine.beside.Place.{Place}
+use Rattle.indicatif_term.specs.declared.engine.beside.SizedLine.{SizedLine}
 use Rattle.indicatif_term.proofs.MeasureLemmas.{empty_narrow}
 use Rattle.indicatif_term.proofs.LineEndLemmas.{one_row, nothing_ends_at}
 use Rattle.indicatif_term.proofs.RememberedLemmas.{drop_more, there_at}

@@ -12,7 +12,7 @@ use Rattle.indicatif_term.specs.Calls.{Told, State, Bytes, Nothing, is_told, led
 use Rattle.std.specs.Prelude.{not, ◌&&◌, ◌==◌}
 use Rattle.std.proofs.Common.{replicate}
 use Rattle.indicatif_term.specs.Inside.Bytes.{paint_bytes, painting_bytes, drawing_lines, lines_bytes, next_row, rows_down, reach_bytes, back_bytes}
-use Rattle.indicatif_term.specs.declared.painting.Painting.{Painting}
+use Rattle.indicatif_term.specs.declared.engine.painting.Painting.{Painting}
 
 pub led_on-append : (told : Told) (a b : List ℕ) → led_on (led_on told a) b ≡ led_on told (a ++ b)
 led_on-append (State t) a b = ap State (sym (after-append t a b))

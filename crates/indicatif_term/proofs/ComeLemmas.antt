@@ -7,8 +7,8 @@ use Rattle.indicatif_term.specs.Inside.Inks.{NONE, Inked, characters, padded}
 use Rattle.indicatif_term.specs.Inside.Edits.{Edit, Turns, IsNarrowChar, edit_columns, plan}
 use Rattle.indicatif_term.specs.Inside.Changes.{Becomes, Ends, Within}
 use Rattle.indicatif_term.specs.Inside.Parting.{Parted, HasPart, IsTurned, tail, cells_at, part_edits}
-use Rattle.indicatif_term.specs.declared.parting.Part.{Part}
-use Rattle.indicatif_term.specs.declared.parting.Step.TheVariants as steps
+use Rattle.indicatif_term.specs.declared.engine.parting.Part.{Part}
+use Rattle.indicatif_term.specs.declared.engine.parting.Step.TheVariants as steps
 use Rattle.indicatif_term.proofs.InkLemmas.{IsInked, read_characters, read_length, read_colours, padded_length}
 use Rattle.indicatif_term.proofs.EditPlanLemmas.{CanBeWritten, lines_turn, plan_columns, plan_gap}
 use Rattle.indicatif_term.specs.Shows.{looks_of}

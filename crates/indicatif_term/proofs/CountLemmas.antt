@@ -7,9 +7,9 @@ use Rattle.std.proofs.lemmas.List.{length-replicate, take-append-drop, take-map}
 use Rattle.std.proofs.lemmas.List.Concat.{length-flat_map}
 use Rattle.std.proofs.lemmas.List.Sums.{sum_by-take-drop, sum_by-cons}
 use Rattle.indicatif_text.specs.Columns.{blank_row, rows_of}
-use Rattle.indicatif_term.specs.declared.layout.RowCount.{RowCount}
-use Rattle.indicatif_term.specs.declared.layout.Plan.{Plan}
-use Rattle.indicatif_term.specs.declared.counts.Counts.{Counts}
+use Rattle.indicatif_term.specs.declared.engine.layout.RowCount.{RowCount}
+use Rattle.indicatif_term.specs.declared.engine.layout.Plan.{Plan}
+use Rattle.indicatif_term.specs.declared.engine.counts.Counts.{Counts}
 use Rattle.indicatif_term.specs.Counts.{CountsOf, row_count}
 use Rattle.indicatif_term.specs.Inside.Counted.{SettledCounts}
 use Rattle.indicatif_term.specs.Inside.Plans.{IsPlan, text_height}

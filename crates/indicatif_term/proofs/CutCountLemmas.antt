@@ -10,8 +10,8 @@ use Rattle.indicatif_term.specs.Counts.{CountsOf, row_count}
 use Rattle.indicatif_term.specs.Lists.{Lists, BarRows, live_rows, live_height, lists_height, segments_height}
 use Rattle.indicatif_term.specs.Resizes.{recut, recut_all, recut_bar, recut_lists, segments_after, settled_whole}
 use Rattle.indicatif_term.specs.Inside.Recutting.{row_heights, end_row, cut_counts, counts_after, IsSettledWhole}
-use Rattle.indicatif_term.specs.declared.counts.Counts.{Counts}
-use Rattle.indicatif_term.specs.declared.layout.RowCount.{RowCount}
+use Rattle.indicatif_term.specs.declared.engine.counts.Counts.{Counts}
+use Rattle.indicatif_term.specs.declared.engine.layout.RowCount.{RowCount}
 use Rattle.indicatif_term.proofs.CountLemmas.{length-flat, length-live, live_of}
 use Rattle.indicatif_term.proofs.ResizeLemmas.{segments_recut, passing, passing-height}
 

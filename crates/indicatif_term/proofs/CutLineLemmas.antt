@@ -9,8 +9,8 @@ use Rattle.indicatif_term.specs.Resizes.{has_place, recut, recut_all}
 use Rattle.indicatif_term.specs.Standing.{texts, standing_rows, AreLines}
 use Rattle.indicatif_term.specs.Inside.Edits.{AreSingle}
 use Rattle.indicatif_term.specs.Inside.Recutting.{piece_text, without_spaces, fitting_count, new_pieces, cut_pieces, cut_line, cut_lines, LineShown, shown_lines, row_line, HasMore}
-use Rattle.indicatif_term.specs.declared.remembered.StandingLine.{StandingLine}
-use Rattle.indicatif_term.specs.declared.recutting.CutLines.{CutLines}
+use Rattle.indicatif_term.specs.declared.engine.remembered.StandingLine.{StandingLine}
+use Rattle.indicatif_term.specs.declared.engine.recutting.CutLines.{CutLines}
 use Rattle.indicatif_term.proofs.CutPieceLemmas.{more_pieces, more_some, first_piece, all_filtered, all_unspaced, all_in_pieces, IsNarrow, narrow_pieces, only_piece, all_placed, placed_taken, placed_dropped}
 use Rattle.indicatif_term.proofs.CutTextLemmas.{IsRead, glyphs_read, piece_glyphs, piece_narrow, row_glyphs}
 

@@ -19,7 +19,7 @@ use Rattle.indicatif_term.specs.Shows.{resting}
 use Rattle.indicatif_term.specs.Modes.{ModeTerminal, mode_after, performed_with, is_own, HasNoOwn}
 use Rattle.indicatif_term.specs.Inside.Reading.{reader_after, all_with}
 use Rattle.indicatif_term.specs.Inside.Ending.{StayAlong, Held, Within, WithinTo, WithinIf, Carries, Falls, at_column, next_front, rows_moved, front_emptied, all_put, AreShown}
-use Rattle.indicatif_term.specs.declared.ended_rows.EndedRows.{EndedRows}
+use Rattle.indicatif_term.specs.declared.target.ended_rows.EndedRows.{EndedRows}
 use Rattle.indicatif_term.proofs.ReaderLemmas.{Spells, char_read, chars_read, char_list_ops, place_after}
 use Rattle.indicatif_term.proofs.TextLemmas.{not_control, AsksToPut, reads, IsPut, is_put}
 use Rattle.indicatif_term.proofs.CallLemmas.{Asks, asks_chars, end_asks, clear_asks, up_asks, after_asks}

@@ -16,9 +16,9 @@ use Rattle.indicatif_term.specs.Modes.{ModeTerminal, mode_resting, step_by, mode
 use Rattle.indicatif_term.specs.OwnRows.{new_rows, as_written}
 use Rattle.indicatif_term.specs.EndedRows.{screen_after, BeginBelow, HasCursor, Together, Draws, RowsDraw, RowsTogether, BeginOn, RowsStand}
 use Rattle.indicatif_term.specs.Inside.Ending.{StayAlong, all_put}
-use Rattle.indicatif_term.specs.declared.ended_rows.EndedRows.{EndedRows}
-use Rattle.indicatif_term.specs.declared.own_rows.Rows.{Rows}
-use Rattle.indicatif_term.specs.declared.own_rows.Rows.TheVariants.{Left, Ended}
+use Rattle.indicatif_term.specs.declared.target.ended_rows.EndedRows.{EndedRows}
+use Rattle.indicatif_term.specs.declared.target.own_rows.Rows.{Rows}
+use Rattle.indicatif_term.specs.declared.target.own_rows.Rows.TheVariants.{Left, Ended}
 use Rattle.indicatif_term.proofs.CursorRowLemmas.{IsBelow}
 use Rattle.indicatif_term.proofs.RowsAboveLemmas.{IsLevel, stays_done, stays_with_row, puts_only}
 use Rattle.indicatif_term.proofs.CallLemmas.{after_asks, up_asks}

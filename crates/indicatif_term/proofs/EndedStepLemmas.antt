@@ -15,11 +15,11 @@ use Rattle.indicatif_term.specs.Modes.{ModeTerminal, mode_resting, mode_after, p
 use Rattle.indicatif_term.specs.Inside.Reading.{all_with}
 use Rattle.indicatif_term.specs.EndedRows.{is_between, SameRows}
 use Rattle.indicatif_term.specs.Inside.Ending.{StayAlong, Meets, Held, Within, at_column, next_front, front_emptied, with_room, all_put, AreShown, WithinRoom, Falls, moved_place, opening_bytes, closing_bytes}
-use Rattle.indicatif_term.specs.declared.ended_rows.EndedRows.{EndedRows}
-use Rattle.indicatif_term.specs.declared.ended_rows.Place.{Place}
-use Rattle.indicatif_term.specs.declared.ended_rows.Place.TheVariants.{Drawing, Edge, Resting, Waiting}
-use Rattle.indicatif_term.specs.declared.ended_rows.Shown.{Shown}
-use Rattle.indicatif_term.specs.declared.ended_rows.Shown.TheVariants.{AtOnce, AsWritten}
+use Rattle.indicatif_term.specs.declared.target.ended_rows.EndedRows.{EndedRows}
+use Rattle.indicatif_term.specs.declared.target.ended_rows.Place.{Place}
+use Rattle.indicatif_term.specs.declared.target.ended_rows.Place.TheVariants.{Drawing, Edge, Resting, Waiting}
+use Rattle.indicatif_term.specs.declared.target.ended_rows.Shown.{Shown}
+use Rattle.indicatif_term.specs.declared.target.ended_rows.Shown.TheVariants.{AtOnce, AsWritten}
 use Rattle.indicatif_term.proofs.CallLemmas.{Asks}
 use Rattle.indicatif_term.proofs.RowsAboveLemmas.{IsLevel}
 use Rattle.indicatif_term.proofs.ModeLemmas.{asked_with, level_along, level_row, private_after, private_stays}

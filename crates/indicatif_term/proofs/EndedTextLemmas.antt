@@ -23,7 +23,7 @@ use Rattle.indicatif_term.specs.Shows.{resting}
 use Rattle.indicatif_term.specs.Modes.{ModeTerminal, mode_after}
 use Rattle.indicatif_term.specs.EndedRows.{Together, Draws}
 use Rattle.indicatif_term.specs.Inside.Ending.{Meets, Within, WithinIf, WithinRoom, Carries, Falls, at_column, next_front, front_emptied, all_put, AreShown, right_column}
-use Rattle.indicatif_term.specs.declared.ended_rows.EndedRows.{EndedRows}
+use Rattle.indicatif_term.specs.declared.target.ended_rows.EndedRows.{EndedRows}
 use Rattle.indicatif_term.proofs.FeedLemmas.{performed_all-append, after-append}
 use Rattle.indicatif_term.proofs.TextLemmas.{AsksToPut, reads}
 use Rattle.indicatif_term.proofs.CallLemmas.{Asks, asks_chars, after_asks, end_asks, row_cleared}

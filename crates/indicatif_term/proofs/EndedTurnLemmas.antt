@@ -14,10 +14,10 @@ use Rattle.indicatif_term.specs.Inside.Reading.{all_with}
 use Rattle.indicatif_term.specs.OwnRows.{first_place}
 use Rattle.indicatif_term.specs.EndedRows.{is_between, SameRows, Together}
 use Rattle.indicatif_term.specs.Inside.Ending.{StayAlong, Meets, Held, Within, Between, Ended, Falls, unfailed, drawn_place, opening_bytes, closing_bytes}
-use Rattle.indicatif_term.specs.declared.ended_rows.EndedRows.{EndedRows}
-use Rattle.indicatif_term.specs.declared.ended_rows.Place.{Place}
-use Rattle.indicatif_term.specs.declared.ended_rows.Place.TheVariants.{Drawing, Edge, Resting, Waiting}
-use Rattle.indicatif_term.specs.declared.ended_rows.Shown.{Shown}
+use Rattle.indicatif_term.specs.declared.target.ended_rows.EndedRows.{EndedRows}
+use Rattle.indicatif_term.specs.declared.target.ended_rows.Place.{Place}
+use Rattle.indicatif_term.specs.declared.target.ended_rows.Place.TheVariants.{Drawing, Edge, Resting, Waiting}
+use Rattle.indicatif_term.specs.declared.target.ended_rows.Shown.{Shown}
 use Rattle.indicatif_term.proofs.MoveLemmas.{right_asks, return_asks, spaces_ask}
 use Rattle.indicatif_term.proofs.ModeLemmas.{end_after, end_stays}
 use Rattle.indicatif_term.proofs.EndedRowLemmas.{sends, stands, from_weaker, to_weaker, then_falls}

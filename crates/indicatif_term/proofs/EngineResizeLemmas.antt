@@ -14,9 +14,9 @@ use Rattle.indicatif_term.specs.Resizes.{recut, recut_all, recut_lists, settled_
 use Rattle.indicatif_term.specs.Inside.Recutting.{row_heights, IsShownCut, HasMore, cut_lines, shown_lines}
 use Rattle.indicatif_term.specs.Engines.{Fits}
 use Rattle.indicatif_term.specs.declared.engine.Engine.{Engine}
-use Rattle.indicatif_term.specs.declared.counts.Counts.{Counts}
-use Rattle.indicatif_term.specs.declared.remembered.Remembered.{Remembered}
-use Rattle.indicatif_term.specs.declared.recutting.CutLines.{CutLines}
+use Rattle.indicatif_term.specs.declared.engine.counts.Counts.{Counts}
+use Rattle.indicatif_term.specs.declared.engine.remembered.Remembered.{Remembered}
+use Rattle.indicatif_term.specs.declared.engine.recutting.CutLines.{CutLines}
 use Rattle.indicatif_term.proofs.CountLemmas.{length-live, live_of}
 use Rattle.indicatif_term.proofs.CutLineLemmas.{cut_rows, cut_right, cut_heights, lines_of_pieces}
 use Rattle.indicatif_term.proofs.RememberedLemmas.{whole_shown, remembered_by}

@@ -11,8 +11,8 @@ use Rattle.indicatif_term.specs.Lists.{Lists, lists_height, live_height, all_row
 use Rattle.indicatif_term.specs.Counts.{CountsOf}
 use Rattle.indicatif_term.specs.Inside.Bytes.{paint_bytes, reach_bytes}
 use Rattle.indicatif_term.specs.Inside.Reached.{IsFresh, IsAtop}
-use Rattle.indicatif_term.specs.declared.counts.Counts.{Counts}
-use Rattle.indicatif_term.specs.declared.counts.Fresh.{Fresh}
+use Rattle.indicatif_term.specs.declared.engine.counts.Counts.{Counts}
+use Rattle.indicatif_term.specs.declared.engine.counts.Fresh.{Fresh}
 use Rattle.indicatif_term.proofs.FeedLemmas.{after-append}
 use Rattle.indicatif_term.proofs.CursorRowLemmas.{Stands}
 use Rattle.indicatif_term.proofs.RowsAboveLemmas.{Keeps, both_keep}

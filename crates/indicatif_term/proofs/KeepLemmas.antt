@@ -4,12 +4,12 @@ use Rattle.std.specs.Prelude.{◌==◌, ◌||◌}
 use Rattle.std.specs.List.{list_any}
 use Rattle.std.proofs.lemmas.Bool.{ne_eqb, eq-eqb}
 use Rattle.std.proofs.lemmas.List.{drop-drop, get_or-drop, length-drop, length-map}
-use Rattle.indicatif_term.specs.declared.layout.RowCount.{RowCount}
-use Rattle.indicatif_term.specs.declared.counts.Counts.{Counts}
-use Rattle.indicatif_term.specs.declared.counts.Keep.{Keep}
+use Rattle.indicatif_term.specs.declared.engine.layout.RowCount.{RowCount}
+use Rattle.indicatif_term.specs.declared.engine.counts.Counts.{Counts}
+use Rattle.indicatif_term.specs.declared.engine.counts.Keep.{Keep}
 use Rattle.indicatif_term.specs.Counts.{CountsOf, row_count}
 use Rattle.indicatif_term.specs.Lists.{Lists, BarRows, fate, kept_of, is_first, has_rows, segments_height, live_rows}
-use Rattle.indicatif_term.specs.declared.counts.Keep.TheVariants.{Absent, Passed, Behind}
+use Rattle.indicatif_term.specs.declared.engine.counts.Keep.TheVariants.{Absent, Passed, Behind}
 use Rattle.indicatif_term.proofs.CountLemmas.{drop-held, length-live}
 
 held_rows : (bar : ℕ) (segments : List BarRows) → list_any (λ (s : RowCount). s.bar == bar) (map row_count segments) ≡ has_rows bar segments

@@ -15,10 +15,10 @@ use Rattle.indicatif_term.specs.Lists.{BarRows, BarLines, segments_height, shown
 use Rattle.indicatif_term.specs.Frames.{bar_lines, all_lines, some_wide, line_text}
 use Rattle.indicatif_term.specs.Counts.{row_count}
 use Rattle.indicatif_term.specs.Inside.Plans.{IsLaidOut, IsSummed, IsPlaced, IsPlan, IsWithheld}
-use Rattle.indicatif_term.specs.declared.layout.RowCount.{RowCount}
-use Rattle.indicatif_term.specs.declared.layout.Plan.{Plan}
-use Rattle.indicatif_term.specs.declared.lines.Segment.{Segment}
-use Rattle.indicatif_term.specs.declared.lines.LineType.{LineType}
+use Rattle.indicatif_term.specs.declared.engine.layout.RowCount.{RowCount}
+use Rattle.indicatif_term.specs.declared.engine.layout.Plan.{Plan}
+use Rattle.indicatif_term.specs.declared.engine.lines.Segment.{Segment}
+use Rattle.indicatif_term.specs.declared.engine.lines.LineType.{LineType}
 use Rattle.indicatif_text.specs.declared.refusal.Refusal.{Refusal}
 use Rattle.indicatif_term.proofs.ShownRowLemmas.{line_segments, grouped_rows}
 use Rattle.indicatif_term.proofs.MeasureLemmas.{one_of, withheld_by}

@@ -13,10 +13,10 @@ use Rattle.indicatif_term.proofs.ShownRowLemmas.{frame_lines_le}
 use Rattle.indicatif_term.specs.Inside.Plans.{frame_lines, IsPlan, MeasuredLine, MeasuredText}
 use Rattle.indicatif_term.proofs.MeasureLemmas.{empty_height, empty_narrow}
 use Rattle.indicatif_term.specs.Inside.Fills.{PlanEndsAt, last_of, line_end, member_ends, frame_ends, fill_columns, line_or_none, last_or_none}
-use Rattle.indicatif_term.specs.declared.lines.Segment.{Segment}
-use Rattle.indicatif_term.specs.declared.lines.LineType.{LineType}
-use Rattle.indicatif_term.specs.declared.layout.Plan.{Plan}
-use Rattle.indicatif_term.specs.declared.layout.RowCount.{RowCount}
+use Rattle.indicatif_term.specs.declared.engine.lines.Segment.{Segment}
+use Rattle.indicatif_term.specs.declared.engine.lines.LineType.{LineType}
+use Rattle.indicatif_term.specs.declared.engine.layout.Plan.{Plan}
+use Rattle.indicatif_term.specs.declared.engine.layout.RowCount.{RowCount}
 use Rattle.indicatif_term.proofs.LastLineLemmas.{last_push, last_append, some_last, fill_bytes, spaces_behind}
 
 pub nothing_ends : (v : Vec RowCount Global) → let p : Plan = record { segments = v; rows = 0; lines = 0; last = None; full = false; passing = 0 } in PlanEndsAt [] p

@@ -3,7 +3,7 @@ use Rattle.std.proofs.Common.{◌≡◌, ℕ, suc, ◌+◌, ◌-◌, ◌<◌, �
 use Rattle.std.specs.Prelude.{◌==◌, nat_lt}
 use Rattle.std.proofs.lemmas.List.{reverse-append, length-reverse, take-append-drop, take_more, length-take-le}
 use Rattle.std.proofs.lemmas.Bool.{ne_eqb, eq-eqb}
-use Rattle.indicatif_term.specs.declared.in_memory.marks.CombiningMark.{CombiningMark}
+use Rattle.indicatif_term.specs.declared.cells.marks.CombiningMark.{CombiningMark}
 use Rattle.indicatif_term.specs.Inside.Marks.{chain}
 use Rattle.indicatif_text.specs.Columns.{Cell, Written}
 use Rattle.indicatif_term.specs.Pictures.{is_empty}

@@ -6,10 +6,10 @@ use Rattle.std.proofs.lemmas.List.{take_more, take-append-drop, take_min, take-m
 use Rattle.std.specs.declared.io.Error.{Error}
 use Rattle.indicatif_term.specs.Calls.{TermView}
 use Rattle.indicatif_term.specs.Inside.Pens.{Puts}
-use Rattle.indicatif_term.specs.declared.painting.Pen.{Pen}
+use Rattle.indicatif_term.specs.declared.engine.painting.Pen.{Pen}
 use Rattle.indicatif_term.specs.Frames.{line_text}
 use Rattle.indicatif_term.specs.Inside.Plans.{frame_lines}
-use Rattle.indicatif_term.specs.declared.lines.Segment.{Segment}
+use Rattle.indicatif_term.specs.declared.engine.lines.Segment.{Segment}
 use Rattle.indicatif_term.proofs.PenLemmas.{ArePut, puts_then, puts_fail}
 
 abbrev pub member_lines : Segment → List (List ℕ)

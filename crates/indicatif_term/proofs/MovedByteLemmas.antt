@@ -10,7 +10,7 @@ use Rattle.indicatif_text.proofs.WrappingLemmas.{past, chars_none}
 use Rattle.indicatif_term.specs.Calls.{TermView, LeadsOn, BreaksOff}
 use Rattle.indicatif_term.specs.Inside.Moves.{filled_bytes, run_bytes, IsEven, AreEven}
 use Rattle.indicatif_term.specs.Standing.{placed_of, placed}
-use Rattle.indicatif_term.specs.declared.remembered.StandingLine.{StandingLine}
+use Rattle.indicatif_term.specs.declared.engine.remembered.StandingLine.{StandingLine}
 use Rattle.indicatif_term.proofs.CallTurnLemmas.{breaks_then, breaks_early}
 use Rattle.indicatif_term.proofs.BesideLemmas.{all_append}
 

@@ -8,7 +8,7 @@ use Rattle.std.proofs.lemmas.List.{take_more, take-append-drop}
 use Rattle.indicatif_term.specs.Calls.{TermView, Writes, BreaksOff}
 use Rattle.indicatif_term.specs.Inside.Bytes.{lines_bytes}
 use Rattle.indicatif_term.specs.Inside.Pens.{Pens, Puts}
-use Rattle.indicatif_term.specs.declared.painting.Pen.{Pen}
+use Rattle.indicatif_term.specs.declared.engine.painting.Pen.{Pen}
 use Rattle.indicatif_term.proofs.CallTurnLemmas.{reaches_none, reaches_then, breaks_then, breaks_early, writes_fail, lines-append, or_lt_sum}
 
 abbrev pub ok : Unit {0} → Result (Unit {0}) Error

@@ -15,12 +15,12 @@ use Rattle.indicatif_term.specs.Remembered.{AreRemembered, AreStanding, kept_lin
 use Rattle.indicatif_term.specs.Inside.Remembering.{StandAbove, IsMarked}
 use Rattle.indicatif_term.proofs.ShownRowLemmas.{lines_rows}
 use Rattle.indicatif_term.specs.Lists.{Lists, all_rows, live_rows, live_height, passed, kept_of, is_first}
-use Rattle.indicatif_term.specs.declared.remembered.Remembered.{Remembered}
+use Rattle.indicatif_term.specs.declared.engine.remembered.Remembered.{Remembered}
 use Rattle.indicatif_term.proofs.CountLemmas.{passed-rows, length-live}
 use Rattle.indicatif_term.specs.Inside.Places.{IsAt, IsThere, IsWithin}
-use Rattle.indicatif_term.specs.declared.remembered.StandingLine.{StandingLine}
-use Rattle.indicatif_term.specs.declared.beside.Place.{Place}
-use Rattle.indicatif_term.specs.declared.beside.Room.{Room}
+use Rattle.indicatif_term.specs.declared.engine.remembered.StandingLine.{StandingLine}
+use Rattle.indicatif_term.specs.declared.engine.beside.Place.{Place}
+use Rattle.indicatif_term.specs.declared.engine.beside.Room.{Room}
 use Rattle.indicatif_term.proofs.EditWalkLemmas.{height-append}
 
 -- ---- one more of some lines

@@ -16,18 +16,18 @@ use Rattle.indicatif_term.specs.Inside.Remembering.{StandAbove}
 use Rattle.indicatif_term.specs.Inside.Plans.{IsLaidOut, frame_lines}
 use Rattle.indicatif_term.specs.Inside.Edits.{AreSingle}
 use Rattle.indicatif_term.specs.Inside.Parting.{IsTurned, IsReady, change_of, waits_of}
-use Rattle.indicatif_term.specs.declared.parting.Step.TheVariants.{Leave}
+use Rattle.indicatif_term.specs.declared.engine.parting.Step.TheVariants.{Leave}
 use Rattle.indicatif_term.specs.Inside.Changes.{PlacedLine, placed_height, Becomes, Ends, AreSitting, all_stay, change_bytes}
 use Rattle.indicatif_term.specs.Inside.Places.{IsWithin}
 use Rattle.indicatif_term.specs.Inside.Renewed.{IsNew, ComesIn, heights, FitsIn, AreFitting, AreFittingFrom, renewed, AreInPlace, IsOver, AreOver, Renews, AreCompared, IsSettled, IsRenewed}
-use Rattle.indicatif_term.specs.declared.beside.Room.{Room}
-use Rattle.indicatif_term.specs.declared.counts.Counts.{Counts}
-use Rattle.indicatif_term.specs.declared.layout.Plan.{Plan}
-use Rattle.indicatif_term.specs.declared.layout.RowCount.{RowCount}
-use Rattle.indicatif_term.specs.declared.lines.Segment.{Segment}
-use Rattle.indicatif_term.specs.declared.remembered.Remembered.{Remembered}
-use Rattle.indicatif_term.specs.declared.remembered.StandingLine.{StandingLine}
-use Rattle.indicatif_term.specs.declared.renewed.NewLine.{NewLine}
+use Rattle.indicatif_term.specs.declared.engine.beside.Room.{Room}
+use Rattle.indicatif_term.specs.declared.engine.counts.Counts.{Counts}
+use Rattle.indicatif_term.specs.declared.engine.layout.Plan.{Plan}
+use Rattle.indicatif_term.specs.declared.engine.layout.RowCount.{RowCount}
+use Rattle.indicatif_term.specs.declared.engine.lines.Segment.{Segment}
+use Rattle.indicatif_term.specs.declared.engine.remembered.Remembered.{Remembered}
+use Rattle.indicatif_term.specs.declared.engine.remembered.StandingLine.{StandingLine}
+use Rattle.indicatif_term.specs.declared.engine.renewed.NewLine.{NewLine}
 use Rattle.indicatif_term.proofs.ShownRowLemmas.{rows_in, lines_rows, frame_rows}
 use Rattle.indicatif_term.proofs.CountLemmas.{segments_height-map, length-flat, live_of}
 use Rattle.indicatif_term.proofs.TerminalStepLemmas.{rows_some}

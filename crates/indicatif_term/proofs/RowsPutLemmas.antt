@@ -12,7 +12,7 @@ use Rattle.indicatif_text.proofs.WrappingLemmas.{pieces_some}
 use Rattle.indicatif_term.specs.Screen.{Screen, cursor_row, blank_screen, top}
 use Rattle.indicatif_term.specs.Resizes.{has_place, glyphs_in, recut, recut_all, used_rows, lasting_rows, row_then, column_then, recut_screen}
 use Rattle.indicatif_term.specs.Inside.Resizing.{LastingPut, marks_joined, glyph_put, row_put, next_row, rows_ended, rows_begun}
-use Rattle.indicatif_term.specs.declared.in_memory.grid.resizing.CursorRows.{CursorRows}
+use Rattle.indicatif_term.specs.declared.cells.grid.resizing.CursorRows.{CursorRows}
 use Rattle.indicatif_term.proofs.CursorRowLemmas.{screen_at, screen_after}
 use Rattle.indicatif_term.proofs.ScreenRowLemmas.{made}
 use Rattle.indicatif_term.proofs.GlyphLemmas.{piece_at, no_piece, IsPiece, is_piece_push, put_base, put_base_next, marks_at, screen_with, with_one, with_more}

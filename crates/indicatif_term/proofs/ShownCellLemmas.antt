@@ -7,7 +7,7 @@ use Rattle.std.proofs.Math.ListN.{get_or-map}
 use Rattle.indicatif_text.specs.Columns.{Cell, Blank, Written, Continued, blank_row}
 use Rattle.indicatif_term.specs.Screen.{is_continued, emptied_front, emptied_glyph, cut_before, written_at, joined_at}
 use Rattle.indicatif_term.specs.Pictures.{is_written, trimmed}
-use Rattle.indicatif_term.specs.declared.in_memory.marks.CombiningMark.{CombiningMark}
+use Rattle.indicatif_term.specs.declared.cells.marks.CombiningMark.{CombiningMark}
 use Rattle.indicatif_term.specs.Inside.Rows.{cell_shown, whole_row, character_cells, LeavesMarks, JoinsMark, with_mark_at}
 use Rattle.indicatif_term.specs.Inside.Runs.{narrow_cells}
 use Rattle.indicatif_term.proofs.RowEditLemmas.{join_last}

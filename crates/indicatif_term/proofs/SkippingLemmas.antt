@@ -12,14 +12,14 @@ use Rattle.indicatif_term.specs.Counts.{CountsOf}
 use Rattle.indicatif_term.specs.Inside.Plans.{frame_lines, IsPlan, text_height}
 use Rattle.indicatif_term.specs.Inside.Changes.{PlacedLine, placed_height, placed_lines, AreSitting, change_bytes}
 use Rattle.indicatif_term.specs.Inside.Places.{IsWithin}
-use Rattle.indicatif_term.specs.declared.beside.Room.{Room}
+use Rattle.indicatif_term.specs.declared.engine.beside.Room.{Room}
 use Rattle.indicatif_term.specs.Standing.{placed_of, placed, texts, standing_rows, AreLines}
 use Rattle.indicatif_term.specs.Remembered.{AreRemembered, AreStanding, live_lines, Suits}
-use Rattle.indicatif_term.specs.declared.remembered.StandingLine.{StandingLine}
-use Rattle.indicatif_term.specs.declared.remembered.Remembered.{Remembered}
-use Rattle.indicatif_term.specs.declared.counts.Counts.{Counts}
-use Rattle.indicatif_term.specs.declared.layout.Plan.{Plan}
-use Rattle.indicatif_term.specs.declared.lines.Segment.{Segment}
+use Rattle.indicatif_term.specs.declared.engine.remembered.StandingLine.{StandingLine}
+use Rattle.indicatif_term.specs.declared.engine.remembered.Remembered.{Remembered}
+use Rattle.indicatif_term.specs.declared.engine.counts.Counts.{Counts}
+use Rattle.indicatif_term.specs.declared.engine.layout.Plan.{Plan}
+use Rattle.indicatif_term.specs.declared.engine.lines.Segment.{Segment}
 use Rattle.std.proofs.Common.{Result, Ok, Err, Option, Some}
 use Rattle.std.proofs.Math.Logic.{∥∥₁_map}
 use Rattle.indicatif_text.specs.declared.refusal.Refusal.TheVariants.{Memory}

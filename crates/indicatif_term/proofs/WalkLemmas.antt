@@ -10,7 +10,7 @@ use Rattle.indicatif_term.specs.Inside.LastChar.{ends_plainly, last_byte}
 use Rattle.std.proofs.Math.Utf8.{encode}
 use Rattle.indicatif_term.proofs.LastCharLemmas.{last_is}
 use Rattle.indicatif_term.specs.Standing.{placed_of, placed}
-use Rattle.indicatif_term.specs.declared.remembered.StandingLine.{StandingLine}
+use Rattle.indicatif_term.specs.declared.engine.remembered.StandingLine.{StandingLine}
 use Rattle.indicatif_term.proofs.CallTurnLemmas.{breaks_then, breaks_early}
 use Rattle.indicatif_term.proofs.RememberedLemmas.{height_push}
 use Rattle.indicatif_term.proofs.EditWalkLemmas.{height-append, walk-append, down-append}

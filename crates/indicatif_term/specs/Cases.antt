@@ -2,7 +2,7 @@
 use Rattle.std.specs.Prelude.{◌≡◌, ℕ, true, false, List, [], ◌∷◌, ◌++◌, drop, flat_map, codes}
 use Rattle.indicatif_text.specs.Columns.{Cell, rows_of}
 use Rattle.indicatif_term.specs.Lists.{BarLines, opening_lists, all_rows, drawn, logged, cleared, kept_of, fate}
-use Rattle.indicatif_term.specs.declared.counts.Keep.TheVariants.{Absent, Passed, Behind}
+use Rattle.indicatif_term.specs.declared.engine.counts.Keep.TheVariants.{Absent, Passed, Behind}
 use Rattle.indicatif_term.specs.Calls.{line_bytes, clear_bytes}
 use Rattle.indicatif_term.specs.Terminal.{Terminal, after, blank_terminal}
 use Rattle.indicatif_term.specs.Pictures.{contents_text, picture_text}

@@ -1,8 +1,8 @@
 -- Lists of rows as an engine counts them.
 use Rattle.std.specs.Prelude.{◌≡◌, ◌+◌, map, length, drop}
 use Rattle.indicatif_term.specs.Lists.{Lists, BarRows}
-use Rattle.indicatif_term.specs.declared.layout.RowCount.{RowCount}
-use Rattle.indicatif_term.specs.declared.counts.Counts.{Counts}
+use Rattle.indicatif_term.specs.declared.engine.layout.RowCount.{RowCount}
+use Rattle.indicatif_term.specs.declared.engine.counts.Counts.{Counts}
 
 -- a bar's rows by their count
 abbrev pub row_count : BarRows → RowCount

@@ -3,9 +3,9 @@ use Rattle.std.specs.Prelude.{ℕ, Bool, true, false, not, ◌||◌, List, Optio
 use Rattle.std.specs.declared.io.ErrorKind.TheVariants.{Other}
 use Rattle.indicatif_term.specs.Limiters.{Limiter}
 use Rattle.indicatif_term.specs.Writers.{WriterTerm}
-use Rattle.indicatif_term.specs.declared.draw_target.Facts.{Facts}
-use Rattle.indicatif_term.specs.declared.draw_target.MultiProgressAlignment.{MultiProgressAlignment}
-use Rattle.indicatif_term.specs.declared.draw_target.MultiProgressAlignment.TheVariants.{Top, Bottom}
+use Rattle.indicatif_term.specs.declared.target.Facts.{Facts}
+use Rattle.indicatif_term.specs.declared.target.MultiProgressAlignment.{MultiProgressAlignment}
+use Rattle.indicatif_term.specs.declared.target.MultiProgressAlignment.TheVariants.{Top, Bottom}
 
 module _ {T : Type 0} where
   -- a target's terminal; none if it is hidden

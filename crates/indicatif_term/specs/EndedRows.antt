@@ -8,12 +8,12 @@ use Rattle.indicatif_term.specs.Shows.{resting}
 use Rattle.indicatif_term.specs.Resizes.{column_then}
 use Rattle.indicatif_term.specs.Modes.{ModeTerminal, mode_resting, mode_after, ModeRowsStay}
 use Rattle.indicatif_term.specs.OwnRows.{inner_term}
-use Rattle.indicatif_term.specs.declared.ended_rows.EndedRows.{EndedRows}
-use Rattle.indicatif_term.specs.declared.own_rows.OwnRows.{OwnRows}
-use Rattle.indicatif_term.specs.declared.own_rows.Rows.{Rows}
-use Rattle.indicatif_term.specs.declared.own_rows.Rows.TheVariants.{Left, Ended}
-use Rattle.indicatif_term.specs.declared.ended_rows.Place.{Place}
-use Rattle.indicatif_term.specs.declared.ended_rows.Place.TheVariants.{Drawing, Edge, Resting, Waiting}
+use Rattle.indicatif_term.specs.declared.target.ended_rows.EndedRows.{EndedRows}
+use Rattle.indicatif_term.specs.declared.target.own_rows.OwnRows.{OwnRows}
+use Rattle.indicatif_term.specs.declared.target.own_rows.Rows.{Rows}
+use Rattle.indicatif_term.specs.declared.target.own_rows.Rows.TheVariants.{Left, Ended}
+use Rattle.indicatif_term.specs.declared.target.ended_rows.Place.{Place}
+use Rattle.indicatif_term.specs.declared.target.ended_rows.Place.TheVariants.{Drawing, Edge, Resting, Waiting}
 
 -- whether the cursor is between two draws: then the wrap is on
 abbrev pub is_between : Place → Bool

@@ -2,8 +2,8 @@
 use Rattle.std.specs.Prelude.{ℕ, zero, suc, ◌+◌, ◌-◌, max, Bool, true, false, ◌&&◌, ◌==◌, nat_le, nat_lt, List, [], ◌∷◌, ◌++◌, map, length, replicate, take, drop, sum_by, fold, flat_map, if◌then◌else◌}
 use Rattle.std.specs.List.{list_any}
 use Rattle.indicatif_text.specs.Columns.{Cell, blank_row, rows_of}
-use Rattle.indicatif_term.specs.declared.counts.Keep.{Keep}
-use Rattle.indicatif_term.specs.declared.counts.Keep.TheVariants.{Absent, Passed, Behind}
+use Rattle.indicatif_term.specs.declared.engine.counts.Keep.{Keep}
+use Rattle.indicatif_term.specs.declared.engine.counts.Keep.TheVariants.{Absent, Passed, Behind}
 
 -- the rows that one bar shows
 pub record BarRows : Type 0 where

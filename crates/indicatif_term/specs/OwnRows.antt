@@ -4,14 +4,14 @@ use Rattle.std.specs.IoError.{error_kind}
 use Rattle.std.specs.declared.io.Error.{Error}
 use Rattle.std.specs.Result.{is_err}
 use Rattle.indicatif_term.specs.Calls.{Nothing, TermView}
-use Rattle.indicatif_term.specs.declared.ended_rows.EndedRows.{EndedRows}
-use Rattle.indicatif_term.specs.declared.ended_rows.Place.{Place}
-use Rattle.indicatif_term.specs.declared.ended_rows.Place.TheVariants.{Resting, Waiting}
-use Rattle.indicatif_term.specs.declared.ended_rows.Shown.TheVariants.{AtOnce, AsWritten}
-use Rattle.indicatif_term.specs.declared.own_row.OwnRow.{OwnRow}
-use Rattle.indicatif_term.specs.declared.own_rows.OwnRows.{OwnRows}
-use Rattle.indicatif_term.specs.declared.own_rows.Rows.{Rows}
-use Rattle.indicatif_term.specs.declared.own_rows.Rows.TheVariants.{Left, Ended}
+use Rattle.indicatif_term.specs.declared.target.ended_rows.EndedRows.{EndedRows}
+use Rattle.indicatif_term.specs.declared.target.ended_rows.Place.{Place}
+use Rattle.indicatif_term.specs.declared.target.ended_rows.Place.TheVariants.{Resting, Waiting}
+use Rattle.indicatif_term.specs.declared.target.ended_rows.Shown.TheVariants.{AtOnce, AsWritten}
+use Rattle.indicatif_term.specs.declared.target.own_row.OwnRow.{OwnRow}
+use Rattle.indicatif_term.specs.declared.target.own_rows.OwnRows.{OwnRows}
+use Rattle.indicatif_term.specs.declared.target.own_rows.Rows.{Rows}
+use Rattle.indicatif_term.specs.declared.target.own_rows.Rows.TheVariants.{Left, Ended}
 
 -- the view of a terminal whose bytes can't be read
 abbrev pub quiet : TermView → TermView

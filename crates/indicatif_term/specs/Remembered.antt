@@ -4,9 +4,9 @@ use Rattle.indicatif_text.specs.Columns.{Cell}
 use Rattle.indicatif_term.specs.Lists.{Lists, live_rows, forgotten_lists}
 use Rattle.indicatif_term.specs.Counts.{CountsOf}
 use Rattle.indicatif_term.specs.Standing.{standing_rows}
-use Rattle.indicatif_term.specs.declared.counts.Counts.{Counts}
-use Rattle.indicatif_term.specs.declared.remembered.Remembered.{Remembered}
-use Rattle.indicatif_term.specs.declared.remembered.StandingLine.{StandingLine}
+use Rattle.indicatif_term.specs.declared.engine.counts.Counts.{Counts}
+use Rattle.indicatif_term.specs.declared.engine.remembered.Remembered.{Remembered}
+use Rattle.indicatif_term.specs.declared.engine.remembered.StandingLine.{StandingLine}
 
 -- the remembered lines of kept rows, and those of the live ones
 abbrev pub kept_lines : Remembered → List StandingLine

@@ -5,7 +5,7 @@ use Rattle.indicatif_text.specs.Columns.{Cell, has_wide, rows_of, last_columns}
 use Rattle.indicatif_term.specs.Inside.Changes.{PlacedLine}
 use Rattle.indicatif_term.specs.Inside.Edits.{AreSingle}
 use Rattle.indicatif_term.specs.Inside.Parting.{change_of, waits_of, IsReady}
-use Rattle.indicatif_term.specs.declared.remembered.StandingLine.{StandingLine}
+use Rattle.indicatif_term.specs.declared.engine.remembered.StandingLine.{StandingLine}
 
 -- a line as it is written, and its bytes
 abbrev pub placed_of : StandingLine → PlacedLine

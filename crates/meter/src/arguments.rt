@@ -1,7 +1,7 @@
 //! The program's request, from its arguments.
 use clap::error::ErrorKind as WordsErrorKind;
 use clap::{Arg, ArgAction, ArgMatches, Command, Error, value_parser};
-use indicatif_term::term_like::OwnRow;
+use indicatif_term::target::OwnRow;
 use meter_parts::{bytes_said, nanos_said, row_said};
 use std::alloc::{AllocError, AllocFailed, Global};
 use std::env::{self, Env};

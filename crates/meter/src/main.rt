@@ -24,7 +24,7 @@ use arguments::{Asked, Begins, Unasked, Unit};
 use copying::{Copied, Streams, Why, copy_all};
 use indicatif::Refusal;
 use indicatif::machine::Shares;
-use indicatif_term::term_like::OwnRow;
+use indicatif_term::target::OwnRow;
 use meter_parts::plain_text;
 use shown::{Bar, bar_for, parting_for};
 use sizes::size_of_all;

@@ -1,7 +1,7 @@
 //! Numbers in options, and texts that are shown.
 ghost use Rattle.std.specs.Prelude.{◌<◌, IfSome};
 
-use indicatif_term::term_like::OwnRow;
+use indicatif_term::target::OwnRow;
 use std::fmt::{self, Display, Formatter};
 use std::time::Duration;
 

@@ -1,7 +1,7 @@
 //! A board on a screen.
 use indicatif_bar::style::NoTracker;
 use indicatif_board::multi::{BarId, Board, Candidate, InsertLocation};
-use indicatif_term::draw_target::MultiProgressAlignment;
+use indicatif_term::target::MultiProgressAlignment;
 use indicatif_text::columns::{Drawn, Refusal};
 use scripts::boards::{MARK, bar_id, board_call, candidate, of_bar, placed, push_answer};
 use scripts::commands::command;

@@ -1,5 +1,5 @@
 //! The cell terminal, and its bytes.
-use indicatif_term::in_memory::Cells;
+use indicatif_term::cells::Cells;
 use indicatif_text::columns::Refusal;
 use scripts::got::{Bad, Got};
 use scripts::row::{At, Words};

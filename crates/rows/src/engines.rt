@@ -1,6 +1,5 @@
 //! The engine by itself: lines drawn, logged above, kept and cleared.
-use indicatif_term::draw_target::{Engine, Keep, LineType, MultiProgressAlignment, Segment};
-use indicatif_term::term_like::TermLike;
+use indicatif_term::target::{Engine, Keep, LineType, MultiProgressAlignment, Segment, TermLike};
 use scripts::got::{Bad, Got};
 use scripts::row::{At, Words, headed};
 use scripts::screen::{self, Behind, Screen};

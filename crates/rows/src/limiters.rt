@@ -1,5 +1,5 @@
 //! The answers of a limiter.
-use indicatif_term::draw_target::RateLimiter;
+use indicatif_term::target::RateLimiter;
 use indicatif_text::columns::Moment;
 use scripts::got::{Bad, Got};
 use scripts::row::Words;

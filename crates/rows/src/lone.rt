@@ -4,7 +4,7 @@ use crate::terminals::Terminal;
 use indicatif_bar::lone::{LoneBar, LoneCall};
 use indicatif_bar::state::{BarCommand, ProgressFinish};
 use indicatif_bar::style::NoTracker;
-use indicatif_term::term_like::TermLike;
+use indicatif_term::target::TermLike;
 use indicatif_text::columns::{Drawn, Moment, Refusal};
 use scripts::called;
 use scripts::got::{Bad, Got};

@@ -2,8 +2,8 @@
 use crate::cells::{next_size, push_cursor};
 use crate::streams::facts;
 use crate::terminals::call;
-use indicatif_term::in_memory::InMemoryTerm;
-use indicatif_term::term_like::TermLike;
+use indicatif_term::cells::InMemoryTerm;
+use indicatif_term::target::TermLike;
 use scripts::got::{Bad, Got};
 use scripts::row::{At, Words};
 

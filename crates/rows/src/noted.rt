@@ -2,8 +2,8 @@
 use crate::cells::next_size;
 use indicatif_bar::style::NoTracker;
 use indicatif_board::multi::Board;
-use indicatif_term::draw_target::ProgressDrawTarget;
-use indicatif_term::in_memory::InMemoryTerm;
+use indicatif_term::cells::InMemoryTerm;
+use indicatif_term::target::ProgressDrawTarget;
 use scripts::boards::{MARK, candidate, of_bar};
 use scripts::commands::command;
 use scripts::got::{Bad, Got};

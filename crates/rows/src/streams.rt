@@ -1,9 +1,8 @@
 //! Targets on streams: which are hidden, and which rates are refused.
 use indicatif_bar::lone::LoneBar;
 use indicatif_bar::style::NoTracker;
-use indicatif_term::draw_target::{Facts, ProgressDrawTarget};
-use indicatif_term::in_memory::InMemoryTerm;
-use indicatif_term::term_like::Term;
+use indicatif_term::cells::InMemoryTerm;
+use indicatif_term::target::{Facts, ProgressDrawTarget, Term};
 use indicatif_text::columns::{Drawn, Refusal};
 use scripts::got::{Bad, Got};
 use scripts::lone::bar_of;

@@ -1,6 +1,6 @@
 //! A terminal before a screen.
 use crate::cells::{next_size, push_cursor};
-use indicatif_term::term_like::{Resize, TermLike};
+use indicatif_term::target::{Resize, TermLike};
 use scripts::got::{Bad, Got};
 use scripts::row::{At, Words, headed};
 use scripts::screen::{self, Behind, Screen};

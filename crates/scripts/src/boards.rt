@@ -6,7 +6,7 @@ use crate::row::{At, Words};
 use crate::spelling::{number, unescaped};
 use indicatif_bar::style::NoTracker;
 use indicatif_board::multi::{Answer, BarId, Call, Candidate, InsertLocation};
-use indicatif_term::draw_target::MultiProgressAlignment;
+use indicatif_term::target::MultiProgressAlignment;
 use std::alloc::Global;
 
 /// The mark of the board in rows.

@@ -6,7 +6,7 @@ use crate::spelling::{number, unescaped};
 use indicatif_bar::lone::LoneCall;
 use indicatif_bar::state::{Ask, BarState, Fraction, ProgressState, Rate};
 use indicatif_bar::style::{NoTracker, ProgressStyle};
-use indicatif_term::draw_target::LineType;
+use indicatif_term::target::LineType;
 use indicatif_text::columns::Moment;
 use std::alloc::Global;
 use std::convert::AsStr;

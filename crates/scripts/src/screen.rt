@@ -2,9 +2,8 @@
 use crate::got::{Bad, Got};
 use crate::row::{At, Words, headed};
 use crate::spelling::{number, unescaped, unescaped_bytes};
-use indicatif_term::draw_target::ProgressDrawTarget;
-use indicatif_term::in_memory::Cells;
-use indicatif_term::term_like::Term;
+use indicatif_term::cells::Cells;
+use indicatif_term::target::{ProgressDrawTarget, Term};
 use indicatif_text::columns::{Drawn, Refusal};
 use std::alloc::Global;
 use std::cell::{Cell, RefCell};

@@ -9,7 +9,7 @@ use Rattle.indicatif_term.specs.Terminal.{after}
 use Rattle.indicatif_term.specs.Calls.{TermView, line_bytes, clear_bytes, move_bytes, UP}
 use Rattle.indicatif_term.specs.Shows.{resting}
 use Rattle.indicatif_term.specs.EndedRows.{HasCursor, BeginBelow, OwnDraws}
-use Rattle.indicatif_term.specs.declared.own_rows.OwnRows.{OwnRows}
+use Rattle.indicatif_term.specs.declared.target.own_rows.OwnRows.{OwnRows}
 use Rattle.uses.specs.AnyWidth.{two_lines, in_place}
 
 -- calls that failed, and those that were to follow

@@ -6,7 +6,7 @@ use Rattle.indicatif_term.specs.Calls.{TermView, State, is_told}
 use Rattle.indicatif_term.specs.Terminal.{Terminal}
 use Rattle.indicatif_term.specs.Memory.{MemoryTerm, view_of}
 use Rattle.indicatif_term.specs.OwnRows.{own_view, inner_term}
-use Rattle.indicatif_term.specs.declared.own_rows.OwnRows.{OwnRows}
+use Rattle.indicatif_term.specs.declared.target.own_rows.OwnRows.{OwnRows}
 
 -- a terminal that is known to be this one tells this state
 pub state_told : (m : MemoryTerm) (v : TermView) (t : Terminal) → Some (view_of m) ≡ Some v → v.told ≡ State t → m.terminal ≡ t

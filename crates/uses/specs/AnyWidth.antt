@@ -5,7 +5,7 @@ use Rattle.indicatif_term.specs.Calls.{TermView, is_told, led_on, line_bytes, cl
 use Rattle.indicatif_term.specs.Modes.{mode_resting, ModeRowsStay}
 use Rattle.indicatif_term.specs.EndedRows.{HasCursor}
 use Rattle.indicatif_term.specs.OwnRows.{inner_term}
-use Rattle.indicatif_term.specs.declared.own_rows.OwnRows.{OwnRows}
+use Rattle.indicatif_term.specs.declared.target.own_rows.OwnRows.{OwnRows}
 
 -- calls that write a line twice
 abbrev pub two_lines : List ℕ → List (List ℕ)

@@ -20,8 +20,7 @@ use indicatif_bar::state::{BarCommand, BarState};
 use indicatif_bar::style::ProgressTracker;
 use indicatif_board::laws::what_a_board_answers;
 use indicatif_board::multi::{BarId, Board, Candidate};
-use indicatif_term::draw_target::ProgressDrawTarget;
-use indicatif_term::term_like::TermLike;
+use indicatif_term::target::{ProgressDrawTarget, TermLike};
 use indicatif_text::columns::{Drawn, Moment, Refusal};
 
 /// A command of a bar. Each answer comes exactly as the definition of a call says, in a state that the bar was in.

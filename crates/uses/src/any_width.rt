@@ -5,7 +5,7 @@ ghost use Rattle.indicatif_term.specs.EndedRows.{OwnDraws};
 ghost use Rattle.uses.specs.AnyWidth.{two_lines, in_place, RowsAboveStand};
 
 use indicatif_term::laws::{how_far_calls_lead, what_own_rows_draw};
-use indicatif_term::term_like::{OwnRows, TermLike};
+use indicatif_term::target::{OwnRows, TermLike};
 use std::io;
 
 /// Writes a line twice on a terminal of unknown width, goes up to the first, and writes another one over both.

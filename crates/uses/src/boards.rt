@@ -16,9 +16,9 @@ ghost use Rattle.uses.specs.Readings.{AreTextsOf, StartsAt};
 use indicatif_bar::style::ProgressTracker;
 use indicatif_board::laws::what_a_board_run_reads;
 use indicatif_board::multi::{Answer, Board, Call};
-use indicatif_term::draw_target::ProgressDrawTarget;
-use indicatif_term::in_memory::InMemoryTerm;
+use indicatif_term::cells::InMemoryTerm;
 use indicatif_term::laws::an_opening_shows_nothing;
+use indicatif_term::target::ProgressDrawTarget;
 use indicatif_text::columns::{Moment, Refusal};
 use std::alloc::Global;
 

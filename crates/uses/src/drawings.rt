@@ -4,9 +4,9 @@ ghost use Rattle.indicatif_term.specs.Lists.{all_rows, drawn, opening_lists};
 ghost use Rattle.indicatif_term.specs.Frames.{bar_lines, all_lines, are_plain};
 ghost use Rattle.uses.specs.Readings.{AreTextsOf};
 
-use indicatif_term::draw_target::{Engine, MultiProgressAlignment, Segment};
-use indicatif_term::in_memory::InMemoryTerm;
+use indicatif_term::cells::InMemoryTerm;
 use indicatif_term::laws::{a_new_terminal_is_an_opening, what_is_shown_is_read};
+use indicatif_term::target::{Engine, MultiProgressAlignment, Segment};
 use indicatif_text::columns::Refusal;
 use std::alloc::Global;
 

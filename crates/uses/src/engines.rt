@@ -11,13 +11,14 @@ ghost use Rattle.indicatif_term.specs.Shows.{Placed, Rests};
 ghost use Rattle.indicatif_term.specs.Terminal.{Terminal, blank_terminal};
 ghost use Rattle.uses.specs.Readings.{StandBelow};
 
-use indicatif_term::draw_target::{Engine, Keep, MultiProgressAlignment, RateLimiter, Segment};
-use indicatif_term::in_memory::InMemoryTerm;
+use indicatif_term::cells::InMemoryTerm;
 use indicatif_term::laws::{
     a_new_terminal_is_an_opening, an_opening_shows_nothing, what_is_known_again,
     what_is_shown_is_read, what_stands_over_the_rest, where_a_terminal_stands,
 };
-use indicatif_term::term_like::TermLike;
+use indicatif_term::target::{
+    Engine, Keep, MultiProgressAlignment, RateLimiter, Segment, TermLike,
+};
 use indicatif_text::columns::Refusal;
 use std::io::ErrorKind;
 

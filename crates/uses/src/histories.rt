@@ -24,9 +24,8 @@ use indicatif_bar::state::BarCommand;
 use indicatif_bar::style::{NoTracker, ProgressTracker};
 use indicatif_board::laws::what_a_history_says;
 use indicatif_board::multi::{Answer, BarId, Call, Recorded};
-use indicatif_term::draw_target::ProgressDrawTarget;
-use indicatif_term::in_memory::InMemoryTerm;
-use indicatif_term::term_like::TermLike;
+use indicatif_term::cells::InMemoryTerm;
+use indicatif_term::target::{ProgressDrawTarget, TermLike};
 use indicatif_text::columns::{Drawn, Moment, Refusal};
 use std::alloc::Global;
 

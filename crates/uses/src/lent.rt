@@ -12,7 +12,7 @@ use indicatif_bar::lone::{LoneBar, LoneCall};
 use indicatif_bar::state::{BarCommand, BarState};
 use indicatif_bar::style::ProgressTracker;
 use indicatif_board::multi::{BarId, Board, Call, Candidate};
-use indicatif_term::term_like::TermLike;
+use indicatif_term::target::TermLike;
 use indicatif_text::columns::{Drawn, Moment, Refusal};
 use std::io::ErrorKind;
 

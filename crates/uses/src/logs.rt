@@ -18,9 +18,9 @@ use indicatif_bar::laws::what_a_lone_run_reads;
 use indicatif_bar::lone::{LoneBar, LoneCall};
 use indicatif_bar::state::BarState;
 use indicatif_bar::style::ProgressTracker;
-use indicatif_term::draw_target::ProgressDrawTarget;
-use indicatif_term::in_memory::InMemoryTerm;
+use indicatif_term::cells::InMemoryTerm;
 use indicatif_term::laws::an_opening_shows_nothing;
+use indicatif_term::target::ProgressDrawTarget;
 use indicatif_text::columns::{Moment, Refusal};
 
 /// The texts of the rows that stand after a line was logged above a bar and any calls were made after it: below the rows that were not the

@@ -4,7 +4,7 @@ ghost use Rattle.indicatif_board.specs.Multi.{record_at, slots_of};
 
 use indicatif_bar::style::ProgressTracker;
 use indicatif_board::multi::{Board, MultiState};
-use indicatif_term::term_like::TermLike;
+use indicatif_term::target::TermLike;
 use indicatif_text::columns::{Drawn, Moment, Refusal};
 use std::alloc::Global;
 

@@ -30,13 +30,12 @@ use indicatif_board::laws::{
     plain_texts_give_plain_runs, scripts_of_a_board, what_a_board_run_reads,
 };
 use indicatif_board::multi::{BarId, Board, Call, Candidate};
-use indicatif_term::draw_target::ProgressDrawTarget;
-use indicatif_term::in_memory::InMemoryTerm;
+use indicatif_term::cells::InMemoryTerm;
 use indicatif_term::laws::{
     a_new_terminal_is_an_opening, any_cut, what_calm_bytes_hold, what_is_shown_is_read,
     where_a_terminal_stands,
 };
-use indicatif_term::term_like::{Term, TermLike};
+use indicatif_term::target::{ProgressDrawTarget, Term, TermLike};
 use indicatif_text::columns::{Drawn, Moment, Refusal};
 use indicatif_text::laws::{columns, template_or_refused};
 use std::alloc::Global;

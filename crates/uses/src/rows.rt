@@ -17,10 +17,9 @@ use indicatif_bar::laws::what_a_lone_run_reads;
 use indicatif_bar::lone::{LoneBar, LoneCall};
 use indicatif_bar::state::BarState;
 use indicatif_bar::style::ProgressTracker;
-use indicatif_term::draw_target::ProgressDrawTarget;
-use indicatif_term::in_memory::InMemoryTerm;
+use indicatif_term::cells::InMemoryTerm;
 use indicatif_term::laws::{an_opening_shows_nothing, what_own_rows_tell};
-use indicatif_term::term_like::OwnRows;
+use indicatif_term::target::{OwnRows, ProgressDrawTarget};
 use indicatif_text::columns::{Moment, Refusal};
 
 /// The texts of the rows that stand after these calls of a bar, which begins on an `OwnRows` whose rows this terminal ends: those of the

@@ -18,9 +18,9 @@ use indicatif_bar::laws::what_a_lone_run_reads;
 use indicatif_bar::lone::{LoneBar, LoneCall};
 use indicatif_bar::state::BarState;
 use indicatif_bar::style::ProgressTracker;
-use indicatif_term::draw_target::ProgressDrawTarget;
-use indicatif_term::in_memory::InMemoryTerm;
+use indicatif_term::cells::InMemoryTerm;
 use indicatif_term::laws::an_opening_shows_nothing;
+use indicatif_term::target::ProgressDrawTarget;
 use indicatif_text::columns::{Drawn, Moment, Refusal};
 
 /// The terminal's failure, if it is among the answers.

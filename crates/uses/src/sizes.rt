@@ -5,9 +5,8 @@ use indicatif_bar::laws::what_a_lone_bar_answers;
 use indicatif_bar::lone::LoneBar;
 use indicatif_bar::state::BarState;
 use indicatif_bar::style::ProgressTracker;
-use indicatif_term::draw_target::ProgressDrawTarget;
 use indicatif_term::laws::where_a_size_takes_none;
-use indicatif_term::term_like::Term;
+use indicatif_term::target::{ProgressDrawTarget, Term};
 use indicatif_text::columns::{Moment, Refusal};
 use std::io::Write;
 

@@ -9,7 +9,7 @@ use indicatif::written_if_hidden;
 use indicatif_bar::style::ProgressTracker;
 use indicatif_board::bridge::emit;
 use indicatif_board::multi::Board;
-use indicatif_term::term_like::TermLike;
+use indicatif_term::target::TermLike;
 use indicatif_text::columns::{Drawn, Moment, Refusal};
 use log::Level;
 use std::alloc::Global;

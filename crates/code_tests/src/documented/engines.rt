@@ -1,9 +1,9 @@
 //! Examples of the engine, its lines and its limiter.
 use crate::checks::Granted;
-use indicatif_term::draw_target::{
+use indicatif_term::cells::InMemoryTerm;
+use indicatif_term::target::{
     DEFAULT_RATE, Engine, Keep, LineType, MultiProgressAlignment, RateLimiter, Segment,
 };
-use indicatif_term::in_memory::InMemoryTerm;
 use std::alloc::Global;
 use std::process::Abort;
 

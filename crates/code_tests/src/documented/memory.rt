@@ -1,7 +1,7 @@
 //! Examples of the terminals in memory. Their contents are in rows of data (`terminals.txt`); here is the cursor.
 use crate::checks::Granted;
-use indicatif_term::in_memory::{Cells, InMemoryTerm};
-use indicatif_term::term_like::{Resize, TermLike};
+use indicatif_term::cells::{Cells, InMemoryTerm};
+use indicatif_term::target::{Resize, TermLike};
 
 #[test]
 fn terminals_with_nothing_on_them(rt: HostRuntime) {

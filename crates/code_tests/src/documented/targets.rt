@@ -1,8 +1,7 @@
 //! Examples of targets and writers. `fronts` has that of a setup.
 use crate::checks::Granted;
-use indicatif_term::draw_target::{Facts, ProgressDrawTarget};
-use indicatif_term::in_memory::InMemoryTerm;
-use indicatif_term::term_like::{Term, TermLike, write_whole};
+use indicatif_term::cells::InMemoryTerm;
+use indicatif_term::target::{Facts, ProgressDrawTarget, Term, TermLike, write_whole};
 use std::io::BufWriter;
 
 /// And one on a terminal.

@@ -1,6 +1,6 @@
 //! Random frames, each like the last one, and calls.
 use crate::numbers::Numbers;
-use indicatif_term::draw_target::{LineType, Segment};
+use indicatif_term::target::{LineType, Segment};
 use indicatif_text::columns::Refusal;
 use std::alloc::Global;
 

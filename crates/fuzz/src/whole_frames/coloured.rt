@@ -1,5 +1,5 @@
 //! A terminal that keeps colours: one in memory that shows a character with colours as another one of its width.
-use indicatif_term::in_memory::Cells;
+use indicatif_term::cells::Cells;
 use indicatif_text::columns::Refusal;
 use scripts::judged::record::Size;
 use std::alloc::Global;

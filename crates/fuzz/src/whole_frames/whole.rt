@@ -1,6 +1,5 @@
 //! An engine that writes whole frames: it erases all rows, and writes all lines again.
-use indicatif_term::draw_target::{Keep, LineType, MultiProgressAlignment, Segment};
-use indicatif_term::term_like::TermLike;
+use indicatif_term::target::{Keep, LineType, MultiProgressAlignment, Segment, TermLike};
 use indicatif_text::columns::{Refusal, wrapped};
 use std::alloc::Global;
 use std::convert::AsStr;

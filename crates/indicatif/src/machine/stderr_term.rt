@@ -3,8 +3,7 @@ ghost use Rattle.std.specs.Prelude.{◌≡◌, false};
 ghost use Rattle.indicatif.specs.StderrTerm.{stderr_target};
 
 use crate::machine::until_gone::UntilGone;
-use indicatif_term::draw_target::ProgressDrawTarget;
-use indicatif_term::term_like::{OwnRows, Resize, Term, TermLike};
+use indicatif_term::target::{OwnRows, ProgressDrawTarget, Resize, Term, TermLike};
 use indicatif_text::columns::Refusal;
 use std::io::{self, BufWriter, Stderr};
 

@@ -16,7 +16,7 @@ use crate::parallel::claims::Claims;
 use crate::shared::ProgressBar;
 use crate::wrappers::moves::Moves;
 use indicatif_bar::style::Tracks;
-use indicatif_term::term_like::TermLike;
+use indicatif_term::target::TermLike;
 use indicatif_text::columns::{Clock, Refusal};
 use rayon::current_num_threads;
 use std::alloc::Global;

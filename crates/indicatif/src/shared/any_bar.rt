@@ -9,7 +9,7 @@ use indicatif_bar::lone::LoneBar;
 use indicatif_bar::state::{BarState, ProgressState};
 use indicatif_bar::style::{ProgressStyle, Tracks};
 use indicatif_board::multi::{BarId, Candidate};
-use indicatif_term::term_like::TermLike;
+use indicatif_term::target::TermLike;
 use indicatif_text::columns::{Clock, Refusal};
 use std::alloc::Global;
 use std::sync::{Arc, Wait};

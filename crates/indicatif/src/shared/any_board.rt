@@ -13,8 +13,7 @@ use indicatif_bar::lone::LoneCall;
 use indicatif_bar::state::{BarState, Text, own_text};
 use indicatif_bar::style::Tracks;
 use indicatif_board::multi::{Answer, BarId, Board, Call, Candidate, InsertLocation, Recorded};
-use indicatif_term::draw_target::ProgressDrawTarget;
-use indicatif_term::term_like::TermLike;
+use indicatif_term::target::{ProgressDrawTarget, TermLike};
 use indicatif_text::columns::{Drawn, Moment, Refusal};
 use std::alloc::Global;
 

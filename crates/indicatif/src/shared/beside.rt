@@ -6,7 +6,7 @@ ghost use Rattle.indicatif.specs.Fronts.{CanAnswer, CanDraw};
 
 use crate::shared::{MultiProgress, ProgressBar};
 use indicatif_bar::style::Tracks;
-use indicatif_term::term_like::{TermLike, write_whole};
+use indicatif_term::target::{TermLike, write_whole};
 use indicatif_text::columns::{Clock, Drawn, Refusal};
 use std::alloc::Global;
 use std::io::Write;

@@ -4,7 +4,7 @@ ghost use Rattle.indicatif.specs.Fronts.{CanDraw};
 use crate::shared::locked_board::LockedBoard;
 use crate::shared::pause::Pause;
 use indicatif_bar::style::Tracks;
-use indicatif_term::term_like::TermLike;
+use indicatif_term::target::TermLike;
 use indicatif_text::columns::{Clock, Drawn, Moment, Refusal};
 use std::alloc::Global;
 use std::sync::{Arc, Condvar, Mutex, MutexGuard, Wait};

@@ -9,7 +9,7 @@ use crate::shared::ProgressBar;
 use indicatif_bar::lone::LoneCall;
 use indicatif_bar::state::{BarCommand, ProgressFinish};
 use indicatif_bar::style::{ProgressStyle, Tracks};
-use indicatif_term::term_like::TermLike;
+use indicatif_term::target::TermLike;
 use indicatif_text::columns::{Clock, Refusal};
 use std::sync::Wait;
 

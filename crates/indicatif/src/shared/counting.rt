@@ -8,7 +8,7 @@ ghost use Rattle.indicatif.specs.Fronts.{CanAnswer};
 use crate::shared::ProgressBar;
 use indicatif_bar::style::Tracks;
 use indicatif_board::done::{BarWorker, Done};
-use indicatif_term::term_like::TermLike;
+use indicatif_term::target::TermLike;
 use indicatif_text::columns::{Clock, Drawn, Refusal};
 use std::sync::Wait;
 

@@ -8,7 +8,7 @@ use crate::shared::any_board::AnyBoard;
 use crate::shared::pause::Pause;
 use indicatif_bar::style::Tracks;
 use indicatif_board::multi::Call;
-use indicatif_term::term_like::TermLike;
+use indicatif_term::target::TermLike;
 use indicatif_text::columns::{Clock, Drawn, Moment, Refusal};
 
 /// A board, its clock, and whether it is in a pause.

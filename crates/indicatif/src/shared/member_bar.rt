@@ -19,7 +19,7 @@ use indicatif_bar::lone::LoneCall;
 use indicatif_bar::state::{BarCommand, BarState, Change, ProgressState};
 use indicatif_bar::style::Tracks;
 use indicatif_board::multi::{BarId, Call};
-use indicatif_term::term_like::TermLike;
+use indicatif_term::target::TermLike;
 use indicatif_text::columns::{Clock, Drawn, Moment, Refusal};
 use std::alloc::Global;
 use std::sync::Wait;

@@ -7,7 +7,7 @@ ghost use Rattle.indicatif.specs.Inside.PositionChange.{position_command};
 use indicatif_bar::lone::LoneBar;
 use indicatif_bar::state::BarCommand;
 use indicatif_bar::style::Tracks;
-use indicatif_term::term_like::TermLike;
+use indicatif_term::target::TermLike;
 use indicatif_text::columns::{Drawn, Moment, Refusal};
 
 /// What moves a bar's position. It is the most frequent call: no command is made of it if the bar stands alone.

@@ -5,7 +5,7 @@ ghost use Rattle.indicatif.specs.Fronts.{IsMissing};
 use crate::shared::ProgressBar;
 use indicatif_bar::state::{ProgressState, Rate};
 use indicatif_bar::style::{ProgressStyle, Tracks};
-use indicatif_term::term_like::TermLike;
+use indicatif_term::target::TermLike;
 use indicatif_text::columns::{Clock, Refusal};
 use std::sync::Wait;
 

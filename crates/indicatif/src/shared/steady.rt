@@ -11,7 +11,7 @@ use crate::shared::shared_bar::{SharedBar, wait_for_board};
 use indicatif_bar::lone::LoneCall;
 use indicatif_bar::state::BarCommand;
 use indicatif_bar::style::Tracks;
-use indicatif_term::term_like::TermLike;
+use indicatif_term::target::TermLike;
 use indicatif_text::columns::{Clock, Refusal};
 use std::sync::{Arc, Wait};
 use std::thread::Threads;

@@ -2,7 +2,7 @@
 use crate::plain_lines::PlainLines;
 use crate::shared::ProgressBar;
 use indicatif_bar::style::Tracks;
-use indicatif_term::term_like::{TermLike, write_whole};
+use indicatif_term::target::{TermLike, write_whole};
 use indicatif_text::columns::{Clock, Refusal};
 use std::io::Write;
 use std::sync::Wait;

@@ -10,7 +10,7 @@ use crate::shared::{MultiProgress, ProgressBar};
 use indicatif_bar::lone::LoneBar;
 use indicatif_bar::style::Tracks;
 use indicatif_board::multi::{BarId, Board, Recorded};
-use indicatif_term::term_like::TermLike;
+use indicatif_term::target::TermLike;
 use indicatif_text::columns::Clock;
 use std::sync::{Arc, Wait};
 

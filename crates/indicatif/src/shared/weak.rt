@@ -2,7 +2,7 @@
 use crate::shared::ProgressBar;
 use crate::shared::shared_bar::SharedBar;
 use indicatif_bar::style::{NoTracker, Tracks};
-use indicatif_term::term_like::TermLike;
+use indicatif_term::target::TermLike;
 use indicatif_text::columns::Clock;
 use std::alloc::{AllocError, Global};
 use std::fmt::{self, Debug, Formatter};

@@ -12,7 +12,7 @@ use futures::stream::Stream;
 use indicatif_bar::lone::LoneCall;
 use indicatif_bar::state::{BarCommand, ProgressFinish};
 use indicatif_bar::style::{ProgressStyle, Tracks};
-use indicatif_term::term_like::TermLike;
+use indicatif_term::target::TermLike;
 use indicatif_text::columns::{Clock, Refusal};
 use std::alloc::AllocError;
 use std::io::{Read, Write};

@@ -8,7 +8,7 @@ use crate::wrappers::owned::OwnedBar;
 use crate::wrappers::wrap::ProgressBarIter;
 use indicatif_bar::state::ProgressFinish;
 use indicatif_bar::style::{ProgressStyle, Tracks};
-use indicatif_term::term_like::TermLike;
+use indicatif_term::target::TermLike;
 use indicatif_text::columns::{Clock, Drawn, Refusal};
 
 /// Each of these asks for no draw, and leaves `last_draw` unchanged.

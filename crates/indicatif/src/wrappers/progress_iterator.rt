@@ -9,8 +9,7 @@ use crate::wrappers::moves::Moves;
 use crate::wrappers::owned::OwnedBar;
 use crate::wrappers::wrap::ProgressBarIter;
 use indicatif_bar::style::{NoTracker, ProgressStyle, TICKS, Tracks};
-use indicatif_term::draw_target::Setup;
-use indicatif_term::term_like::TermLike;
+use indicatif_term::target::{Setup, TermLike};
 use indicatif_text::columns::{Clock, Refusal};
 use std::alloc::Global;
 

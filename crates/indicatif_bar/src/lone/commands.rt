@@ -15,7 +15,7 @@ use crate::stage::Writing;
 use crate::state::{Ask, Change, ProgressFinish, ProgressState};
 use crate::style::ProgressStyle;
 use crate::tracker::Tracks;
-use indicatif_term::term_like::TermLike;
+use indicatif_term::target::TermLike;
 use indicatif_text::columns::{Drawn, Moment, Refusal};
 
 impl<K: Tracks, T: TermLike + Drop> LoneBar<K, T> {

@@ -16,7 +16,7 @@ use crate::style::steps::steps_of;
 use crate::style::texts::Texts;
 use crate::style::{ProgressStyle, clusters};
 use crate::tracker::Tracks;
-use indicatif_term::draw_target::LineType;
+use indicatif_term::target::LineType;
 use indicatif_text::columns::{Moment, Refusal};
 use indicatif_text::template::Template;
 use std::alloc::Global;

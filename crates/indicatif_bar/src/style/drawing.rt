@@ -26,7 +26,7 @@ use crate::style::padding::{AtWidth, push_padded};
 use crate::style::steps::{Placeholder, Source, Step, WideKey, literal_at};
 use crate::tabs::push_expanded;
 use crate::tracker::Tracks;
-use indicatif_term::draw_target::LineType;
+use indicatif_term::target::LineType;
 use indicatif_text::columns::{Moment, Refusal};
 use indicatif_text::template::{Alignment, Template};
 use std::mem::replace;

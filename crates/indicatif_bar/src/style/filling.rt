@@ -9,7 +9,7 @@ ghost use Rattle.indicatif_bar.specs.Styles.{is_filler, is_newline, ends_in_fill
 
 use crate::scan::{cut_at, has_byte};
 use crate::spare::SpareLines;
-use indicatif_term::draw_target::LineType;
+use indicatif_term::target::LineType;
 use indicatif_text::columns::{Refusal, columns};
 
 /// Whether a text has a filler.

@@ -16,7 +16,7 @@ use crate::bar_id::BarId;
 use crate::calls::{Candidate, InsertLocation, Turned};
 use crate::multi::Board;
 use indicatif_bar::style::Tracks;
-use indicatif_term::term_like::TermLike;
+use indicatif_term::target::TermLike;
 use indicatif_text::columns::Refusal;
 
 impl<K: Tracks, T: TermLike + Drop> Board<K, T> {

@@ -17,8 +17,7 @@ use crate::multi::Board;
 use indicatif_bar::stage::Writing;
 use indicatif_bar::state::BarState;
 use indicatif_bar::style::Tracks;
-use indicatif_term::draw_target::Keep;
-use indicatif_term::term_like::TermLike;
+use indicatif_term::target::{Keep, TermLike};
 use indicatif_text::columns::{Drawn, Moment, Refusal};
 
 impl<K: Tracks, T: TermLike + Drop> Board<K, T> {

@@ -14,7 +14,7 @@ use crate::calls::{Answer, Call, draw_answer, insertion_answer, removal_answer};
 use crate::multi::Board;
 use indicatif_bar::state::BarState;
 use indicatif_bar::style::Tracks;
-use indicatif_term::term_like::TermLike;
+use indicatif_term::target::TermLike;
 use indicatif_text::columns::{Moment, Refusal};
 
 impl<K: Tracks, T: TermLike + Drop> Board<K, T> {

@@ -1,7 +1,7 @@
 -- Counts without kept rows that have scrolled away.
 use Rattle.std.specs.Prelude.{◌≡◌, ℕ, Bool, ◌+◌, ◌-◌, min, max, ◌&&◌, ◌==◌, nat_lt, List, drop}
-use Rattle.indicatif_term.specs.declared.layout.RowCount.{RowCount}
-use Rattle.indicatif_term.specs.declared.counts.Counts.{Counts}
+use Rattle.indicatif_term.specs.declared.engine.layout.RowCount.{RowCount}
+use Rattle.indicatif_term.specs.declared.engine.counts.Counts.{Counts}
 
 -- the counts after kept rows that have scrolled away joined those above
 pub record SettledCounts (reached h kept blanks : ℕ) (segments : List RowCount) (live : ℕ) (under : Bool) (c : Counts) : Type 0 where

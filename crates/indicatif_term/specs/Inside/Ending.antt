@@ -12,11 +12,11 @@ use Rattle.indicatif_term.specs.Shows.{resting}
 use Rattle.indicatif_term.specs.OwnRows.{first_place, Quietly}
 use Rattle.indicatif_term.specs.Modes.{ModeTerminal, mode_resting, step_by, mode_after}
 use Rattle.indicatif_term.specs.EndedRows.{is_between, SameRows, Together}
-use Rattle.indicatif_term.specs.declared.ended_rows.EndedRows.{EndedRows}
-use Rattle.indicatif_term.specs.declared.ended_rows.Place.{Place}
-use Rattle.indicatif_term.specs.declared.ended_rows.Shown.{Shown}
-use Rattle.indicatif_term.specs.declared.ended_rows.Shown.TheVariants.{AtOnce, AsWritten}
-use Rattle.indicatif_term.specs.declared.ended_rows.Place.TheVariants.{Drawing, Edge, Resting, Waiting}
+use Rattle.indicatif_term.specs.declared.target.ended_rows.EndedRows.{EndedRows}
+use Rattle.indicatif_term.specs.declared.target.ended_rows.Place.{Place}
+use Rattle.indicatif_term.specs.declared.target.ended_rows.Shown.{Shown}
+use Rattle.indicatif_term.specs.declared.target.ended_rows.Shown.TheVariants.{AtOnce, AsWritten}
+use Rattle.indicatif_term.specs.declared.target.ended_rows.Place.TheVariants.{Drawing, Edge, Resting, Waiting}
 
 -- the first n rows are unchanged at each of these bytes
 abbrev pub StayAlong : ℕ → ModeTerminal → List ℕ → Type 0

@@ -2,8 +2,8 @@
 use Rattle.std.specs.Prelude.{◌≡◌, ℕ, ◌-◌, ◌≤◌, length, take, map, flat_map, Bool, true, false, List, [], ◌∷◌, chars, Option, Some, None}
 use Rattle.indicatif_text.specs.Columns.{last_columns}
 use Rattle.indicatif_term.specs.Frames.{line_text}
-use Rattle.indicatif_term.specs.declared.lines.Segment.{Segment}
-use Rattle.indicatif_term.specs.declared.layout.Plan.{Plan}
+use Rattle.indicatif_term.specs.declared.engine.lines.Segment.{Segment}
+use Rattle.indicatif_term.specs.declared.engine.layout.Plan.{Plan}
 
 -- the last element of a list
 abbrev pub last_of : {A : Type 0} → List A → Option A

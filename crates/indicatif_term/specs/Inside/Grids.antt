@@ -1,8 +1,8 @@
 -- The rows of a terminal as they are kept.
 use Rattle.indicatif_term.specs.Screen.{Screen, IsWhole, Op, Put, Return, LineFeed, Up, Down, Right, Left, EmptyRow}
-use Rattle.indicatif_term.specs.declared.in_memory.grid.Grid.TheInside.{Inside}
-use Rattle.indicatif_term.specs.declared.in_memory.grid.Op as stored
-use Rattle.indicatif_term.specs.declared.in_memory.grid.Op.TheVariants as variants
+use Rattle.indicatif_term.specs.declared.cells.grid.Grid.TheInside.{Inside}
+use Rattle.indicatif_term.specs.declared.cells.grid.Op as stored
+use Rattle.indicatif_term.specs.declared.cells.grid.Op.TheVariants as variants
 
 -- the screen that a grid stands for
 abbrev pub screen_of : Inside → Screen

@@ -4,9 +4,9 @@ use Rattle.std.specs.List.{AllByRecursion}
 use Rattle.indicatif_text.specs.Columns.{has_wide, rows_of, last_columns}
 use Rattle.indicatif_term.specs.Inside.Edits.{AreSingle}
 use Rattle.indicatif_term.specs.Standing.{texts, AreLines}
-use Rattle.indicatif_term.specs.declared.layout.Plan.{Plan}
-use Rattle.indicatif_term.specs.declared.beside.SizedLine.{SizedLine}
-use Rattle.indicatif_term.specs.declared.remembered.StandingLine.{StandingLine}
+use Rattle.indicatif_term.specs.declared.engine.layout.Plan.{Plan}
+use Rattle.indicatif_term.specs.declared.engine.beside.SizedLine.{SizedLine}
+use Rattle.indicatif_term.specs.declared.engine.remembered.StandingLine.{StandingLine}
 
 -- a line of these characters agrees with its measures
 pub record IsSized (w : ℕ) (line : List ℕ) (l : SizedLine) : Type 0 where

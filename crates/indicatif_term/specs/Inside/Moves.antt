@@ -4,7 +4,7 @@ use Rattle.std.specs.List.{AllByRecursion}
 use Rattle.indicatif_text.specs.Columns.{width_of, columns_of, visible}
 use Rattle.indicatif_term.specs.Calls.{UP, move_bytes}
 use Rattle.indicatif_term.specs.Inside.Changes.{PlacedLine}
-use Rattle.indicatif_term.specs.declared.remembered.StandingLine.{StandingLine}
+use Rattle.indicatif_term.specs.declared.engine.remembered.StandingLine.{StandingLine}
 
 -- a line with the spaces that fill its last row
 abbrev pub filled_bytes : ℕ → PlacedLine → List ℕ

@@ -6,10 +6,10 @@ use Rattle.indicatif_term.specs.Shows.{looks_of}
 use Rattle.indicatif_term.specs.Inside.Edits.{Edit, Tails, AreSingle, IsNarrowChar, plan, repainted, edit_colours}
 use Rattle.indicatif_term.specs.Inside.Inks.{Inked, IsRead, NONE, in_colours, as_painted, painted, read, padded}
 use Rattle.indicatif_term.specs.Inside.Changes as drawn
-use Rattle.indicatif_term.specs.declared.parting.Part.{Part}
-use Rattle.indicatif_term.specs.declared.parting.Cut.{Cut}
-use Rattle.indicatif_term.specs.declared.parting.Step.{Step}
-use Rattle.indicatif_term.specs.declared.parting.Step.TheVariants as steps
+use Rattle.indicatif_term.specs.declared.engine.parting.Part.{Part}
+use Rattle.indicatif_term.specs.declared.engine.parting.Cut.{Cut}
+use Rattle.indicatif_term.specs.declared.engine.parting.Step.{Step}
+use Rattle.indicatif_term.specs.declared.engine.parting.Step.TheVariants as steps
 
 -- the characters of a text from one of its bytes on
 abbrev pub tail : ℕ → List ℕ → List ℕ

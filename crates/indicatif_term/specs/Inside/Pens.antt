@@ -3,7 +3,7 @@ use Rattle.std.specs.Prelude.{◌≡◌, ℕ, Bool, ◌||◌, nat_lt, List, leng
 use Rattle.std.specs.declared.io.Error.{Error}
 use Rattle.indicatif_term.specs.Calls.{TermView, Writes}
 use Rattle.indicatif_term.specs.Inside.Bytes.{lines_bytes}
-use Rattle.indicatif_term.specs.declared.painting.Pen.{Pen}
+use Rattle.indicatif_term.specs.declared.engine.painting.Pen.{Pen}
 
 -- it writes these bytes to its terminal; after them the cursor stands at the end of a row, or not
 pub record Pens {T : Type 0} (view : T → TermView) (bytes : List ℕ) (at_end : Bool) (old new : Pen T) (result : Result Unit Error) : Type 0 where

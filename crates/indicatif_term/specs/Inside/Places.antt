@@ -4,9 +4,9 @@ use Rattle.indicatif_text.specs.Columns.{rows_of}
 use Rattle.indicatif_term.specs.Shows.{looks_of}
 use Rattle.indicatif_term.specs.Inside.Changes.{placed_height, AreSitting}
 use Rattle.indicatif_term.specs.Standing.{placed, standing_rows}
-use Rattle.indicatif_term.specs.declared.remembered.StandingLine.{StandingLine}
-use Rattle.indicatif_term.specs.declared.beside.Place.{Place}
-use Rattle.indicatif_term.specs.declared.beside.Room.{Room}
+use Rattle.indicatif_term.specs.declared.engine.remembered.StandingLine.{StandingLine}
+use Rattle.indicatif_term.specs.declared.engine.beside.Place.{Place}
+use Rattle.indicatif_term.specs.declared.engine.beside.Room.{Room}
 
 -- the rows of lines from a place on are those from its row on, if that row has a small number
 abbrev pub IsAt : ℕ → List StandingLine → Place → Type 0

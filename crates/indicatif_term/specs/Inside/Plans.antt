@@ -9,11 +9,11 @@ use Rattle.indicatif_term.specs.Calls.{TermView}
 use Rattle.indicatif_term.specs.Frames.{line_text, bar_lines, all_lines, text_lines, logged_lines, some_wide, RefusesLines, is_fault}
 use Rattle.indicatif_term.specs.Counts.{row_count}
 use Rattle.indicatif_term.specs.Inside.Fills.{line_end, last_or_none, PlanEndsAt, frame_ends}
-use Rattle.indicatif_term.specs.declared.lines.Segment.{Segment}
-use Rattle.indicatif_term.specs.declared.layout.RowCount.{RowCount}
-use Rattle.indicatif_term.specs.declared.layout.Plan.{Plan}
-use Rattle.indicatif_term.specs.declared.layout.Layout.{Layout}
-use Rattle.indicatif_term.specs.declared.layout.Planned.{Planned}
+use Rattle.indicatif_term.specs.declared.engine.lines.Segment.{Segment}
+use Rattle.indicatif_term.specs.declared.engine.layout.RowCount.{RowCount}
+use Rattle.indicatif_term.specs.declared.engine.layout.Plan.{Plan}
+use Rattle.indicatif_term.specs.declared.engine.layout.Layout.{Layout}
+use Rattle.indicatif_term.specs.declared.engine.layout.Planned.{Planned}
 
 -- ---- what a draw writes
 

@@ -1,7 +1,7 @@
 -- Rows that a draw is the first to reach.
 use Rattle.std.specs.Prelude.{◌≡◌, ◌⊎◌, ℕ, ◌+◌, ◌<◌, ◌≤◌, max, IsTrue, IsFalse}
-use Rattle.indicatif_term.specs.declared.counts.Counts.{Counts}
-use Rattle.indicatif_term.specs.declared.counts.Fresh.{Fresh}
+use Rattle.indicatif_term.specs.declared.engine.counts.Counts.{Counts}
+use Rattle.indicatif_term.specs.declared.engine.counts.Fresh.{Fresh}
 
 -- the cursor is on the last of the rows above, and none is kept or live
 pub record IsAtop (c : Counts) : Type 0 where

@@ -7,11 +7,11 @@ use Rattle.indicatif_term.specs.Lists.{Lists, all_rows}
 use Rattle.indicatif_term.specs.Resizes.{has_place, recut, recut_all}
 use Rattle.indicatif_term.specs.Standing.{standing_rows, AreLines}
 use Rattle.indicatif_term.specs.Remembered.{AreRemembered}
-use Rattle.indicatif_term.specs.declared.remembered.Remembered.{Remembered}
-use Rattle.indicatif_term.specs.declared.counts.Counts.{Counts}
-use Rattle.indicatif_term.specs.declared.remembered.StandingLine.{StandingLine}
-use Rattle.indicatif_term.specs.declared.layout.RowCount.{RowCount}
-use Rattle.indicatif_term.specs.declared.recutting.CutLines.{CutLines}
+use Rattle.indicatif_term.specs.declared.engine.remembered.Remembered.{Remembered}
+use Rattle.indicatif_term.specs.declared.engine.counts.Counts.{Counts}
+use Rattle.indicatif_term.specs.declared.engine.remembered.StandingLine.{StandingLine}
+use Rattle.indicatif_term.specs.declared.engine.layout.RowCount.{RowCount}
+use Rattle.indicatif_term.specs.declared.engine.recutting.CutLines.{CutLines}
 
 -- ---- the text of a row
 

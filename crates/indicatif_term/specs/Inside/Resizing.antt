@@ -3,7 +3,7 @@ use Rattle.std.specs.Prelude.{◌≡◌, ℕ, ◌+◌, ◌-◌, List, ◌++◌, 
 use Rattle.indicatif_text.specs.Columns.{Cell, Glyph, blank_row}
 use Rattle.indicatif_term.specs.Screen.{Screen, Put, performed, put_mark, line_feed, cursor_row}
 use Rattle.indicatif_term.specs.Resizes.{has_place, glyphs_in, recut, recut_all, lasting_rows}
-use Rattle.indicatif_term.specs.declared.in_memory.grid.resizing.CursorRows.{CursorRows}
+use Rattle.indicatif_term.specs.declared.cells.grid.resizing.CursorRows.{CursorRows}
 
 -- marks, joined to the glyph before the cursor
 abbrev pub marks_joined : Screen → List ℕ → Screen

@@ -4,10 +4,10 @@ use Rattle.std.specs.List.{list_any}
 use Rattle.indicatif_term.specs.Inside.Inks.{Ink, Inked, read}
 use Rattle.indicatif_term.specs.Inside.Edits.{rest_bytes}
 use Rattle.indicatif_term.specs.Inside.Parting.{tail}
-use Rattle.indicatif_term.specs.declared.inks.Colours.{Colours}
-use Rattle.indicatif_term.specs.declared.inks.Reading.{Reading}
-use Rattle.indicatif_term.specs.declared.parting.PlainParts.{PlainParts}
-use Rattle.indicatif_term.specs.declared.row_edits.Rest.{Rest}
+use Rattle.indicatif_term.specs.declared.engine.inks.Colours.{Colours}
+use Rattle.indicatif_term.specs.declared.engine.inks.Reading.{Reading}
+use Rattle.indicatif_term.specs.declared.engine.parting.PlainParts.{PlainParts}
+use Rattle.indicatif_term.specs.declared.engine.row_edits.Rest.{Rest}
 
 -- the colours that are open
 abbrev pub ink_of : Colours → Ink

@@ -2,11 +2,11 @@
 use Rattle.std.specs.Prelude.{◌≡◌, ℕ, ◌+◌, ◌-◌, ◌≤◌, List, [], ◌∷◌, ◌++◌, take, drop, map, reverse, replicate, length}
 use Rattle.indicatif_text.specs.Columns.{Cell, Blank, Written, Continued}
 use Rattle.indicatif_term.specs.Screen.{with_mark, emptied_glyph, emptied_front}
-use Rattle.indicatif_term.specs.declared.in_memory.cell.CellKind as stored
-use Rattle.indicatif_term.specs.declared.in_memory.cell.CellKind.TheVariants as variants
-use Rattle.indicatif_term.specs.declared.in_memory.marks.CombiningMark.{CombiningMark}
+use Rattle.indicatif_term.specs.declared.cells.cell.CellKind as stored
+use Rattle.indicatif_term.specs.declared.cells.cell.CellKind.TheVariants as variants
+use Rattle.indicatif_term.specs.declared.cells.marks.CombiningMark.{CombiningMark}
 use Rattle.indicatif_term.specs.Inside.Marks.{chain}
-use Rattle.indicatif_term.specs.declared.in_memory.row.Row.TheInside.{Inside}
+use Rattle.indicatif_term.specs.declared.cells.row.Row.TheInside.{Inside}
 
 -- the cell of a stored one, with the place of its last mark in place of its marks
 abbrev pub cell_of : stored.CellKind → Cell

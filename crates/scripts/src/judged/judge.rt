@@ -1,7 +1,7 @@
 //! What must hold of the bytes that were written: rows above stand at each of them.
 use super::record::Size;
 use crate::screen::filled;
-use indicatif_term::in_memory::Cells;
+use indicatif_term::cells::Cells;
 use indicatif_text::columns::Refusal;
 use std::alloc::{AllocError, AllocFailed, Global};
 

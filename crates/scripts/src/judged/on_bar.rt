@@ -5,8 +5,7 @@ use super::record::Size;
 use super::script::{Said, Step};
 use indicatif_bar::lone::LoneBar;
 use indicatif_bar::style::NoTracker;
-use indicatif_term::draw_target::ProgressDrawTarget;
-use indicatif_term::term_like::Resize;
+use indicatif_term::target::{ProgressDrawTarget, Resize};
 use indicatif_text::columns::Refusal;
 use std::alloc::Global;
 

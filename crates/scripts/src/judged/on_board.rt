@@ -5,8 +5,7 @@ use super::script::{Said, Step};
 use indicatif_bar::state::{BarCommand, BarState, ProgressFinish};
 use indicatif_bar::style::{NoTracker, ProgressStyle};
 use indicatif_board::multi::{BarId, Board, Candidate};
-use indicatif_term::draw_target::{MultiProgressAlignment, ProgressDrawTarget};
-use indicatif_term::term_like::Resize;
+use indicatif_term::target::{MultiProgressAlignment, ProgressDrawTarget, Resize};
 use indicatif_text::columns::{Drawn, Refusal};
 use std::alloc::Global;
 

@@ -1,5 +1,5 @@
 //! A writer that keeps its bytes and fails as planned.
-use indicatif_term::term_like::Term;
+use indicatif_term::target::Term;
 use indicatif_text::columns::Refusal;
 use std::alloc::Global;
 use std::cell::{Cell, RefCell};

@@ -5,7 +5,7 @@ use super::LockedBar;
 use crate::plain_lines::PlainLines;
 use crate::shared::any_bar::AnyBar;
 use indicatif_bar::style::Tracks;
-use indicatif_term::term_like::TermLike;
+use indicatif_term::target::TermLike;
 use indicatif_text::columns::{Clock, Refusal};
 use std::sync::Wait;
 

@@ -3,8 +3,8 @@ use Rattle.std.specs.Prelude.{IsTrue}
 use Rattle.std.proofs.lemmas.Bool.{false≢true}
 use Rattle.indicatif_term.specs.Calls.{TermView, is_told}
 use Rattle.indicatif_term.specs.OwnRows.{inner, rows_view}
-use Rattle.indicatif_term.specs.declared.own_rows.Rows.{Rows}
-use Rattle.indicatif_term.specs.declared.own_rows.Rows.TheVariants.{Left, Ended}
+use Rattle.indicatif_term.specs.declared.target.own_rows.Rows.{Rows}
+use Rattle.indicatif_term.specs.declared.target.own_rows.Rows.TheVariants.{Left, Ended}
 use Rattle.indicatif_term.proofs.laws.what_own_rows_tell.Goals as goal
 
 told_rows : {T : Type 0} (view : T → TermView) (rows : Rows T) → IsTrue (is_told (rows_view view rows).told) → rows_view view rows ≡ view (inner rows)

@@ -4,7 +4,7 @@ use Rattle.indicatif_term.specs.Engines.{engine_term}
 use Rattle.indicatif_term.specs.Frames.{bar_lines}
 use Rattle.indicatif_term.specs.Lists.{drawn, fate, kept_of, logged, opening_lists}
 use Rattle.indicatif_term.specs.Screen.{blank_screen}
-use Rattle.indicatif_term.specs.declared.counts.Keep.TheVariants.{Behind}
+use Rattle.indicatif_term.specs.declared.engine.counts.Keep.TheVariants.{Behind}
 use Rattle.uses.proofs.EngineLemmas.{both_behind, both_plain, end_read, first_below_plain, first_plain, lists_at_end, lists_of_both, lists_of_first, lists_of_second, logged_sound, name, second_plain, stands_kept, stands_led, stands_new, stands_read}
 use Rattle.uses.proofs.engines.rows_of_gone_bars.Goals as goal
 

@@ -1,0 +1,7 @@
+use Rattle.std.proofs.Common.{take}
+use Rattle.indicatif_term.specs.Standing.{texts}
+use Rattle.indicatif_term.specs.Inside.Recutting.{HasMore, cut_lines}
+use Rattle.indicatif_term.proofs.engine.recutting.CutLines.add_lines.Given as goal
+
+abbrev pub invariant-loop-line : goal.invariant-loop-line
+invariant-loop-line l = HasMore l.fn.self l.self (cut_lines l.widths.from l.widths.to (texts (take l.line-index l.lines)))

@@ -1,6 +1,0 @@
-use Rattle.indicatif_term.specs.Calls.{DOWN}
-use Rattle.indicatif_term.proofs.MemoryLemmas.{stays_put}
-use Rattle.indicatif_term.proofs.in_memory.InMemoryTermTermLike.move_cursor_down.Goals as goal
-
-pub returns-then-n-eq0-clause-writes : goal.returns-then-n-eq0-clause-writes
-returns-then-n-eq0-clause-writes c = stays_put c.args.self.now DOWN c.args.n c.if-n-eq0.true

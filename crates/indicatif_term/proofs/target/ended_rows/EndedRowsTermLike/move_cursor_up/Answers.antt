@@ -1,0 +1,27 @@
+use Rattle.std.proofs.Common.{refl}
+use Rattle.indicatif_term.specs.EndedRows.{Together}
+use Rattle.indicatif_term.specs.Calls.{move_bytes}
+use Rattle.indicatif_term.proofs.OwnRowsLemmas.{writes_quietly}
+use Rattle.indicatif_term.proofs.EndedRowLemmas.{carry_weaker, fall_fails, then_carries}
+use Rattle.indicatif_term.proofs.EndedTurnLemmas.{within_together}
+use Rattle.indicatif_term.proofs.EndedTextLemmas.{draws_by, draws_not}
+use Rattle.indicatif_term.proofs.target.ended_rows.EndedRowsTermLike.move_cursor_up.Goals as goal
+
+pub returns-in_err-begin : goal.returns-in_err-begin
+returns-in_err-begin g c =
+    let view = g.T.TermLike.view in
+    let r = c.from_residual.result in
+    record {
+      writes = writes_quietly _ r (fall_fails view {Q' = Together view} {g = λ s. s} r c.from_residual.ensures.1 c.in_err-begin.ensures).carries.quiet;
+      draws = draws_not view r _ c.from_residual.ensures.1 c.in_err-begin.ensures;
+    }
+
+pub returns : goal.returns
+returns g c =
+    let view = g.T.TermLike.view in
+    let r = c.go_up.result in
+    let all = then_carries view r c.in_ok-begin.ensures c.go_up.ensures in
+    record {
+      writes = writes_quietly _ r all.quiet;
+      draws = draws_by view r (move_bytes 0x41 c.args.n) (carry_weaker view r (λ s m m' x y. within_together view y) all) (λ s m x. refl);
+    }

@@ -1,0 +1,297 @@
+//! The lines of a drawing in the place of those that stand: each stays, is edited, or is written as a whole.
+ghost use Rattle.std.specs.Prelude.{length, ◌≡◌, ◌==◌, ◌&&◌, ◌+◌, ◌-◌, ◌≤◌, ◌++◌, ◌∷◌, [], ℕ, List, string_bytes, MatchResult};
+ghost use Rattle.std.specs.IoError.{error_kind};
+ghost use Rattle.indicatif_term.specs.Calls.{Writes, LeadsOn, BreaksOff, DOWN, RIGHT, move_bytes};
+ghost use Rattle.indicatif_term.specs.Inside.Changes.{PlacedLine, placed_height, changed_bytes, step_bytes, step_down, walk_bytes, walk_down, frame_bytes, filled_whole, ending, last_bytes, all_stay, stays, rows_below, rewrite_bytes, free_behind, change_bytes};
+ghost use Rattle.indicatif_term.specs.Inside.Edits.{row_bytes};
+ghost use Rattle.indicatif_term.specs.Inside.Parting.{HasPart, IsReady, part_edits};
+ghost use Rattle.indicatif_term.specs.Inside.Fills.{last_of};
+ghost use Rattle.indicatif_term.specs.Inside.Places.{IsWithin};
+ghost use Rattle.indicatif_term.specs.Standing.{placed_of, placed, AreReady};
+
+use crate::engine::beside::{Room, height_of};
+use crate::engine::inks::{Colours, Reading};
+use crate::engine::last_char::{ends_plainly, last_char};
+use crate::engine::painting::{empty_down, go_down, go_up, put_below, put_spaces, take_back_rows};
+use crate::engine::parting::{Part, Step};
+use crate::engine::remembered::StandingLine;
+use crate::engine::row_edits::{Rest, go_right, write_row};
+use crate::target::term_like::TermLike;
+use std::io;
+
+/// The lines of a drawing beside the rows that they replace: those that stand in the first of these, up to a last one; how many of
+/// the rows are free then; and the lines below them.
+#[derive(Clone, Copy)]
+struct Changes<'a> {
+    front: &'a [StandingLine],
+    last: &'a StandingLine,
+    free: usize,
+    more: &'a [StandingLine],
+}
+
+/// Writes those of the lines that do not stay, of which some stand in the rows that they replace and leave some of these.
+pub fn write_in_room<T: TermLike>(
+    term: &mut T,
+    lines: &[StandingLine],
+    room: Room,
+    width: usize,
+) -> io::Result<()>
+    requires room { (rows : ℕ) × IsWithin lines.now rows room × (rows ≤ 65535) }
+    requires ready { AreReady lines.now }
+    ensures { (front : List PlacedLine) (last : PlacedLine) (more : List PlacedLine) → placed lines.now ≡ front ++ last ∷ more → length front + 1 ≡ room.lines →
+        Writes (change_bytes width room.free front last more) (T.view term.old) (T.view term.new) result }
+{
+    let before = room.lines - 1;
+    let changes = Changes {
+        front: &lines[..before],
+        last: &lines[before],
+        free: room.free,
+        more: &lines[room.lines..],
+    };
+    write_changes(term, &changes, width)
+}
+
+/// Writes the lines that do not stay, where the cursor is at the end of the last of the rows that they replace, and brings it to the
+/// end of the last of theirs; nothing where all stay and no row is free.
+fn write_changes<T: TermLike>(term: &mut T, changes: &Changes<'_>, width: usize) -> io::Result<()>
+    requires small { placed_height (placed changes.now.front.now) + changes.now.last.now.rows + changes.now.free ≤ 65535 }
+    requires front { AreReady changes.now.front.now }
+    requires last { AreReady (changes.now.last.now ∷ []) }
+    ensures { Writes (change_bytes width changes.now.free (placed changes.now.front.now) (placed_of changes.now.last.now) (placed changes.now.more.now)) (T.view term.old) (T.view term.new) result }
+{
+    rewrite(term, changes, width)?;
+    put_below(term, changes.more, fill_behind(changes.more, width))?;
+    term.flush()
+}
+
+/// How many columns are free behind the last of these lines; 0 where there is none.
+fn fill_behind(lines: &[StandingLine], width: usize) -> usize
+    ensures { result ≡ free_behind width (last_of (placed lines.now)) }
+{
+    let count = lines.len();
+    if count == 0 {
+        return 0;
+    }
+    width.saturating_sub(lines[count - 1].last)
+}
+
+/// The lines in the first of the rows: the rows below them are taken back, and those that do not stay are written.
+fn rewrite<T: TermLike>(term: &mut T, changes: &Changes<'_>, width: usize) -> io::Result<()>
+    requires small { placed_height (placed changes.now.front.now) + changes.now.last.now.rows + changes.now.free ≤ 65535 }
+    requires front { AreReady changes.now.front.now }
+    requires last { AreReady (changes.now.last.now ∷ []) }
+    ensures { Writes (rewrite_bytes width changes.now.free (placed changes.now.front.now) (placed_of changes.now.last.now)) (T.view term.old) (T.view term.new) result }
+{
+    if is_nothing(changes) {
+        return Ok(());
+    }
+    take_back_rows(term, changes.free)?;
+    write_among(term, changes, width)
+}
+
+/// Whether nothing is to be written of the lines in the first of the rows: all stay, and no row is free.
+fn is_nothing(changes: &Changes<'_>) -> bool
+    ensures { result ≡ ((changes.now.free == 0) && all_stay (placed changes.now.front.now ++ placed_of changes.now.last.now ∷ [])) }
+{
+    changes.free == 0 && all_with_last(changes.front, changes.last)
+}
+
+/// Whether these lines and the last one stay.
+fn all_with_last(front: &[StandingLine], last: &StandingLine) -> bool
+    ensures { result ≡ all_stay (placed front.now ++ placed_of last.now ∷ []) }
+{
+    all_standing(front) && is_left(last)
+}
+
+/// Whether all lines stay.
+fn all_standing(lines: &[StandingLine]) -> bool
+    ensures { result ≡ all_stay (placed lines.now) }
+{
+    for line in lines {
+        if !is_left(line) {
+            return false;
+        }
+    }
+    true
+}
+
+/// Up to the first of the lines, down through them, and the last.
+fn write_among<T: TermLike>(term: &mut T, changes: &Changes<'_>, width: usize) -> io::Result<()>
+    requires small { placed_height (placed changes.now.front.now) + changes.now.last.now.rows + changes.now.free ≤ 65535 }
+    requires front { AreReady changes.now.front.now }
+    requires last { AreReady (changes.now.last.now ∷ []) }
+    ensures { Writes (frame_bytes (rows_below changes.now.free) (placed changes.now.front.now ++ ending width (placed_of changes.now.last.now) ∷ [])) (T.view term.old) (T.view term.new) result }
+{
+    let rows = height_of(changes.front) + changes.last.rows;
+    go_up(term, rows.saturating_sub(1) + one_below(changes.free))?;
+    let down = walk(term, changes.front)?;
+    write_last(term, down, changes.last, width)
+}
+
+/// Whether a line stays.
+fn is_left(line: &StandingLine) -> bool
+    ensures { result ≡ stays (placed_of line.now).change }
+{
+    match line.step {
+        Step::Leave => true,
+        Step::Within(_) => false,
+        Step::Whole => false,
+    }
+}
+
+/// How far the cursor is below rows, where so many below them were taken back.
+fn one_below(taken: usize) -> usize
+    ensures { result ≡ rows_below taken }
+{
+    if taken == 0 { 0 } else { 1 }
+}
+
+/// Down through lines; how far the cursor is above the row below them then.
+fn walk<T: TermLike>(term: &mut T, lines: &[StandingLine]) -> io::Result<usize>
+    requires small { placed_height (placed lines.now) ≤ 65535 }
+    requires ready { AreReady lines.now }
+    ensures { MatchResult result
+        (λ down. LeadsOn (walk_bytes 0 (placed lines.now)) (T.view term.old) (T.view term.new) × (down ≡ walk_down 0 (placed lines.now)))
+        (λ e. BreaksOff (walk_bytes 0 (placed lines.now)) (error_kind e) (T.view term.old) (T.view term.new)) }
+{
+    let mut down = 0;
+    for line in lines {
+        down = pass(term, down, line)?;
+    }
+    Ok(down)
+}
+
+/// One line, from so many rows above it; how far the cursor is above the row below it then.
+fn pass<T: TermLike>(term: &mut T, down: usize, line: &StandingLine) -> io::Result<usize>
+    requires small { down + line.now.rows ≤ 65536 }
+    requires ready { IsReady line.now.step (string_bytes line.now.before) (string_bytes line.now.text) }
+    ensures { MatchResult result
+        (λ next. LeadsOn (step_bytes (placed_of line.now).change down line.now.rows (string_bytes line.now.text)) (T.view term.old) (T.view term.new)
+        × (next ≡ step_down (placed_of line.now).change down line.now.rows))
+        (λ e. BreaksOff (step_bytes (placed_of line.now).change down line.now.rows (string_bytes line.now.text)) (error_kind e) (T.view term.old) (T.view term.new)) }
+{
+    match line.step {
+        Step::Leave => Ok(down + line.rows),
+        Step::Within(part) => {
+            write_part(term, down, line, part)?;
+            Ok(1)
+        }
+        Step::Whole => {
+            write_changed(term, down, line)?;
+            Ok(1)
+        }
+    }
+}
+
+/// Down to the last row of a line, and a part of that.
+fn write_part<T: TermLike>(
+    term: &mut T,
+    down: usize,
+    line: &StandingLine,
+    part: Part,
+) -> io::Result<()>
+    requires small { down + line.now.rows ≤ 65536 }
+    requires part { HasPart part (string_bytes line.now.before) (string_bytes line.now.text) }
+    ensures { Writes (move_bytes DOWN (down + line.now.rows - 1) ++ row_bytes part.gap (part_edits part (string_bytes line.now.before) (string_bytes line.now.text)))
+        (T.view term.old) (T.view term.new) result }
+{
+    let far = down + line.rows;
+    go_down(term, far.saturating_sub(1))?;
+    let ink = Colours {
+        base: "",
+        group: "",
+    };
+    let rest = Rest {
+        old: Reading {
+            text: &line.before[part.from..],
+            ink,
+        },
+        new: Reading {
+            text: &line.text[part.from..],
+            ink,
+        },
+        left: part.left,
+        gap: part.gap,
+        ink,
+    };
+    write_row(term, rest, part.waits)
+}
+
+/// So many rows down; the rows of a line emptied, and the line.
+fn write_changed<T: TermLike>(term: &mut T, down: usize, line: &StandingLine) -> io::Result<()>
+    ensures { Writes (changed_bytes down line.now.rows (placed_of line.now).line) (T.view term.old) (T.view term.new) result }
+{
+    go_down(term, down)?;
+    let more = line.rows.saturating_sub(1);
+    empty_down(term, more)?;
+    go_up(term, more)?;
+    term.write_str(&line.text)
+}
+
+/// The last line, from so many rows above it, with the cursor behind the end of its row then.
+fn write_last<T: TermLike>(
+    term: &mut T,
+    down: usize,
+    line: &StandingLine,
+    width: usize,
+) -> io::Result<()>
+    requires small { down + line.now.rows ≤ 65536 }
+    requires ready { IsReady line.now.step (string_bytes line.now.before) (string_bytes line.now.text) }
+    ensures { Writes (last_bytes width down (placed_of line.now)) (T.view term.old) (T.view term.new) result }
+{
+    match line.step {
+        Step::Leave => write_left(term, down, line, width),
+        Step::Within(part) => {
+            if part.waits {
+                write_part(term, down, line, part)
+            } else {
+                write_filled(term, down, line, width)
+            }
+        }
+        Step::Whole => write_filled(term, down, line, width),
+    }
+}
+
+/// A line as a whole, with the spaces that fill its last row.
+fn write_filled<T: TermLike>(
+    term: &mut T,
+    down: usize,
+    line: &StandingLine,
+    width: usize,
+) -> io::Result<()>
+    ensures { Writes (changed_bytes down line.now.rows (filled_whole width (placed_of line.now)).line) (T.view term.old) (T.view term.new) result }
+{
+    write_changed(term, down, line)?;
+    put_spaces(term, width.saturating_sub(line.last))
+}
+
+/// A line that stays: its last column again, if that is free or shows plain ASCII; else the line.
+fn write_left<T: TermLike>(
+    term: &mut T,
+    down: usize,
+    line: &StandingLine,
+    width: usize,
+) -> io::Result<()>
+    requires small { down + line.now.rows ≤ 65536 }
+    requires stays { line.now.step ≡ Step.Leave }
+    ensures { Writes (last_bytes width down (placed_of line.now)) (T.view term.old) (T.view term.new) result }
+{
+    let far = down + line.rows;
+    if line.last < width {
+        return write_end(term, far.saturating_sub(1), " ", width);
+    }
+    if ends_plainly(&line.text) {
+        return write_end(term, far.saturating_sub(1), last_char(&line.text), width);
+    }
+    write_filled(term, down, line, width)
+}
+
+/// So many rows down, and a character into the last column.
+fn write_end<T: TermLike>(term: &mut T, down: usize, text: &str, width: usize) -> io::Result<()>
+    ensures { Writes (move_bytes DOWN down ++ ((0x0D ∷ []) ++ (move_bytes RIGHT (width - 1) ++ text.now))) (T.view term.old) (T.view term.new) result }
+{
+    go_down(term, down)?;
+    term.write_str("\r")?;
+    go_right(term, width.saturating_sub(1))?;
+    term.write_str(text)
+}

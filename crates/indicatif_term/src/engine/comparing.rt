@@ -1,0 +1,104 @@
+//! A line that stands beside the one that is to stand there.
+ghost use Rattle.std.specs.Prelude.{◌≡◌, ◌≤◌, length, chars, IfSome, IsTrue, IsFalse, string_bytes};
+ghost use Rattle.indicatif_text.specs.Columns.{has_wide, rows_of, last_columns};
+ghost use Rattle.indicatif_term.specs.Standing.{IsLine};
+ghost use Rattle.indicatif_term.specs.Inside.Edits.{AreSingle};
+ghost use Rattle.indicatif_term.specs.Inside.Parting.{Parted, IsTurned};
+
+use crate::engine::layout::metrics_of;
+use crate::engine::parting::{Part, Row, Step, is_narrow_text, parting};
+use crate::engine::remembered::StandingLine;
+use crate::engine::window::Window;
+
+/// How often a line is edited at most before it is written as a whole, so that nothing that somebody else wrote into its row stays there.
+const MOST_EDITS: usize = 99;
+
+/// What becomes of a line where another comes in its place: how many columns that takes of its last row, whether each of its
+/// characters takes one, and how often the line in that place was edited since it was written as a whole.
+#[derive(Clone, Copy, Drop)]
+pub struct Turn {
+    pub step: Step,
+    pub last: usize,
+    pub narrow: bool,
+    pub edits: usize,
+}
+
+/// What becomes of a line that stands where another text comes in its place, if that has as many rows. Only lines of one row whose
+/// visible characters take one column each are edited, and aren't measured; so a terminal that takes a character for wider or narrower
+/// shows its lines whole. Each hundredth of the changes of a line writes it as a whole, too. Where the cursor is to wait, edits leave it
+/// behind the end of the row.
+pub fn compare(line: &StandingLine, text: &str, window: Window, waits: bool) -> Option<Turn>
+    requires line { IsLine window.columns line.now }
+    ensures rows { IfSome result (λ t. line.now.rows ≡ length (rows_of window.columns (chars text.now))) }
+    ensures last { IfSome result (λ t. t.last ≡ last_columns window.columns (chars text.now)) }
+    ensures narrow { IfSome result (λ t. IsFalse (has_wide window.columns (chars text.now))) }
+    ensures single { IfSome result (λ t. IsTrue t.narrow → AreSingle (chars text.now)) }
+    ensures turned { IfSome result (λ t. IsTurned window.columns t.step (string_bytes line.now.text) text.now) }
+{
+    match part_of(line, text, window, waits) {
+        Some(part) => Some(Turn {
+            step: Step::Within(part),
+            last: part.last,
+            narrow: line.narrow,
+            edits: line.edits.saturating_add(1),
+        }),
+        None => measure(line, text, window),
+    }
+}
+
+/// The part of a line that is written, if it was edited less than so often. Only lines of one row are looked at. A line that was cut to
+/// another size has no colours in its text, while its cells may have some: so of lines that aren't known to be narrow only those with
+/// colours are edited.
+fn part_of(line: &StandingLine, text: &str, window: Window, waits: bool) -> Option<Part>
+    requires line { IsLine window.columns line.now }
+    ensures small { IfSome result (λ p. window.columns ≤ 65535) }
+    ensures parted { IfSome result (λ p. (line.now.rows ≡ 1) × Parted window.columns waits line.now.narrow (string_bytes line.now.text) text.now p) }
+{
+    if line.rows != 1 || line.edits >= MOST_EDITS || window.columns > 65535 {
+        return None;
+    }
+    let stands = line.text.as_bytes();
+    if !begin_or_end_alike(stands, text.as_bytes()) {
+        return None;
+    }
+    if !line.narrow && !stands.contains(&0x1B) {
+        return None;
+    }
+    let row = Row {
+        text: line.text.as_str(),
+        last: line.last,
+        narrow: line.narrow,
+    };
+    parting(row, text, window.columns, waits)
+}
+
+/// Whether two texts are short, or begin with the same byte, or end with it. Of others mostly each character differs, so that the line
+/// takes fewer calls, and hardly more bytes, as a whole.
+fn begin_or_end_alike(a: &[u8], b: &[u8]) -> bool {
+    let own = a.len();
+    let other = b.len();
+    if own < 8 || other < 8 {
+        return true;
+    }
+    a[0] == b[0] || a[own - 1] == b[other - 1]
+}
+
+/// The same of a line that is written as a whole.
+fn measure(line: &StandingLine, text: &str, window: Window) -> Option<Turn>
+    ensures rows { IfSome result (λ t. line.now.rows ≡ length (rows_of window.columns (chars text.now))) }
+    ensures last { IfSome result (λ t. t.last ≡ last_columns window.columns (chars text.now)) }
+    ensures narrow { IfSome result (λ t. IsFalse (has_wide window.columns (chars text.now))) }
+    ensures single { IfSome result (λ t. IsTrue t.narrow → AreSingle (chars text.now)) }
+    ensures whole { IfSome result (λ t. t.step ≡ Step.Whole) }
+{
+    let metrics = metrics_of(text, window).ok()?;
+    if metrics.height != line.rows {
+        return None;
+    }
+    Some(Turn {
+        step: Step::Whole,
+        last: metrics.last_line_width,
+        narrow: is_narrow_text(text),
+        edits: 0,
+    })
+}

@@ -1,0 +1,224 @@
+//! Lines that are cut anew where a terminal gets another width: each of their rows becomes lines of one row.
+ghost use Rattle.std.specs.Prelude.{◌≡◌, ◌<◌, ◌≤◌, ◌∷◌, ◌++◌, [], true, map, filter, length, take, string_bytes, IfOk, IfErr, OnOk};
+ghost use Rattle.std.specs.List.{list_all};
+ghost use Rattle.indicatif_text.specs.Columns.{columns_in};
+ghost use Rattle.indicatif_term.specs.Resizes.{has_place};
+ghost use Rattle.indicatif_term.specs.Standing.{texts, IsLine, AreLines};
+ghost use Rattle.indicatif_term.specs.Inside.Recutting.{is_space, without_spaces, fitting_count, new_pieces, cut_pieces, cut_line, cut_lines, shown_line, shown_lines, row_line, HasMore};
+
+use crate::engine::marked::{MarkedChar, marked_chars};
+use crate::engine::parting::Step;
+use crate::engine::remembered::{Remembered, StandingLine};
+use indicatif_text::columns::Refusal;
+use std::alloc::Global;
+
+/// From how many columns to how many a terminal goes.
+#[derive(Clone, Copy, Drop)]
+pub struct Widths {
+    pub from: usize,
+    pub to: usize,
+}
+
+/// Lines of one row each, and how many of them each row became that they were cut from.
+#[derive(Drop)]
+pub struct CutLines {
+    pub lines: Vec<StandingLine>,
+    pub heights: Vec<usize>,
+}
+
+impl CutLines {
+    /// No lines.
+    pub fn none(alloc: Global) -> CutLines
+        ensures lines { result.lines.items ≡ [] }
+        ensures heights { result.heights.items ≡ [] }
+    {
+        CutLines {
+            lines: Vec::new(alloc),
+            heights: Vec::new(alloc),
+        }
+    }
+
+    /// Cuts these lines too. Refused: `Memory`.
+    pub fn add_lines(
+        &mut self,
+        alloc: Global,
+        lines: &[StandingLine],
+        widths: Widths,
+    ) -> Result<(), Refusal>
+        requires standing { AreLines widths.from lines.now }
+        ensures added { OnOk result (HasMore self.old self.new (cut_lines widths.from widths.to (texts lines.now))) }
+        ensures memory { IfErr result (λ e. e ≡ Refusal.Memory) }
+    {
+        for line in lines {
+            self.add_line(alloc, line, widths)?;
+        }
+        Ok(())
+    }
+
+    /// Cuts one more line. Refused: `Memory`.
+    fn add_line(
+        &mut self,
+        alloc: Global,
+        line: &StandingLine,
+        widths: Widths,
+    ) -> Result<(), Refusal>
+        requires standing { IsLine widths.from line.now }
+        ensures added { OnOk result (HasMore self.old self.new (cut_line widths.from widths.to (string_bytes line.now.text))) }
+        ensures memory { IfErr result (λ e. e ≡ Refusal.Memory) }
+    {
+        let glyphs = marked_chars(alloc, &line.text)?;
+        self.add_rows(alloc, &glyphs, widths)
+    }
+
+    /// Cuts the rows of a line. Refused: `Memory`.
+    fn add_rows(
+        &mut self,
+        alloc: Global,
+        glyphs: &[MarkedChar],
+        widths: Widths,
+    ) -> Result<(), Refusal>
+        requires placed { list_all (has_place widths.from) glyphs.now ≡ true }
+        ensures added { OnOk result (HasMore self.old self.new (cut_pieces widths.from widths.to glyphs.now)) }
+        ensures memory { IfErr result (λ e. e ≡ Refusal.Memory) }
+    {
+        let mut at = self.add_first_row(alloc, glyphs, widths)?;
+        while at < glyphs.len() {
+            let next = self.add_first_row(alloc, &glyphs[at..], widths)?;
+            at += next;
+        }
+        Ok(())
+    }
+
+    /// Cuts the first row of glyphs, and says how many of them that has. Refused: `Memory`.
+    fn add_first_row(
+        &mut self,
+        alloc: Global,
+        glyphs: &[MarkedChar],
+        widths: Widths,
+    ) -> Result<usize, Refusal>
+        ensures count { IfOk result (λ n. n ≡ fitting_count widths.from 0 glyphs.now) }
+        ensures within { IfOk result (λ n. n ≤ length glyphs.now) }
+        ensures added { IfOk result (λ n. HasMore self.old self.new (new_pieces widths.to (take n glyphs.now) ∷ [])) }
+        ensures memory { IfErr result (λ e. e ≡ Refusal.Memory) }
+    {
+        let count = fitting_count(glyphs, widths.from);
+        let before = self.lines.len();
+        cut_row(alloc, &mut self.lines, &glyphs[..count], widths.to)?;
+        self.heights.push(self.lines.len() - before)?;
+        Ok(count)
+    }
+}
+
+impl Remembered {
+    ghost use Rattle.indicatif_term.specs.Inside.Recutting.{IsShownCut};
+
+    /// Its lines, each row of theirs cut anew; none where those of that width aren't remembered. Refused: `Memory`.
+    pub fn cut(&self, alloc: Global, widths: Widths) -> Result<CutLines, Refusal>
+        ensures cut { IfOk result (λ c. IsShownCut widths.from widths.to self.now c) }
+        ensures memory { IfErr result (λ e. e ≡ Refusal.Memory) }
+    {
+        if widths.from == 0 || self.width != widths.from {
+            return Ok(CutLines::none(alloc));
+        }
+        let mut cut = CutLines::none(alloc);
+        cut.add_lines(alloc, self.lines.as_slice(), widths)?;
+        Ok(cut)
+    }
+}
+
+/// The lines of one row that a row becomes. Refused: `Memory`.
+fn cut_row(
+    alloc: Global,
+    lines: &mut Vec<StandingLine>,
+    row: &[MarkedChar],
+    width: usize,
+) -> Result<(), Refusal>
+    ensures cut { OnOk result (shown_lines lines.new.items ≡ shown_lines lines.old.items ++ map row_line (new_pieces width row.now)) }
+    ensures memory { IfErr result (λ e. e ≡ Refusal.Memory) }
+{
+    let used = &row[..used_count(row)];
+    let mut at = push_piece(alloc, lines, used, width)?;
+    while at < used.len() {
+        let next = push_piece(alloc, lines, &used[at..], width)?;
+        at += next;
+    }
+    Ok(())
+}
+
+/// One more line, of as many glyphs from the front as go into a row; and how many they are. Refused: `Memory`.
+fn push_piece(
+    alloc: Global,
+    lines: &mut Vec<StandingLine>,
+    glyphs: &[MarkedChar],
+    width: usize,
+) -> Result<usize, Refusal>
+    ensures count { IfOk result (λ n. n ≡ fitting_count width 0 glyphs.now) }
+    ensures within { IfOk result (λ n. n ≤ length glyphs.now) }
+    ensures pushed { IfOk result (λ n. shown_lines lines.new.items ≡ shown_lines lines.old.items ++ row_line (filter (has_place width) (take n glyphs.now)) ∷ []) }
+    ensures memory { IfErr result (λ e. e ≡ Refusal.Memory) }
+{
+    let count = fitting_count(glyphs, width);
+    let line = line_of(alloc, &glyphs[..count], width)?;
+    lines.push(line)?;
+    Ok(count)
+}
+
+/// The line of one row that has those of the glyphs for which a row has place. Refused: `Memory`.
+fn line_of(alloc: Global, glyphs: &[MarkedChar], width: usize) -> Result<StandingLine, Refusal>
+    requires fits { columns_in (filter (has_place width) glyphs.now) ≤ width }
+    ensures line { IfOk result (λ l. shown_line l ≡ row_line (filter (has_place width) glyphs.now)) }
+    ensures memory { IfErr result (λ e. e ≡ Refusal.Memory) }
+{
+    let mut text = String::new(alloc);
+    let mut last = 0_usize;
+    for glyph in glyphs {
+        if glyph.has_place(width) {
+            glyph.push_onto(&mut text)?;
+            last += glyph.columns();
+        }
+    }
+    Ok(StandingLine {
+        text,
+        before: String::new(alloc),
+        rows: 1,
+        last,
+        narrow: false,
+        edits: 0,
+        step: Step::Whole,
+        like: None,
+    })
+}
+
+/// How many glyphs from the front go into a row; those that no row has place for go along.
+fn fitting_count(glyphs: &[MarkedChar], width: usize) -> usize
+    ensures count { result ≡ fitting_count width 0 glyphs.now }
+    ensures within { result ≤ length glyphs.now }
+{
+    let mut taken = 0_usize;
+    for at in 0..glyphs.len() {
+        let glyph = &glyphs[at];
+        if glyph.has_place(width) {
+            let columns = glyph.columns();
+            if columns > width - taken {
+                return at;
+            }
+            taken += columns;
+        }
+    }
+    glyphs.len()
+}
+
+/// How many glyphs there are up to the last one that is no space.
+fn used_count(row: &[MarkedChar]) -> usize
+    ensures within { result ≤ length row.now }
+    ensures used { take result row.now ≡ without_spaces row.now }
+{
+    let mut used = row.len();
+    while used > 0 {
+        if !row[used - 1].is_space() {
+            return used;
+        }
+        used -= 1;
+    }
+    0
+}

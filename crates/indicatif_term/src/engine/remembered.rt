@@ -1,0 +1,258 @@
+//! The lines that an engine remembers, so that it writes only those that change.
+ghost use Rattle.std.specs.Prelude.{◌≡◌, ◌<◌, ◌≤◌, ◌==◌, ◌++◌, [], ℕ, List, take, drop, length, if◌then◌else◌, IfOk, IfErr};
+ghost use Rattle.indicatif_term.specs.Standing.{AreLines};
+
+use crate::engine::beside::height_of;
+use crate::engine::parting::Step;
+use crate::engine::renewed::{NewLine, put_new};
+use crate::engine::spare::Spare;
+use indicatif_text::columns::Refusal;
+use std::alloc::Global;
+use std::marker::Model;
+use std::mem::replace;
+
+/// A line that stands on a terminal.
+#[derive(Drop)]
+pub struct StandingLine {
+    pub text: String,
+    /// What stood in its place before the drawing that it is of, where a part of it was written.
+    pub before: String,
+    /// Its rows, and how many columns it takes of the last one.
+    pub rows: usize,
+    pub last: usize,
+    /// Whether each of its characters takes one column, as far as that was looked at.
+    pub narrow: bool,
+    /// How often it was edited since it was written whole.
+    pub edits: usize,
+    /// What becomes of it in that drawing.
+    pub step: Step,
+    /// The index of the same line among those that stood before, where that was found.
+    pub like: Option<usize>,
+}
+
+/// Some lines, from one on and up to another.
+#[derive(Clone, Copy, Drop)]
+pub struct Span {
+    pub from: usize,
+    pub to: usize,
+    pub ghost some: { from ≤ to },
+}
+
+/// Lines that stand on a terminal one below another. Contracts see nothing of their room.
+#[derive(Drop)]
+pub struct StandingLines {
+    lines: Vec<StandingLine>,
+}
+
+impl Model for StandingLines {
+    ghost use Rattle.std.specs.Prelude.{List};
+    ghost use Rattle.indicatif_term.specs.declared.engine.remembered.StandingLine.{StandingLine};
+
+    ghost Value = { List StandingLine };
+
+    ghost view = { λ s. s.lines.items };
+}
+
+impl StandingLines {
+    ghost use Rattle.indicatif_term.specs.Standing.{texts};
+    ghost use Rattle.indicatif_term.specs.Inside.Renewed.{AreFitting, AreInPlace, AreOver, renewed};
+
+    /// These.
+    pub fn of(lines: Vec<StandingLine>) -> StandingLines
+        ensures { result ≡ lines.items }
+    {
+        StandingLines { lines }
+    }
+
+    /// All of them.
+    pub fn as_slice(&self) -> &[StandingLine]
+        ensures { result.now ≡ self.now }
+    {
+        &self.lines
+    }
+
+    /// Puts new lines in the place of some of those behind the first ones, the room of which becomes spare; the others stay.
+    pub fn put_new(&mut self, first: usize, spare: &mut Spare, changed: Vec<NewLine>)
+        requires first { first ≤ length self.old }
+        requires within { (w : ℕ) × AreFitting w (drop first self.old) (length (drop first self.old)) changed.items }
+        ensures above { take first self.new ≡ take first self.old }
+        ensures count { length self.new ≡ length self.old }
+        ensures texts { texts (drop first self.new) ≡ renewed (texts (drop first self.old)) changed.items }
+        ensures in_place { (w : ℕ) → AreLines w (drop first self.old) → AreFitting w (drop first self.old) (length (drop first self.old)) changed.items →
+            AreInPlace w (drop first self.old) (drop first self.new) }
+        ensures over { (w : ℕ) → AreFitting w (drop first self.old) (length (drop first self.old)) changed.items →
+            AreOver w (drop first self.old) (drop first self.new) }
+    {
+        put_new(&mut self.lines[first..], spare, changed);
+    }
+
+    /// Puts these below some of the lines; all others become spare. Refused: `Memory`, where there is a line among these. All is
+    /// unchanged then.
+    pub fn put_below(
+        &mut self,
+        spare: &mut Spare,
+        stays: Span,
+        lines: Vec<StandingLine>,
+    ) -> Result<(), Refusal>
+        requires within { stays.to ≤ length self.old }
+        ensures refused { IfErr result (λ e. (e ≡ Refusal.Memory) × (0 < length lines.items) × (self.new ≡ self.old)) }
+        ensures lines { IfOk result (λ _. self.new ≡ drop stays.from (take stays.to self.old) ++ lines.items) }
+    {
+        let mut lines = lines;
+        if self.lines.reserve(lines.len()).is_err() {
+            return Err(Refusal::Memory);
+        }
+        spare.store_behind(&mut self.lines, stays.to);
+        self.lines.rotate_left(stays.from);
+        spare.store_behind(&mut self.lines, stays.to - stays.from);
+        let _ = self.lines.append(&mut lines);
+        spare.store_lines(lines);
+        Ok(())
+    }
+}
+
+/// Lines that stand on a terminal one below another, down to the last row of the last drawing: those of kept rows, as far as they
+/// are remembered, and those of the live ones.
+#[derive(Drop)]
+pub struct Remembered {
+    /// The terminal's columns, or 0 where nothing is remembered.
+    pub width: usize,
+    pub lines: StandingLines,
+    /// How many of the lines, from the front, stand in kept rows.
+    pub kept: usize,
+    pub ghost within: { kept ≤ length lines },
+    pub ghost right: { ∥ (0 < width → AreLines width lines) ∥₁ },
+}
+
+impl Remembered {
+    ghost use Rattle.indicatif_term.specs.Lists.{Lists, kept_of, live_height};
+    ghost use Rattle.indicatif_term.specs.Remembered.{AreRemembered, live_lines};
+    ghost use Rattle.indicatif_term.specs.Inside.Remembering.{StandAbove, IsMarked};
+    ghost use Rattle.indicatif_term.specs.Inside.Renewed.{AreFitting, AreOver, Renews};
+
+    /// Nothing remembered.
+    pub fn nothing(alloc: Global) -> Remembered
+        ensures { result.width ≡ 0 }
+    {
+        Remembered {
+            width: 0,
+            lines: StandingLines::of(Vec::new(alloc)),
+            kept: 0,
+        }
+    }
+
+    /// Lines of which the last ones take so many live rows; nothing is remembered where none do.
+    pub fn of(width: usize, lines: StandingLines, live: usize) -> Remembered
+        requires right { 0 < width → AreLines width lines }
+        requires small { live ≤ 65535 }
+        ensures lines { result.lines ≡ lines }
+        ensures marked { 0 < result.width → IsMarked width live result }
+    {
+        let kept = first_of_last(lines.as_slice(), live);
+        let known = height_of(&lines.as_slice()[kept..]);
+        Remembered {
+            width: width_where(known == live, width),
+            lines,
+            kept,
+        }
+    }
+
+    /// What is still remembered where a bar's rows were kept, so that so many rows are live, on a terminal of so many columns: they
+    /// stand where they stood.
+    pub fn after_keep(self, alloc: Global, width: usize, live: usize) -> Remembered
+        requires small { live ≤ 65535 }
+        ensures { (bar : ℕ) (l : Lists) → live ≡ live_height (kept_of width bar l).live → AreRemembered self l →
+            AreRemembered result (kept_of width bar l) }
+    {
+        if self.width != width {
+            return Remembered::nothing(alloc);
+        }
+        Remembered::of(width, self.lines, live)
+    }
+
+    /// The lines of the live rows.
+    pub fn live(&self) -> &[StandingLine]
+        ensures { result.now ≡ live_lines self.now }
+    {
+        &self.lines.as_slice()[self.kept..]
+    }
+
+    /// The lines of the live rows, if they are those of a terminal of so many columns.
+    pub fn on(&self, width: usize) -> &[StandingLine]
+        ensures lines { result.now ≡ (if self.now.width == width then live_lines self.now else []) }
+        ensures right { 0 < width → AreLines width result.now }
+    {
+        if self.width == width {
+            self.live()
+        } else {
+            &[]
+        }
+    }
+
+    /// The lines that stand in the last so many kept rows of a terminal of so many columns.
+    pub fn above(&self, width: usize, rows: usize) -> Span
+        ensures within { result.to ≤ length self.now.lines }
+        ensures right { 0 < width → AreLines width (drop result.from (take result.to self.now.lines)) }
+        ensures above { (l : Lists) → 0 < width → AreRemembered self.now l →
+            StandAbove width (drop result.from (take result.to self.now.lines)) l }
+    {
+        if self.width != width {
+            return Span { from: 0, to: 0 };
+        }
+        let kept = &self.lines.as_slice()[..self.kept];
+        Span {
+            from: first_of_last(kept, rows),
+            to: self.kept,
+        }
+    }
+
+    /// Puts new lines in the place of live ones, the room of which becomes spare; the others stay.
+    pub fn put_new(&mut self, spare: &mut Spare, changed: Vec<NewLine>)
+        requires known { 0 < self.old.width }
+        requires fit { AreFitting self.old.width (live_lines self.old) (length (live_lines self.old)) changed.items }
+        ensures renews { Renews self.old changed.items self.new }
+        ensures over { AreOver self.old.width (live_lines self.old) (live_lines self.new) }
+    {
+        self.lines.put_new(self.kept, spare, changed);
+    }
+
+    /// Its lines, with these below some of them. Nothing is remembered then. Refused: `Memory`, where there is a line among these.
+    /// All is unchanged then.
+    pub fn take_with(
+        &mut self,
+        spare: &mut Spare,
+        stays: Span,
+        lines: Vec<StandingLine>,
+    ) -> Result<StandingLines, Refusal>
+        requires within { stays.to ≤ length self.old.lines }
+        ensures refused { IfErr result (λ e. (e ≡ Refusal.Memory) × (0 < length lines.items) × (self.new ≡ self.old)) }
+        ensures lines { IfOk result (λ ls. ls ≡ drop stays.from (take stays.to self.old.lines) ++ lines.items) }
+        ensures nothing { IfOk result (λ _. self.new.width ≡ 0) }
+    {
+        self.lines.put_below(spare, stays, lines)?;
+        self.width = 0;
+        self.kept = 0;
+        let none = StandingLines::of(spare.no_lines());
+        Ok(replace(&mut self.lines, none))
+    }
+}
+
+/// A width where something is known, else 0.
+fn width_where(known: bool, width: usize) -> usize
+    ensures { result ≡ (if known then width else 0) }
+{
+    if known { width } else { 0 }
+}
+
+/// The index of the first of the last lines that take at least so many rows together, or 0.
+fn first_of_last(lines: &[StandingLine], rows: usize) -> usize
+    ensures { result ≤ length lines.now }
+{
+    let mut at = lines.len();
+    let mut found = 0_usize;
+    while at > 0 && found < rows {
+        at -= 1;
+        found = found.saturating_add(lines[at].rows);
+    }
+    at
+}

@@ -1,0 +1,206 @@
+//! A part of a row written again, character by character, among cells that stay.
+ghost use Rattle.std.specs.Prelude.{◌≡◌, ◌≤◌, ◌<◌, ◌++◌, ◌==◌, ◌&&◌, not, ℕ, Bool, List, encode_utf8, MatchResult};
+ghost use Rattle.std.specs.IoError.{error_kind};
+ghost use Rattle.indicatif_term.specs.Calls.{Writes, LeadsOn, BreaksOff, RIGHT, move_bytes};
+ghost use Rattle.indicatif_term.specs.Inside.Inks.{NONE, colours_of, in_ink, is_alike, padded};
+ghost use Rattle.indicatif_term.specs.Inside.Edits.{row_bytes, plan, reset_bytes, ink_bytes};
+ghost use Rattle.indicatif_term.specs.Inside.Rests.{HasRoom, ArePlain, ink_of, cells, left_bytes};
+
+use crate::engine::inks::{Colours, RESET, Reading, are_same, first_cell};
+use crate::engine::parting::{PlainParts, plain_split};
+use crate::target::term_like::TermLike;
+use std::io;
+
+/// What is left of a row: the texts that stand there and that are to, how many columns they are to have, how many columns the cursor is
+/// behind, and which colour sequences are open.
+#[derive(Clone, Copy)]
+pub struct Rest<'a> {
+    pub old: Reading<'a>,
+    pub new: Reading<'a>,
+    pub left: usize,
+    pub gap: usize,
+    pub ink: Colours<'a>,
+}
+
+/// To the front of the cursor's row, and over what differs in it.
+pub fn write_row<T: TermLike>(term: &mut T, rest: Rest<'_>, ends: bool) -> io::Result<()>
+    requires room { HasRoom rest }
+    requires none_open { ink_of rest.ink ≡ NONE }
+    ensures { Writes (row_bytes rest.entry.gap (plan ends NONE (padded rest.entry.left (cells rest.entry.old)) (padded rest.entry.left (cells rest.entry.new))))
+        (T.view term.old) (T.view term.new) result }
+{
+    term.write_str("\r")?;
+    write_rest(term, rest, ends)
+}
+
+/// Over what differs in the rest of a row.
+fn write_rest<T: TermLike>(term: &mut T, rest: Rest<'_>, ends: bool) -> io::Result<()>
+    requires room { HasRoom rest }
+    ensures { Writes (left_bytes ends rest.entry) (T.view term.old) (T.view term.new) result }
+{
+    let mut now = rest;
+    'columns: while now.left > 0 {
+        now = write_next(term, now, ends)?;
+    }
+    close(term, now.ink)
+}
+
+/// Over one column, and then those that stay.
+fn write_next<'a, T: TermLike>(term: &mut T, rest: Rest<'a>, ends: bool) -> io::Result<Rest<'a>>
+    requires some { 0 < rest.left }
+    requires room { HasRoom rest }
+    ensures { MatchResult result
+        (λ next. (done : List ℕ) × LeadsOn done (T.view term.old) (T.view term.new) × (done ++ left_bytes ends next ≡ left_bytes ends rest.entry)
+        × (next.left < rest.entry.left) × HasRoom next)
+        (λ e. BreaksOff (left_bytes ends rest.entry) (error_kind e) (T.view term.old) (T.view term.new)) }
+{
+    let (stands, old) = first_cell(rest.old);
+    let (c, new) = first_cell(rest.new);
+    let next = Rest {
+        old,
+        new,
+        left: rest.left - 1,
+        gap: 0,
+        ink: new.ink,
+    };
+    if stays(stands, c, next, ends) {
+        return Ok(skip(Rest {
+            gap: rest.gap + 1,
+            ink: rest.ink,
+            ..next
+        }));
+    }
+    put_cell(term, rest, new.ink, c)?;
+    Ok(next)
+}
+
+/// Whether a cell stays, in front of what is left, where its character is to be that one: it isn't the last one, if that is to be
+/// written.
+fn stays(stands: char, c: char, next: Rest<'_>, ends: bool) -> bool
+    ensures { result ≡ (is_alike (in_ink (ink_of next.entry.old.ink) stands) (in_ink (ink_of next.entry.new.ink) c) && not (ends && (next.entry.left == 0))) }
+{
+    if stands != c || !are_same(next.old.ink, next.new.ink) {
+        return false;
+    }
+    !(ends && next.left == 0)
+}
+
+/// A character in its colours, behind the columns that stay.
+fn put_cell<T: TermLike>(term: &mut T, rest: Rest<'_>, to: Colours<'_>, c: char) -> io::Result<()>
+    ensures { Writes (ink_bytes (ink_of rest.entry.ink) (ink_of to.entry) ++ (move_bytes RIGHT rest.entry.gap ++ encode_utf8 c)) (T.view term.old) (T.view term.new) result }
+{
+    recolour(term, rest.ink, to)?;
+    go_right(term, rest.gap)?;
+    put_char(term, c)
+}
+
+/// From the colour sequences that are open to others.
+fn recolour<T: TermLike>(term: &mut T, ink: Colours<'_>, to: Colours<'_>) -> io::Result<()>
+    ensures { Writes (ink_bytes (ink_of ink.entry) (ink_of to.entry)) (T.view term.old) (T.view term.new) result }
+{
+    if are_same(ink, to) {
+        return Ok(());
+    }
+    close(term, ink)?;
+    put(term, to.base)?;
+    put(term, to.group)
+}
+
+/// Colour sequences; none is no call.
+fn put<T: TermLike>(term: &mut T, sequences: &str) -> io::Result<()>
+    ensures { Writes sequences.now (T.view term.old) (T.view term.new) result }
+{
+    if sequences.is_empty() {
+        return Ok(());
+    }
+    term.write_str(sequences)
+}
+
+/// Closes all colours, if any are open.
+fn close<T: TermLike>(term: &mut T, ink: Colours<'_>) -> io::Result<()>
+    ensures { Writes (reset_bytes (colours_of (ink_of ink.entry))) (T.view term.old) (T.view term.new) result }
+{
+    if ink.base.is_empty() && ink.group.is_empty() {
+        return Ok(());
+    }
+    term.write_str(RESET)
+}
+
+/// Past the columns that both texts begin with alike, up to the last one of the row.
+fn skip<'a>(rest: Rest<'a>) -> Rest<'a>
+    requires room { HasRoom rest }
+    ensures same { (ends : Bool) → left_bytes ends result ≡ left_bytes ends rest.entry }
+    ensures left { result.left ≤ rest.entry.left }
+    ensures room { HasRoom result }
+{
+    if !are_same(rest.old.ink, rest.new.ink) {
+        return rest;
+    }
+    match plain_split(rest.old.text, rest.new.text, false) {
+        Some(parts) => at_end(past(rest, parts)),
+        None => rest,
+    }
+}
+
+/// Past what both texts begin with, if the row has a column behind it.
+fn past<'a>(rest: Rest<'a>, plain: PlainParts<'a>) -> Rest<'a>
+    requires room { HasRoom rest }
+    requires ink { ink_of rest.old.ink ≡ ink_of rest.new.ink }
+    requires plain { ArePlain rest.old.text.now rest.new.text.now plain }
+    ensures same { (ends : Bool) → left_bytes ends result ≡ left_bytes ends rest.entry }
+    ensures left { result.left ≤ rest.entry.left }
+    ensures room { HasRoom result }
+{
+    if plain.count >= rest.left {
+        return rest;
+    }
+    Rest {
+        old: Reading {
+            text: plain.parts.own,
+            ink: rest.old.ink,
+        },
+        new: Reading {
+            text: plain.parts.other,
+            ink: rest.new.ink,
+        },
+        left: rest.left - plain.count,
+        gap: rest.gap + plain.count,
+        ink: rest.ink,
+    }
+}
+
+/// At the last column where both texts end, since all others are free.
+fn at_end<'a>(rest: Rest<'a>) -> Rest<'a>
+    requires room { HasRoom rest }
+    ensures same { (ends : Bool) → left_bytes ends result ≡ left_bytes ends rest.entry }
+    ensures left { result.left ≤ rest.entry.left }
+    ensures room { HasRoom result }
+{
+    if rest.left == 0 || !rest.old.text.is_empty() || !rest.new.text.is_empty() {
+        return rest;
+    }
+    Rest {
+        left: 1,
+        gap: rest.gap + (rest.left - 1),
+        ..rest
+    }
+}
+
+/// A character.
+fn put_char<T: TermLike>(term: &mut T, c: char) -> io::Result<()>
+    ensures { Writes (encode_utf8 c) (T.view term.old) (T.view term.new) result }
+{
+    let mut bytes = [0u8; 4];
+    let text = c.encode_utf8(&mut bytes);
+    term.write_str(text)
+}
+
+/// Right so many columns; none is no call.
+pub fn go_right<T: TermLike>(term: &mut T, columns: usize) -> io::Result<()>
+    ensures { Writes (move_bytes RIGHT columns) (T.view term.old) (T.view term.new) result }
+{
+    if columns == 0 {
+        return Ok(());
+    }
+    term.move_cursor_right(columns)
+}
