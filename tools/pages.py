@@ -347,7 +347,7 @@ def faults_of_porting():
 # Names, links and paths
 
 # names of the Rust crate, of its tests that are left out, and of others
-FOREIGN = set("""progress_bar WithStyle WithElapsed read_vectored write_vectored AsRef contents_formatted on_bright on_123 blink_fast AsyncSeek AsyncBufRead
+FOREIGN = set("""progress_bar in_memory draw_target WithStyle WithElapsed read_vectored write_vectored AsRef contents_formatted on_bright on_123 blink_fast AsyncSeek AsyncBufRead
     par_iter FROM_RUST Grapheme_Extend clock_gettime is_stderr_for_multi test_duration_stuff human_float_count_negative""".split())
 
 
