@@ -1,8 +1,8 @@
 -- Colour sequences: ASCII of which nothing is seen.
-use Rattle.std.proofs.Common.{inl, inr, ◌≡◌, ℕ, zero, suc, ◌<◌, true, ◌&&◌, List, [], ◌∷◌, ◌++◌, length, take, drop, Some, refl, sym, ◌∙◌, ap, subst, arith, append_assoc}
+use Rattle.std.proofs.Common.{inl, inr, ◌≡◌, ℕ, ◌<◌, List, [], ◌++◌, take, drop, refl, sym, ◌∙◌, ap, arith, append_assoc}
 use Rattle.std.specs.Prelude.{◌==◌}
 use Rattle.std.specs.List.{AllByRecursion}
-use Rattle.std.specs.Str.{IsAscii, IsUtf8, bytes_eq, chars}
+use Rattle.std.specs.Str.{IsUtf8, bytes_eq, chars}
 use Rattle.std.proofs.Math.Utf8.{encodes}
 use Rattle.std.proofs.lemmas.Bool.{cases_Bool, and_parts, eqb-true, false≢true}
 use Rattle.std.proofs.lemmas.Slice.Eq.{bytes_eq-Decides}
@@ -10,7 +10,7 @@ use Rattle.std.proofs.lemmas.List.Elements.{All-from_recursion}
 use Rattle.std.proofs.lemmas.Str.{IsAscii-append, chars-IsAscii, encodes-chars, encodes-IsAscii}
 use Rattle.std.proofs.lemmas.Str.Ascii.{IsAscii-nil, IsAscii-from_all}
 use Rattle.std.proofs.Math.Seq.{drop-append_seam}
-use Rattle.indicatif_text.specs.Columns.{visible, colour_length}
+use Rattle.indicatif_text.specs.Columns.{visible}
 use Rattle.indicatif_text.proofs.ColourSequenceLemmas.{hidden, parameter_small}
 use Rattle.indicatif_text.proofs.PieceLawLemmas.{Parameters, Ended, Further, Sequence, Opened, sequence_from, sequence_is, sequence_taken, sequence_before, sequence_length}
 use Rattle.indicatif_term.specs.Inside.Inks.{RESET, AreColours}

@@ -1,5 +1,5 @@
 -- What a text read cell by cell has: its visible characters, and the colours that are open at each.
-use Rattle.std.proofs.Common.{inl, inr, ◌≡◌, ℕ, zero, suc, ◌+◌, ◌-◌, ◌<◌, ◌≤◌, Bool, true, false, ◌&&◌, ◌||◌, not, if◌then◌else◌, List, [], ◌∷◌, ◌++◌, length, map, replicate, take, drop, Option, Some, None, refl, sym, ◌∙◌, ap, subst, arith, length-append, append_assoc, append-nil, chars}
+use Rattle.std.proofs.Common.{inl, inr, ◌≡◌, ℕ, zero, suc, ◌+◌, ◌-◌, ◌<◌, ◌≤◌, Bool, true, false, ◌&&◌, not, if◌then◌else◌, List, [], ◌∷◌, ◌++◌, length, map, replicate, take, drop, Some, None, refl, sym, ◌∙◌, ap, subst, arith, length-append, append_assoc, chars}
 use Rattle.std.specs.Prelude.{◌==◌, flat_map, nat_lt, unwrap_or}
 use Rattle.std.specs.Str.{IsAscii}
 use Rattle.std.proofs.Math.Seq.{drop-append_seam, take-append_seam}
@@ -14,7 +14,7 @@ use Rattle.indicatif_text.specs.Pieces.{TextPiece, Run, Colour, joined_to, piece
 use Rattle.indicatif_text.specs.PieceLaws.{run_text}
 use Rattle.indicatif_text.proofs.PieceLemmas.{first_colour, first_joined, none_left}
 use Rattle.indicatif_text.proofs.PieceLawLemmas.{by_pieces, runs_are_visible}
-use Rattle.indicatif_term.specs.Inside.Inks.{closes, Painted, in_colours, painted_from, colours_behind, painted, Ink, NONE, colours_of, Inked, in_ink, characters, as_painted, begun, read_from, read, is_tidy, IsRead, padded, AreColours}
+use Rattle.indicatif_term.specs.Inside.Inks.{closes, in_colours, painted_from, colours_behind, painted, Ink, NONE, colours_of, Inked, in_ink, characters, as_painted, begun, read_from, read, is_tidy, IsRead, padded, AreColours}
 use Rattle.indicatif_term.proofs.ColourLemmas.{no_colours, more_colours, sequence_colours}
 use Rattle.indicatif_term.proofs.EditLineLemmas.{IsOne}
 use Rattle.indicatif_term.proofs.PartingLemmas.{uncoloured, ones_visible, ones_unescaped}

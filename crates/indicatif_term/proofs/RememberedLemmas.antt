@@ -1,7 +1,7 @@
 -- Lines that are remembered, and new ones beside them.
 use Rattle.std.proofs.Props.{props}
 use Rattle.std.proofs.Math.Logic.{∥∥₁_elim}
-use Rattle.std.proofs.Common.{◌≡◌, ℕ, zero, suc, ◌+◌, ◌-◌, ◌<◌, ◌≤◌, ◌^◌, min, true, false, List, [], ◌∷◌, ◌++◌, length, take, drop, get_or, refl, sym, ◌∙◌, ap, subst, arith, append_assoc, append-nil, length-append, chars, if◌then◌else◌, Option, Some, None, inl, inr}
+use Rattle.std.proofs.Common.{◌≡◌, ℕ, zero, suc, ◌+◌, ◌-◌, ◌<◌, ◌≤◌, ◌^◌, min, Bool, true, false, List, [], ◌∷◌, ◌++◌, length, take, drop, get_or, refl, sym, ◌∙◌, ap, subst, arith, append_assoc, append-nil, length-append, chars, if◌then◌else◌, Option, Some, None, inl, inr}
 use Rattle.std.specs.Prelude.{string_bytes, IfSome, ◌==◌}
 use Rattle.std.proofs.lemmas.Grind.{flat_map-append}
 use Rattle.std.proofs.lemmas.Bool.{cases_Bool, eqb-true}
@@ -138,6 +138,11 @@ remembered_by w live r l front marked whole h = λ p.
     let right : AreLines w (live_lines r) = subst (λ n. AreLines n (live_lines r)) m.width_is (live_right r p) in
     subst (λ n. AreStanding n r l) (sym m.width_is)
     (standing_by w r l front whole (sym (lines_height w (live_lines r) right) ∙ m.height_is ∙ h ∙ sym (length-live w l.live)))
+
+-- lines of which some columns are forgotten
+pub still_right : (w v : ℕ) (known : Bool) (ls : List StandingLine) → v ≡ (if known then w else 0) → ∥ (0 < w → AreLines w ls) ∥₁ → ∥ (0 < v → AreLines v ls) ∥₁
+still_right w v true ls e right = subst (λ n. ∥ (0 < n → AreLines n ls) ∥₁) (sym e) right
+still_right w v false ls e right = ∣ (λ p. absurd (omega (arith, e, p))) ∣₁
 
 -- the mark, where it was found
 pub marked_by : (w live known : ℕ) (r : Remembered) → r.width ≡ (if known == live then w else 0) → known ≡ min (placed_height (placed (live_lines r))) (2 ^ 64 - 1) → live ≤ 65535 →

@@ -17,7 +17,7 @@ use Rattle.indicatif_term.specs.Inside.Plans.{IsLaidOut, frame_lines}
 use Rattle.indicatif_term.specs.Inside.Edits.{AreSingle}
 use Rattle.indicatif_term.specs.Inside.Parting.{IsTurned, IsReady, change_of, waits_of}
 use Rattle.indicatif_term.specs.declared.engine.parting.Step.TheVariants.{Leave}
-use Rattle.indicatif_term.specs.Inside.Changes.{PlacedLine, placed_height, Becomes, Ends, AreSitting, all_stay, change_bytes}
+use Rattle.indicatif_term.specs.Inside.Changes.{PlacedLine, placed_height, Becomes, Ends, AreSitting, change_bytes}
 use Rattle.indicatif_term.specs.Inside.Places.{IsWithin}
 use Rattle.indicatif_term.specs.Inside.Renewed.{IsNew, ComesIn, heights, FitsIn, AreFitting, AreFittingFrom, renewed, AreInPlace, IsOver, AreOver, Renews, AreCompared, IsSettled, IsRenewed}
 use Rattle.indicatif_term.specs.declared.engine.beside.Room.{Room}
@@ -504,51 +504,6 @@ split_last (p ∷ x ∷ ps) h = let r = split_last (x ∷ ps) (omega arith) in (
 
 pub last_of_all : (ls : List StandingLine) (front : List PlacedLine) (last : PlacedLine) → placed ls ≡ front ++ last ∷ [] → length front + 1 ≡ length ls
 last_of_all ls front last s = sym (length-append front (last ∷ [])) ∙ ap length (sym s) ∙ length-map ls placed_of
-
--- ---- lines that all stay
-
-abbrev all_left : List StandingLine → List StandingLine
-all_left ls = map (λ (l : StandingLine). record l { step = Leave }) ls
-
-left_texts : (ls : List StandingLine) → texts (all_left ls) ≡ texts ls
-left_texts [] = refl
-left_texts (l ∷ ls) = ap (λ xs. string_bytes l.text ∷ xs) (left_texts ls)
-
-left_right : (w : ℕ) (ls : List StandingLine) → AreLines w ls → AreLines w (all_left ls)
-left_right w [] a = tt
-left_right w (l ∷ ls) a = (record { rows_are = a.0.rows_are; last_is = a.0.last_is; narrow = a.0.narrow; single = a.0.single }, left_right w ls a.1)
-
-all_leave : (ls : List StandingLine) → AllByRecursion IsLeft (all_left ls)
-all_leave [] = tt
-all_leave (l ∷ ls) = (refl, all_leave ls)
-
-left_stay : (ls : List StandingLine) → all_stay (placed (all_left ls)) ≡ true
-left_stay [] = refl
-left_stay (l ∷ ls) = left_stay ls
-
-nothing_changed : (w : ℕ) (front : List PlacedLine) (last : PlacedLine) → all_stay (front ++ last ∷ []) ≡ true → change_bytes w 0 front last [] ≡ []
-nothing_changed w front last e = rw e refl
-
-pub all_stay_there : (w : ℕ) (r : Remembered) → r.width ≡ w → 0 < w → (ls : List StandingLine) × AreInPlace w (live_lines r) ls × AreOver w (live_lines r) ls × (texts ls ≡ texts (live_lines r))
-    × ((front : List PlacedLine) (last : PlacedLine) → placed ls ≡ front ++ last ∷ [] → [] ≡ change_bytes w 0 front last [])
-all_stay_there w r e p =
-    let ls = all_left (live_lines r) in
-    let right : AreLines w (live_lines r) = subst (λ k. AreLines k (live_lines r)) e (live_right r (omega (arith, e, p))) in (
-      ls,
-      in_place w (live_lines r) ls right (left_right w (live_lines r) right) (left_texts (live_lines r)),
-      all_over w (live_lines r) ls (left_texts (live_lines r)) (all_leave (live_lines r)),
-      left_texts (live_lines r),
-      λ front last s. sym (nothing_changed w front last (ap all_stay (sym s) ∙ left_stay (live_lines r))),
-    )
-
-pub renews_itself : (r : Remembered) (new : List NewLine) → 0 < r.width → new ≡ [] → Renews r new r
-renews_itself r new p e = record {
-  width_is = refl;
-  kept_is = refl;
-  kept_are = refl;
-  texts_are = ap (renewed (texts (live_lines r))) (sym e);
-  in_place = in_place r.width (live_lines r) (live_lines r) (live_right r p) (live_right r p) refl;
-}
 
 -- lines of which those behind the mark come in the place of the ones before are as they are measured
 pub all_right : (w k : ℕ) (on ls : List StandingLine) → AreLines w on → take k ls ≡ take k on → AreInPlace w (drop k on) (drop k ls) → AreLines w ls

@@ -49,6 +49,7 @@ use crate::target::term_like::{Resize, TermLike};
 use crate::target::{MultiProgressAlignment, ProgressDrawTarget};
 use indicatif_text::columns::Refusal;
 use std::alloc::Global;
+use std::io;
 use std::mem::replace;
 
 /// Draws the lines of bars on a terminal, and takes back those that it may still change.
@@ -101,11 +102,11 @@ impl<T: Drop> Drop for Engine<T> {
 impl<T: TermLike + Drop> Engine<T> {
     ghost use Rattle.indicatif_term.specs.Lists.{Lists, drawn, logged, cleared, kept_of, fate};
     ghost use Rattle.indicatif_term.specs.Inside.Bytes.{paint_bytes, reach_bytes, drawing_lines};
-    ghost use Rattle.indicatif_term.specs.Calls.{anew_bytes};
+    ghost use Rattle.indicatif_term.specs.Calls.{TermView, Writes};
     ghost use Rattle.indicatif_term.specs.Frames.{bar_lines, all_lines, are_plain, logged_lines, text_lines, is_fault};
     ghost use Rattle.indicatif_term.specs.Inside.Plans.{frame_lines};
     ghost use Rattle.indicatif_term.specs.Engines.{engine_moves, engine_term, Fits, is_failure, Answers, Counted, Paints, lists_after};
-    ghost use Rattle.indicatif_term.specs.Inside.Remembering.{Draws, Remembers, IsNext, HasRoom, CanMove, lines_drawn};
+    ghost use Rattle.indicatif_term.specs.Inside.Remembering.{Draws, Remembers, IsNext, HasRoom, CanMove};
     ghost use Rattle.indicatif_term.specs.Remembered.{live_lines};
     ghost use Rattle.indicatif_term.specs.Inside.Moves.{moved_bytes};
     ghost use Rattle.indicatif_term.specs.Inside.Changes.{PlacedLine, placed_height, change_bytes};
@@ -234,10 +235,18 @@ impl<T: TermLike + Drop> Engine<T> {
     {
         let may_stay = self.may_stay(pass);
         let before = Last::of(&self.shown, &self.counts, may_stay);
-        match new_lines(&mut self.spare, &self.term, before, frame) {
-            Some(changed) => self.renew(changed),
-            None => self.draw_anew(frame, pass, alignment),
-        }
+        let Some(changed) = new_lines(&mut self.spare, &self.term, before, frame) else {
+            return self.draw_anew(frame, pass, alignment);
+        };
+        self.shown.put_new(&mut self.spare, changed);
+        let width = self.shown.width;
+        let lines = self.shown.live();
+        let room = Room {
+            lines: lines.len(),
+            free: 0,
+        };
+        let written = write_in_room(&mut self.term, lines, room, width);
+        self.ended(written)
     }
 
     /// The same, by a plan of the frame.
@@ -270,31 +279,42 @@ impl<T: TermLike + Drop> Engine<T> {
         let plan = planned.plan;
         let taken = self.counts.live;
         let blanks = blanks_of(alignment.is_bottom(), taken, plan.rows);
+        let standing = self.shown.on(width);
+        let lines = lines_among(&mut self.spare, standing, blanks, planned.lines)?;
         let drawing = Drawing {
             text: None,
             blanks,
             frame,
             lines: plan.lines,
         };
-        let standing = self.shown.on(width);
-        let lines = lines_among(&mut self.spare, standing, blanks, planned.lines)?;
         let last = plan.last;
         let end = self.counts.kept + (blanks + plan.rows);
         let fresh = self.counts.fresh(end, window.rows);
         let counts = self.counts.drawn(plan, blanks, window.rows);
-        let fill = counts.fill(last, width);
         let moves = self.can_move(&counts, &lines, width);
         let room = self.room_for(&counts, &lines, width);
+        let painting = Painting {
+            anew: self.failed,
+            fresh,
+            below: self.counts.below,
+            taken,
+            drawing,
+            ends_below: counts.below,
+            fill: counts.fill(last, width),
+        };
         let above = self.shown.above(width, self.counts.kept);
-        let next = self.next_with(counts, above, lines, width)?;
+        let from = self.store(counts, above, lines, width)?;
+        let drawn = self.shown.behind(from);
         if moves {
-            return self.overwrite(next, taken);
+            let written = write_over(&mut self.term, taken, drawn, width);
+            return self.ended(written);
         }
         if let Some(room) = room {
-            return self.rewrite(next, room);
+            let written = write_in_room(&mut self.term, drawn, room, width);
+            return self.ended(written);
         }
-        let taken = Taken { rows: taken, fresh };
-        self.repaint(next.counts, taken, &drawing, fill, next.shown)
+        let written = paint(&mut self.term, &painting);
+        self.ended(written)
     }
 
     /// Writes the lines of the text, which stay, in the place of the kept and the live rows, and draws the frame below
@@ -356,10 +376,19 @@ impl<T: TermLike + Drop> Engine<T> {
             .counts
             .logged(metrics.height, plan, blanks, window.rows);
         let fill = counts.fill(Some(last), window.columns);
+        let painting = Painting {
+            anew: self.failed,
+            fresh,
+            below: self.counts.below,
+            taken,
+            drawing,
+            ends_below: counts.below,
+            fill,
+        };
         let above = Span { from: 0, to: 0 };
-        let next = self.next_with(counts, above, lines, window.columns)?;
-        let taken = Taken { rows: taken, fresh };
-        self.repaint(next.counts, taken, &drawing, fill, next.shown)
+        self.store(counts, above, lines, window.columns)?;
+        let written = paint(&mut self.term, &painting);
+        self.ended(written)
     }
 
     /// Takes back the kept and the live rows. Takes no memory.
@@ -378,19 +407,25 @@ impl<T: TermLike + Drop> Engine<T> {
             (lists_after result l (cleared l)) }
     {
         Window::of(&self.term)?;
-        let taken = Taken {
-            rows: self.counts.kept + self.counts.live,
-            fresh: Fresh::none(),
-        };
         let next = self.counts.cleared(self.alloc);
-        let nothing = Drawing {
-            text: None,
-            blanks: 0,
-            frame: &[],
-            lines: 0,
+        let painting = Painting {
+            anew: self.failed,
+            fresh: Fresh::none(),
+            below: self.counts.below,
+            taken: self.counts.kept + self.counts.live,
+            drawing: Drawing {
+                text: None,
+                blanks: 0,
+                frame: &[],
+                lines: 0,
+            },
+            ends_below: next.below,
+            fill: 0,
         };
         let forgotten = Remembered::nothing(self.alloc);
-        self.repaint(next, taken, &nothing, 0, forgotten)
+        self.remember(next, forgotten);
+        let written = paint(&mut self.term, &painting);
+        self.ended(written)
     }
 
     /// The rows of a bar that is gone become kept rows, with the blank rows above them, if they are the first live ones of a
@@ -406,40 +441,40 @@ impl<T: TermLike + Drop> Engine<T> {
     {
         let counts = replace(&mut self.counts, Counts::new(self.alloc));
         let (outcome, next) = counts.keep(bar);
-        let shown = replace(&mut self.shown, Remembered::nothing(self.alloc));
         let width = self.term.width() as usize;
-        self.shown = shown.after_keep(self.alloc, width, next.live);
+        self.shown.keep(width, next.live);
         self.counts = next;
         outcome
     }
 
-    /// Its next counts, with new lines below some of those that stand. It remembers no line then. Refused: `Memory`, where there is a
-    /// new line; all is unchanged then.
-    fn next_with(
+    /// Remembers the next counts, and new lines below some of those that stand, which are about to be written: from which on those are
+    /// the new ones. Refused: `Memory`, where there is a new line; all is unchanged then.
+    fn store(
         &mut self,
         counts: Counts,
         above: Span,
         lines: Vec<StandingLine>,
         width: usize,
-    ) -> Result<Next, Refusal>
+    ) -> Result<usize, Refusal>
         requires within { above.to ≤ length self.old.shown.lines }
         requires right { 0 < width → AreLines width (drop above.from (take above.to self.old.shown.lines) ++ lines.items) }
+        requires suits { (r : Remembered) → IsNext width counts.live (drop above.from (take above.to self.old.shown.lines)) lines.items r →
+            ∥ ((l : Lists) × Suits counts false r l) ∥₁ }
         ensures refused { IfErr result (λ e. (e ≡ Refusal.Memory) × (0 < length lines.items) × (self.new ≡ self.old)) }
-        ensures next { IfOk result (λ n. IsNext width counts (drop above.from (take above.to self.old.shown.lines)) lines.items n) }
+        ensures next { IfOk result (λ from. IsNext width counts.live (drop above.from (take above.to self.old.shown.lines)) lines.items self.new.shown
+            × (from ≤ length self.new.shown.lines) × (drop from self.new.shown.lines ≡ lines.items)) }
+        ensures made { IfOk result (λ _. (self.new.counts ≡ counts) × (self.new.failed ≡ false)) }
         ensures terminal { engine_term self.new ≡ engine_term self.old }
         ensures moves { engine_moves self.new ≡ engine_moves self.old }
-        ensures same { (self.new.counts ≡ self.old.counts) × (self.new.failed ≡ self.old.failed) }
     {
-        let count = lines.len();
-        let stood = self.shown.take_with(&mut self.spare, above, lines)?;
-        let from = stood.as_slice().len() - count;
+        let from = above.to - above.from;
         let live = counts.live;
-        Ok(Next {
-            counts,
-            shown: Remembered::of(width, stood, live),
-            from,
-            width,
-        })
+        self.shown.put_below(&mut self.spare, above, lines, width)?;
+        self.shown.mark(live);
+        let before = replace(&mut self.counts, counts);
+        self.spare.store_counts(before.segments);
+        self.failed = false;
+        Ok(from)
     }
 
     /// Whether lines can be written over the live rows by moves alone, where that is asked.
@@ -466,99 +501,11 @@ impl<T: TermLike + Drop> Engine<T> {
         self.counts.under && height_of(lines) > self.counts.live
     }
 
-    /// Writes the lines over so many live rows, by moves alone, and remembers the next counts and the lines; after a failure, that a
-    /// call has failed.
-    fn overwrite(&mut self, next: Next, taken: usize) -> Result<(), Refusal>
-        requires suits { ∥ ((l : Lists) × Suits next.counts false next.shown l) ∥₁ }
-        ensures writes { Draws (moved_bytes next.width taken (placed (lines_drawn next)))
-            (T.view (engine_term self.old)) (T.view (engine_term self.new)) result }
-        ensures remembers { Remembers next.counts next.shown result self.new }
-        ensures moves { engine_moves self.new ≡ engine_moves self.old }
-    {
-        match write_over(&mut self.term, taken, next.lines(), next.width) {
-            Ok(()) => {
-                self.remember(next.counts, next.shown);
-                Ok(())
-            }
-            Err(e) => {
-                self.forget();
-                Err(Refusal::Terminal(e.kind()))
-            }
-        }
-    }
-
     /// Whether a draw may be left out where it changes nothing: no call has failed, the cursor needn't move, and no member passes.
     fn may_stay(&self, pass: usize) -> bool
         ensures { result ≡ true → (self.now.failed ≡ false) × (pass ≡ 0) }
     {
         !self.failed && !self.moves && pass == 0
-    }
-
-    /// Writes new lines in the place of those that stand, and remembers them; after a failure, that a call has failed.
-    fn renew(&mut self, changed: Vec<NewLine>) -> Result<(), Refusal>
-        requires sound { self.old.failed ≡ false }
-        requires some { 0 < length (live_lines self.old.shown) }
-        requires low { (r : Remembered) → Renews self.old.shown changed.items r → placed_height (placed (live_lines r)) ≤ 65535 }
-        requires fit { AreFitting self.old.shown.width (live_lines self.old.shown) (length (live_lines self.old.shown)) changed.items }
-        requires known { 0 < self.old.shown.width }
-        requires suits { (r : Remembered) → Renews self.old.shown changed.items r → ∥ ((l : Lists) × Suits self.old.counts false r l) ∥₁ }
-        ensures { (r : Remembered) × (ls : List StandingLine) × Renews self.old.shown changed.items r × Remembers self.old.counts r result self.new
-            × AreInPlace self.old.shown.width (live_lines self.old.shown) ls × AreOver self.old.shown.width (live_lines self.old.shown) ls × (texts ls ≡ texts (live_lines r))
-            × ((front : List PlacedLine) (last : PlacedLine) → placed ls ≡ front ++ last ∷ [] →
-            Draws (change_bytes self.old.shown.width 0 front last []) (T.view (engine_term self.old)) (T.view (engine_term self.new)) result)
-            × (engine_moves self.new ≡ engine_moves self.old) }
-    {
-        if changed.is_empty() {
-            self.spare.store_new(changed);
-            return self.stay();
-        }
-        self.write_new(changed)
-    }
-
-    /// Writes nothing, and remembers what was drawn last; after a failure, that a call has failed.
-    fn stay(&mut self) -> Result<(), Refusal>
-        requires { self.old.failed ≡ false }
-        ensures writes { Draws [] (T.view (engine_term self.old)) (T.view (engine_term self.new)) result }
-        ensures remembers { Remembers self.old.counts self.old.shown result self.new }
-        ensures moves { engine_moves self.new ≡ engine_moves self.old }
-    {
-        match self.term.flush() {
-            Ok(()) => Ok(()),
-            Err(e) => {
-                self.forget();
-                Err(Refusal::Terminal(e.kind()))
-            }
-        }
-    }
-
-    /// Writes new lines in the place of those that stand, and remembers them; after a failure, that a call has failed.
-    fn write_new(&mut self, changed: Vec<NewLine>) -> Result<(), Refusal>
-        requires sound { self.old.failed ≡ false }
-        requires some { 0 < length (live_lines self.old.shown) }
-        requires low { (r : Remembered) → Renews self.old.shown changed.items r → placed_height (placed (live_lines r)) ≤ 65535 }
-        requires fit { AreFitting self.old.shown.width (live_lines self.old.shown) (length (live_lines self.old.shown)) changed.items }
-        requires known { 0 < self.old.shown.width }
-        requires suits { (r : Remembered) → Renews self.old.shown changed.items r → ∥ ((l : Lists) × Suits self.old.counts false r l) ∥₁ }
-        ensures { (r : Remembered) × Renews self.old.shown changed.items r × Remembers self.old.counts r result self.new
-            × AreOver self.old.shown.width (live_lines self.old.shown) (live_lines r)
-            × ((front : List PlacedLine) (last : PlacedLine) → placed (live_lines r) ≡ front ++ last ∷ [] →
-            Draws (change_bytes self.old.shown.width 0 front last []) (T.view (engine_term self.old)) (T.view (engine_term self.new)) result)
-            × (engine_moves self.new ≡ engine_moves self.old) }
-    {
-        self.shown.put_new(&mut self.spare, changed);
-        let width = self.shown.width;
-        let lines = self.shown.live();
-        let room = Room {
-            lines: lines.len(),
-            free: 0,
-        };
-        match write_in_room(&mut self.term, lines, room, width) {
-            Ok(()) => Ok(()),
-            Err(e) => {
-                self.forget();
-                Err(Refusal::Terminal(e.kind()))
-            }
-        }
     }
 
     /// How lines stand in the place of the live rows, where those that stay can be left; else the whole drawing is written.
@@ -574,23 +521,16 @@ impl<T: TermLike + Drop> Engine<T> {
         lines_within(lines, self.counts.live)
     }
 
-    /// Writes those of the lines that do not stay, and remembers the next counts and the lines; after a failure, that a call has
-    /// failed.
-    fn rewrite(&mut self, next: Next, room: Room) -> Result<(), Refusal>
-        requires suits { ∥ ((l : Lists) × Suits next.counts false next.shown l) ∥₁ }
-        requires room { (rows : ℕ) × IsWithin (lines_drawn next) rows room × (rows ≤ 65535) }
-        requires ready { AreReady (lines_drawn next) }
-        ensures writes { (front : List PlacedLine) (last : PlacedLine) (more : List PlacedLine) → placed (lines_drawn next) ≡ front ++ last ∷ more → length front + 1 ≡ room.lines →
-            Draws (change_bytes next.width room.free front last more)
-            (T.view (engine_term self.old)) (T.view (engine_term self.new)) result }
-        ensures remembers { Remembers next.counts next.shown result self.new }
+    /// The answer where a drawing that is remembered was written; after a failure all is forgotten but that a call has failed.
+    fn ended(&mut self, written: io::Result<()>) -> Result<(), Refusal>
+        requires sound { self.old.failed ≡ false }
+        ensures draws { (bytes : List ℕ) (v : TermView) → Writes bytes v (T.view (engine_term self.old)) written →
+            Draws bytes v (T.view (engine_term self.new)) result }
+        ensures remembers { Remembers self.old.counts self.old.shown result self.new }
         ensures moves { engine_moves self.new ≡ engine_moves self.old }
     {
-        match write_in_room(&mut self.term, next.lines(), room, next.width) {
-            Ok(()) => {
-                self.remember(next.counts, next.shown);
-                Ok(())
-            }
+        match written {
+            Ok(()) => Ok(()),
             Err(e) => {
                 self.forget();
                 Err(Refusal::Terminal(e.kind()))
@@ -598,7 +538,7 @@ impl<T: TermLike + Drop> Engine<T> {
         }
     }
 
-    /// A drawing was made.
+    /// These are its counts and lines from now on.
     fn remember(&mut self, next: Counts, shown: Remembered)
         requires { ∥ ((l : Lists) × Suits next false shown l) ∥₁ }
         ensures terminal { engine_term self.new ≡ engine_term self.old }
@@ -620,46 +560,6 @@ impl<T: TermLike + Drop> Engine<T> {
         self.counts = Counts::forgotten(self.alloc);
         self.shown = Remembered::nothing(self.alloc);
         self.failed = true;
-    }
-
-    /// Takes rows back, writes the drawing and so many spaces behind it in their place, and remembers the next counts and
-    /// these lines; after a failure, that a call has failed.
-    fn repaint(
-        &mut self,
-        next: Counts,
-        taken: Taken,
-        drawing: &Drawing<'_>,
-        fill: usize,
-        shown: Remembered,
-    ) -> Result<(), Refusal>
-        requires suits { ∥ ((l : Lists) × Suits next false shown l) ∥₁ }
-        requires lines { drawing.now.lines ≤ length (frame_lines drawing.now.frame.now) }
-        ensures writes { Draws
-            ((if self.old.failed then anew_bytes else []) ++ (reach_bytes taken.fresh.down taken.fresh.rows
-            ++ (paint_bytes false self.old.counts.below taken.rows (drawing_lines drawing.now) next.below ++ replicate fill 0x20)))
-            (T.view (engine_term self.old)) (T.view (engine_term self.new)) result }
-        ensures remembers { Remembers next shown result self.new }
-        ensures moves { engine_moves self.new ≡ engine_moves self.old }
-    {
-        let painting = Painting {
-            anew: self.failed,
-            fresh: taken.fresh,
-            below: self.counts.below,
-            taken: taken.rows,
-            drawing: *drawing,
-            ends_below: next.below,
-            fill,
-        };
-        match paint(&mut self.term, &painting) {
-            Ok(()) => {
-                self.remember(next, shown);
-                Ok(())
-            }
-            Err(e) => {
-                self.forget();
-                Err(Refusal::Terminal(e.kind()))
-            }
-        }
     }
 }
 
@@ -765,35 +665,6 @@ impl<T: Resize + Drop> Engine<T> {
             counts,
             shown: Remembered::of(widths.to, StandingLines::of(cut.lines), live),
         })
-    }
-}
-
-/// How many rows a drawing takes back, and which it is the first to reach.
-#[derive(Clone, Copy, Drop)]
-struct Taken {
-    rows: usize,
-    fresh: Fresh,
-}
-
-/// What is remembered of a drawing once it is made: its counts, and the lines, of which those from one on are its own, on a terminal
-/// of so many columns.
-#[derive(Drop)]
-struct Next {
-    counts: Counts,
-    shown: Remembered,
-    from: usize,
-    width: usize,
-    ghost within: { from ≤ length shown.lines },
-}
-
-impl Next {
-    ghost use Rattle.indicatif_term.specs.Inside.Remembering.{lines_drawn};
-
-    /// The drawing's own lines.
-    fn lines(&self) -> &[StandingLine]
-        ensures { result.now ≡ lines_drawn self.now }
-    {
-        &self.shown.lines.as_slice()[self.from..]
     }
 }
 

@@ -2,8 +2,9 @@
 ghost use Rattle.std.specs.Prelude.{length, ◌≡◌, ◌==◌, ◌&&◌, ◌+◌, ◌-◌, ◌≤◌, ◌++◌, ◌∷◌, [], ℕ, List, string_bytes, MatchResult};
 ghost use Rattle.std.specs.IoError.{error_kind};
 ghost use Rattle.indicatif_term.specs.Calls.{Writes, LeadsOn, BreaksOff, DOWN, RIGHT, move_bytes};
-ghost use Rattle.indicatif_term.specs.Inside.Changes.{PlacedLine, placed_height, changed_bytes, step_bytes, step_down, walk_bytes, walk_down, frame_bytes, filled_whole, ending, last_bytes, all_stay, stays, rows_below, rewrite_bytes, free_behind, change_bytes};
-ghost use Rattle.indicatif_term.specs.Inside.Edits.{row_bytes};
+ghost use Rattle.indicatif_term.specs.Inside.Changes.{PlacedLine, placed_height, changed_bytes, step_bytes, step_down, walk_bytes, walk_down, filled_whole, ending, last_bytes, all_stay, stays, rows_below, rewrite_bytes, free_behind, change_bytes};
+ghost use Rattle.indicatif_term.specs.Inside.Edits.{edit_bytes, row_bytes};
+ghost use Rattle.indicatif_term.specs.Inside.Rests.{HasRoom, left_bytes};
 ghost use Rattle.indicatif_term.specs.Inside.Parting.{HasPart, IsReady, part_edits};
 ghost use Rattle.indicatif_term.specs.Inside.Fills.{last_of};
 ghost use Rattle.indicatif_term.specs.Inside.Places.{IsWithin};
@@ -15,7 +16,7 @@ use crate::engine::last_char::{ends_plainly, last_char};
 use crate::engine::painting::{empty_down, go_down, go_up, put_below, put_spaces, take_back_rows};
 use crate::engine::parting::{Part, Step};
 use crate::engine::remembered::StandingLine;
-use crate::engine::row_edits::{Rest, go_right, write_row};
+use crate::engine::row_edits::{Rest, close, go_right, write_next};
 use crate::target::term_like::TermLike;
 use std::io;
 
@@ -29,7 +30,9 @@ struct Changes<'a> {
     more: &'a [StandingLine],
 }
 
-/// Writes those of the lines that do not stay, of which some stand in the rows that they replace and leave some of these.
+/// Writes those of the lines that do not stay, of which some stand in the rows that they replace and leave some of these. The cursor is
+/// at the end of the last of these rows, and comes to the end of the last of the lines'; nothing is written where all stay and no row
+/// is free.
 pub fn write_in_room<T: TermLike>(
     term: &mut T,
     lines: &[StandingLine],
@@ -48,18 +51,7 @@ pub fn write_in_room<T: TermLike>(
         free: room.free,
         more: &lines[room.lines..],
     };
-    write_changes(term, &changes, width)
-}
-
-/// Writes the lines that do not stay, where the cursor is at the end of the last of the rows that they replace, and brings it to the
-/// end of the last of theirs; nothing where all stay and no row is free.
-fn write_changes<T: TermLike>(term: &mut T, changes: &Changes<'_>, width: usize) -> io::Result<()>
-    requires small { placed_height (placed changes.now.front.now) + changes.now.last.now.rows + changes.now.free ≤ 65535 }
-    requires front { AreReady changes.now.front.now }
-    requires last { AreReady (changes.now.last.now ∷ []) }
-    ensures { Writes (change_bytes width changes.now.free (placed changes.now.front.now) (placed_of changes.now.last.now) (placed changes.now.more.now)) (T.view term.old) (T.view term.new) result }
-{
-    rewrite(term, changes, width)?;
+    rewrite(term, &changes, width)?;
     put_below(term, changes.more, fill_behind(changes.more, width))?;
     term.flush()
 }
@@ -75,7 +67,7 @@ fn fill_behind(lines: &[StandingLine], width: usize) -> usize
     width.saturating_sub(lines[count - 1].last)
 }
 
-/// The lines in the first of the rows: the rows below them are taken back, and those that do not stay are written.
+/// The lines in the first of the rows: the rows below them are taken back, and those that do not stay are written, from the first down.
 fn rewrite<T: TermLike>(term: &mut T, changes: &Changes<'_>, width: usize) -> io::Result<()>
     requires small { placed_height (placed changes.now.front.now) + changes.now.last.now.rows + changes.now.free ≤ 65535 }
     requires front { AreReady changes.now.front.now }
@@ -86,7 +78,10 @@ fn rewrite<T: TermLike>(term: &mut T, changes: &Changes<'_>, width: usize) -> io
         return Ok(());
     }
     take_back_rows(term, changes.free)?;
-    write_among(term, changes, width)
+    let rows = height_of(changes.front) + changes.last.rows;
+    go_up(term, rows.saturating_sub(1) + one_below(changes.free))?;
+    let down = walk(term, changes.front)?;
+    write_last(term, down, changes.last, width)
 }
 
 /// Whether nothing is to be written of the lines in the first of the rows: all stay, and no row is free.
@@ -113,19 +108,6 @@ fn all_standing(lines: &[StandingLine]) -> bool
         }
     }
     true
-}
-
-/// Up to the first of the lines, down through them, and the last.
-fn write_among<T: TermLike>(term: &mut T, changes: &Changes<'_>, width: usize) -> io::Result<()>
-    requires small { placed_height (placed changes.now.front.now) + changes.now.last.now.rows + changes.now.free ≤ 65535 }
-    requires front { AreReady changes.now.front.now }
-    requires last { AreReady (changes.now.last.now ∷ []) }
-    ensures { Writes (frame_bytes (rows_below changes.now.free) (placed changes.now.front.now ++ ending width (placed_of changes.now.last.now) ∷ [])) (T.view term.old) (T.view term.new) result }
-{
-    let rows = height_of(changes.front) + changes.last.rows;
-    go_up(term, rows.saturating_sub(1) + one_below(changes.free))?;
-    let down = walk(term, changes.front)?;
-    write_last(term, down, changes.last, width)
 }
 
 /// Whether a line stays.
@@ -183,7 +165,7 @@ fn pass<T: TermLike>(term: &mut T, down: usize, line: &StandingLine) -> io::Resu
     }
 }
 
-/// Down to the last row of a line, and a part of that.
+/// Down to the last row of a line, to its front, and over what differs in a part of it.
 fn write_part<T: TermLike>(
     term: &mut T,
     down: usize,
@@ -197,11 +179,25 @@ fn write_part<T: TermLike>(
 {
     let far = down + line.rows;
     go_down(term, far.saturating_sub(1))?;
+    term.write_str("\r")?;
+    let mut now = all_of(line, part);
+    'columns: while now.left > 0 {
+        now = write_next(term, now, part.waits)?;
+    }
+    close(term, now.ink)
+}
+
+/// What is left of a row before a part of it is written: all of that.
+fn all_of(line: &StandingLine, part: Part) -> Rest<'_>
+    requires { HasPart part (string_bytes line.now.before) (string_bytes line.now.text) }
+    ensures room { HasRoom result }
+    ensures bytes { left_bytes part.waits result ≡ edit_bytes part.gap (part_edits part (string_bytes line.now.before) (string_bytes line.now.text)) }
+{
     let ink = Colours {
         base: "",
         group: "",
     };
-    let rest = Rest {
+    Rest {
         old: Reading {
             text: &line.before[part.from..],
             ink,
@@ -213,8 +209,7 @@ fn write_part<T: TermLike>(
         left: part.left,
         gap: part.gap,
         ink,
-    };
-    write_row(term, rest, part.waits)
+    }
 }
 
 /// So many rows down; the rows of a line emptied, and the line.

@@ -9,7 +9,6 @@ use crate::engine::spare::Spare;
 use indicatif_text::columns::Refusal;
 use std::alloc::Global;
 use std::marker::Model;
-use std::mem::replace;
 
 /// A line that stands on a terminal.
 #[derive(Drop)]
@@ -141,40 +140,59 @@ impl Remembered {
         }
     }
 
-    /// Lines of which the last ones take so many live rows; nothing is remembered where none do.
+    /// Lines of a terminal of so many columns, of which the last ones take so many live rows; nothing is remembered where none do.
     pub fn of(width: usize, lines: StandingLines, live: usize) -> Remembered
         requires right { 0 < width → AreLines width lines }
         requires small { live ≤ 65535 }
         ensures lines { result.lines ≡ lines }
         ensures marked { 0 < result.width → IsMarked width live result }
     {
-        let kept = first_of_last(lines.as_slice(), live);
-        let known = height_of(&lines.as_slice()[kept..]);
-        Remembered {
-            width: width_where(known == live, width),
+        let mut shown = Remembered {
+            width,
             lines,
-            kept,
-        }
+            kept: 0,
+        };
+        shown.mark(live);
+        shown
     }
 
-    /// What is still remembered where a bar's rows were kept, so that so many rows are live, on a terminal of so many columns: they
-    /// stand where they stood.
-    pub fn after_keep(self, alloc: Global, width: usize, live: usize) -> Remembered
+    /// Marks its last lines as those of so many live rows; nothing is remembered where none take so many.
+    pub fn mark(&mut self, live: usize)
         requires small { live ≤ 65535 }
-        ensures { (bar : ℕ) (l : Lists) → live ≡ live_height (kept_of width bar l).live → AreRemembered self l →
-            AreRemembered result (kept_of width bar l) }
+        ensures lines { self.new.lines ≡ self.old.lines }
+        ensures marked { 0 < self.new.width → IsMarked self.old.width live self.new }
+    {
+        self.kept = first_of_last(self.lines.as_slice(), live);
+        let known = height_of(self.live());
+        self.width = width_where(known == live, self.width);
+    }
+
+    /// Where a bar's rows were kept, so that so many rows are live, on a terminal of so many columns: they stand where they stood.
+    pub fn keep(&mut self, width: usize, live: usize)
+        requires small { live ≤ 65535 }
+        ensures { (bar : ℕ) (l : Lists) → live ≡ live_height (kept_of width bar l).live → AreRemembered self.old l →
+            AreRemembered self.new (kept_of width bar l) }
     {
         if self.width != width {
-            return Remembered::nothing(alloc);
+            self.width = 0;
+            return;
         }
-        Remembered::of(width, self.lines, live)
+        self.mark(live);
+    }
+
+    /// The lines behind the first so many.
+    pub fn behind(&self, count: usize) -> &[StandingLine]
+        requires { count ≤ length self.now.lines }
+        ensures { result.now ≡ drop count self.now.lines }
+    {
+        &self.lines.as_slice()[count..]
     }
 
     /// The lines of the live rows.
     pub fn live(&self) -> &[StandingLine]
         ensures { result.now ≡ live_lines self.now }
     {
-        &self.lines.as_slice()[self.kept..]
+        self.behind(self.kept)
     }
 
     /// The lines of the live rows, if they are those of a terminal of so many columns.
@@ -216,24 +234,25 @@ impl Remembered {
         self.lines.put_new(self.kept, spare, changed);
     }
 
-    /// Its lines, with these below some of them. Nothing is remembered then. Refused: `Memory`, where there is a line among these.
-    /// All is unchanged then.
-    pub fn take_with(
+    /// Puts these below some of its lines, on a terminal of so many columns; all others become spare. Refused: `Memory`, where there
+    /// is a line among these. All is unchanged then.
+    pub fn put_below(
         &mut self,
         spare: &mut Spare,
         stays: Span,
         lines: Vec<StandingLine>,
-    ) -> Result<StandingLines, Refusal>
+        width: usize,
+    ) -> Result<(), Refusal>
         requires within { stays.to ≤ length self.old.lines }
+        requires right { 0 < width → AreLines width (drop stays.from (take stays.to self.old.lines) ++ lines.items) }
         ensures refused { IfErr result (λ e. (e ≡ Refusal.Memory) × (0 < length lines.items) × (self.new ≡ self.old)) }
-        ensures lines { IfOk result (λ ls. ls ≡ drop stays.from (take stays.to self.old.lines) ++ lines.items) }
-        ensures nothing { IfOk result (λ _. self.new.width ≡ 0) }
+        ensures lines { IfOk result (λ _. self.new.lines ≡ drop stays.from (take stays.to self.old.lines) ++ lines.items) }
+        ensures width { IfOk result (λ _. self.new.width ≡ width) }
     {
         self.lines.put_below(spare, stays, lines)?;
-        self.width = 0;
+        self.width = width;
         self.kept = 0;
-        let none = StandingLines::of(spare.no_lines());
-        Ok(replace(&mut self.lines, none))
+        Ok(())
     }
 }
 

@@ -22,31 +22,8 @@ pub struct Rest<'a> {
     pub ink: Colours<'a>,
 }
 
-/// To the front of the cursor's row, and over what differs in it.
-pub fn write_row<T: TermLike>(term: &mut T, rest: Rest<'_>, ends: bool) -> io::Result<()>
-    requires room { HasRoom rest }
-    requires none_open { ink_of rest.ink ≡ NONE }
-    ensures { Writes (row_bytes rest.entry.gap (plan ends NONE (padded rest.entry.left (cells rest.entry.old)) (padded rest.entry.left (cells rest.entry.new))))
-        (T.view term.old) (T.view term.new) result }
-{
-    term.write_str("\r")?;
-    write_rest(term, rest, ends)
-}
-
-/// Over what differs in the rest of a row.
-fn write_rest<T: TermLike>(term: &mut T, rest: Rest<'_>, ends: bool) -> io::Result<()>
-    requires room { HasRoom rest }
-    ensures { Writes (left_bytes ends rest.entry) (T.view term.old) (T.view term.new) result }
-{
-    let mut now = rest;
-    'columns: while now.left > 0 {
-        now = write_next(term, now, ends)?;
-    }
-    close(term, now.ink)
-}
-
-/// Over one column, and then those that stay.
-fn write_next<'a, T: TermLike>(term: &mut T, rest: Rest<'a>, ends: bool) -> io::Result<Rest<'a>>
+/// Over one column: what stays, or its character in its colours; and then over those that stay.
+pub fn write_next<'a, T: TermLike>(term: &mut T, rest: Rest<'a>, ends: bool) -> io::Result<Rest<'a>>
     requires some { 0 < rest.left }
     requires room { HasRoom rest }
     ensures { MatchResult result
@@ -70,7 +47,10 @@ fn write_next<'a, T: TermLike>(term: &mut T, rest: Rest<'a>, ends: bool) -> io::
             ..next
         }));
     }
-    put_cell(term, rest, new.ink, c)?;
+    recolour(term, rest.ink, new.ink)?;
+    go_right(term, rest.gap)?;
+    let mut bytes = [0u8; 4];
+    term.write_str(c.encode_utf8(&mut bytes))?;
     Ok(next)
 }
 
@@ -83,15 +63,6 @@ fn stays(stands: char, c: char, next: Rest<'_>, ends: bool) -> bool
         return false;
     }
     !(ends && next.left == 0)
-}
-
-/// A character in its colours, behind the columns that stay.
-fn put_cell<T: TermLike>(term: &mut T, rest: Rest<'_>, to: Colours<'_>, c: char) -> io::Result<()>
-    ensures { Writes (ink_bytes (ink_of rest.entry.ink) (ink_of to.entry) ++ (move_bytes RIGHT rest.entry.gap ++ encode_utf8 c)) (T.view term.old) (T.view term.new) result }
-{
-    recolour(term, rest.ink, to)?;
-    go_right(term, rest.gap)?;
-    put_char(term, c)
 }
 
 /// From the colour sequences that are open to others.
@@ -117,7 +88,7 @@ fn put<T: TermLike>(term: &mut T, sequences: &str) -> io::Result<()>
 }
 
 /// Closes all colours, if any are open.
-fn close<T: TermLike>(term: &mut T, ink: Colours<'_>) -> io::Result<()>
+pub fn close<T: TermLike>(term: &mut T, ink: Colours<'_>) -> io::Result<()>
     ensures { Writes (reset_bytes (colours_of (ink_of ink.entry))) (T.view term.old) (T.view term.new) result }
 {
     if ink.base.is_empty() && ink.group.is_empty() {
@@ -184,15 +155,6 @@ fn at_end<'a>(rest: Rest<'a>) -> Rest<'a>
         gap: rest.gap + (rest.left - 1),
         ..rest
     }
-}
-
-/// A character.
-fn put_char<T: TermLike>(term: &mut T, c: char) -> io::Result<()>
-    ensures { Writes (encode_utf8 c) (T.view term.old) (T.view term.new) result }
-{
-    let mut bytes = [0u8; 4];
-    let text = c.encode_utf8(&mut bytes);
-    term.write_str(text)
 }
 
 /// Right so many columns; none is no call.

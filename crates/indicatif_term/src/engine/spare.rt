@@ -65,13 +65,6 @@ impl Spare {
         lines
     }
 
-    /// No lines, in no room.
-    pub fn no_lines(&self) -> Vec<StandingLine>
-        ensures { result.items ≡ [] }
-    {
-        Vec::new(self.alloc)
-    }
-
     /// The room for new lines that there is.
     pub fn take_new(&mut self) -> Vec<NewLine>
         ensures { result.items ≡ [] }

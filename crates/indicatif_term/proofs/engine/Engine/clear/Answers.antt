@@ -1,4 +1,6 @@
-use Rattle.std.proofs.Common.{ap, append-nil, ◌+◌, [], false, arith}
+use Rattle.std.proofs.Common.{ap, sym, subst, append-nil, ◌+◌, ◌∙◌, [], false}
+use Rattle.indicatif_term.specs.Counts.{CountsOf}
+use Rattle.indicatif_term.specs.declared.engine.remembered.Remembered.{Remembered}
 use Rattle.std.proofs.Math.Logic.{∥∥₁_map}
 use Rattle.indicatif_term.specs.Inside.Bytes.{paint_bytes}
 use Rattle.indicatif_term.specs.Frames.{is_fault}
@@ -13,26 +15,25 @@ pub returns-in_err-of-clause-paints : goal.returns-in_err-of-clause-paints
 returns-in_err-of-clause-paints g c = λ l fits.
     paints_refused _ c.from_residual.result c.in_err-of.field-0.0 l _ c.from_residual.ensures.1 (ap is_fault c.in_err-of.ensures.0)
 
-pub repaint-requires : goal.repaint-requires
-repaint-requires g c =
-    record {
-      suits = ∥∥₁_map c.args.self.now.some (λ x.
-          let l = cleared x.0 in
-          (l, suits_made c.cleared-next.result _ l (c.cleared-next.ensures x.0 x.1.counted) (cleared-sound x.0) (nothing_shown c.nothing-forgotten.result l c.nothing-forgotten.ensures)));
-      lines = omega arith;
-    }
+pub remember-requires : goal.remember-requires
+remember-requires g c = ∥∥₁_map c.args.self.now.some (λ x.
+    let l = cleared x.0 in
+    (l, suits_made c.cleared-next.result _ l (c.cleared-next.ensures x.0 x.1.counted) (cleared-sound x.0) (nothing_shown c.nothing-forgotten.result l c.nothing-forgotten.ensures)))
 
 pub returns-clause-lists : goal.returns-clause-lists
-returns-clause-lists g c = λ l fits. fits_by c.cleared-next.result _ c.repaint.result c.repaint.new.self l (cleared l) c.repaint.ensures.remembers
-    (c.cleared-next.ensures l (fits_counts c.args.self.now l fits)) (cleared-sound l) (nothing_shown c.nothing-forgotten.result (cleared l) c.nothing-forgotten.ensures)
+returns-clause-lists g c = λ l fits.
+    let made = c.remember.ensures.remembered in
+    fits_by _ _ c.ended.result c.ended.new.self l (cleared l) c.ended.ensures.remembers
+    (subst (λ k. CountsOf k (cleared l)) (sym made.0) (c.cleared-next.ensures l (fits_counts c.args.self.now l fits))) (cleared-sound l)
+    (nothing_shown _ (cleared l) (ap (λ (r : Remembered). r.width) made.2 ∙ c.nothing-forgotten.ensures))
 
 pub returns-clause-paints : goal.returns-clause-paints
 returns-clause-paints g c = λ l fits.
     let s = g.T.TermLike.view (engine_term c.args.self.now) in
     let old = c.args.self.now.counts in
     let o = fits_counts c.args.self.now l fits in
-    paints_by s (g.T.TermLike.view (engine_term c.repaint.new.self)) old c.cleared-next.result _ c.repaint.result c.repaint.new.self c.args.self.now.failed l cleared
-    (paint_bytes false old.below (old.kept + old.live) [] c.cleared-next.result.below) c.repaint.ensures.remembers (fits_failed c.args.self.now l fits)
-    (rw (c.none.ensures, append-nil) at c.repaint.ensures.writes)
+    paints_by s (g.T.TermLike.view (engine_term c.ended.new.self)) old _ _ c.ended.result c.ended.new.self c.args.self.now.failed l cleared
+    (paint_bytes false old.below (old.kept + old.live) [] c.cleared-next.result.below) c.ended.ensures.remembers (fits_failed c.args.self.now l fits)
+    (rw (c.remember.ensures.terminal, c.none.ensures, append-nil) at (c.ended.ensures.draws _ _ c.paint-written.ensures))
     (λ x is. clear_paints s.columns s.rows x old c.cleared-next.result (rw c.in_ok-of.ensures.0 at c.in_ok-of.field-0.some) is.counts (c.cleared-next.ensures x is.counts)) o
     (fits_forgets c.args.self.now l fits) (cleared-sound l) (cleared-adds l) (cleared-known s.rows l)

@@ -2,11 +2,10 @@ use Rattle.std.proofs.Common.{map, arith, ◌∙◌, ◌≡◌, ◌≤◌, ◌+�
 use Rattle.std.specs.Prelude.{string_bytes}
 use Rattle.std.proofs.Math.Logic.{∥∥₁_map}
 use Rattle.std.proofs.lemmas.List.{length-map, length-replicate}
-use Rattle.indicatif_term.specs.Inside.Remembering.{Draws, lines_drawn}
+use Rattle.indicatif_term.specs.Inside.Remembering.{Draws}
 use Rattle.indicatif_term.specs.Inside.Places.{IsWithin}
 use Rattle.indicatif_term.specs.Lists.{Lists, drawn, live_rows}
 use Rattle.indicatif_term.specs.Counts.{CountsOf}
-use Rattle.indicatif_term.specs.Remembered.{Suits}
 use Rattle.indicatif_term.specs.Shows.{looks_of}
 use Rattle.indicatif_term.specs.Inside.Bytes.{paint_bytes, reach_bytes}
 use Rattle.indicatif_term.specs.Inside.Changes.{change_bytes, AreSitting}
@@ -15,7 +14,6 @@ use Rattle.indicatif_term.specs.Inside.Moves.{moved_bytes, AreEven}
 use Rattle.indicatif_term.proofs.LastLineLemmas.{fill_bytes}
 use Rattle.indicatif_term.specs.Inside.Plans.{frame_lines}
 use Rattle.indicatif_term.specs.Inside.Layouts.{AreLike}
-use Rattle.indicatif_term.specs.declared.engine.counts.Counts.{Counts}
 use Rattle.indicatif_term.specs.declared.engine.remembered.StandingLine.{StandingLine}
 use Rattle.indicatif_term.specs.Frames.{bar_lines, is_fault}
 use Rattle.indicatif_term.specs.Engines.{engine_term, Fits, Paints, is_failure, lists_after}
@@ -47,14 +45,14 @@ pub returns-in_err-lines-clause-paints : goal.returns-in_err-lines-clause-paints
 returns-in_err-lines-clause-paints g c = λ l fits plain.
     paints_refused _ c.from_residual-in_err-lines.result c.in_err-lines.field-0.0 l _ c.from_residual-in_err-lines.ensures.1 (ap is_fault c.in_err-lines.ensures.memory.0)
 
-pub next_with-requires-clause-right : goal.next_with-requires-clause-right
-next_with-requires-clause-right g c = λ some.
+pub store-requires-clause-right : goal.store-requires-clause-right
+store-requires-clause-right g c = λ some.
     let w = c.in_ok-planned.planned.window.columns in
     all_append (IsLine w) (drop c.above-above.result.from (take c.above-above.result.to c.args.self.now.shown.lines)) c.in_ok-lines.lines.items (c.above-above.ensures.right some)
     (c.in_ok-lines.ensures.right w c.in_ok-planned.ensures.lines.measured)
 
-pub returns-in_err-next-clause-memory : goal.returns-in_err-next-clause-memory
-returns-in_err-next-clause-memory g c = λ e.
+pub returns-in_err-from-clause-memory : goal.returns-in_err-from-clause-memory
+returns-in_err-from-clause-memory g c = λ e.
     let s = g.T.TermLike.view (engine_term c.args.self.now) in
     let p = c.in_ok-planned.ensures.planned in
     let plan = c.in_ok-planned.planned.plan in
@@ -69,30 +67,30 @@ returns-in_err-next-clause-memory g c = λ e.
     ∙ length-append front (take plan.lines (frame_lines c.args.frame.now)) ∙ ap (λ n. n + length (take plan.lines (frame_lines c.args.frame.now))) (length-replicate k []) in (
       rw p.columns_are at c.in_ok-planned.planned.window.some,
       some_lines s.columns s.rows c.args.pass k c.args.self.now.counts.live 0 (is_bottom c.args.alignment) c.args.frame.now plan p.plan_is blanks
-          (omega (arith, size, length-take plan.lines (frame_lines c.args.frame.now), c.in_err-next.ensures.refused.1)),
+          (omega (arith, size, length-take plan.lines (frame_lines c.args.frame.now), c.in_err-from.ensures.refused.1)),
     )
 
-pub returns-in_err-next-clause-counted : goal.returns-in_err-next-clause-counted
-returns-in_err-next-clause-counted g c =
-    counted_refused _ _ c.from_residual-in_err-next.result c.in_err-next.field-0.0 (ap (λ t. g.T.TermLike.view t) c.next_with.ensures.terminal) c.from_residual-in_err-next.ensures.1
-    (ap is_fault c.in_err-next.ensures.refused.0)
+pub returns-in_err-from-clause-counted : goal.returns-in_err-from-clause-counted
+returns-in_err-from-clause-counted g c =
+    counted_refused _ _ c.from_residual-in_err-from.result c.in_err-from.field-0.0 (ap (λ t. g.T.TermLike.view t) c.store.ensures.terminal) c.from_residual-in_err-from.ensures.1
+    (ap is_fault c.in_err-from.ensures.refused.0)
 
-pub returns-in_err-next-clause-lists : goal.returns-in_err-next-clause-lists
+pub returns-in_err-from-clause-lists : goal.returns-in_err-from-clause-lists
 unfolding Fits
-returns-in_err-next-clause-lists g c = λ l fits.
-    fits_refused _ _ c.from_residual-in_err-next.result c.in_err-next.field-0.0 l _ c.in_err-next.ensures.refused.2 c.from_residual-in_err-next.ensures.1
-    (ap is_fault c.in_err-next.ensures.refused.0) fits
+returns-in_err-from-clause-lists g c = λ l fits.
+    fits_refused _ _ c.from_residual-in_err-from.result c.in_err-from.field-0.0 l _ c.in_err-from.ensures.refused.2 c.from_residual-in_err-from.ensures.1
+    (ap is_fault c.in_err-from.ensures.refused.0) fits
 
-pub returns-in_err-next-clause-paints : goal.returns-in_err-next-clause-paints
-returns-in_err-next-clause-paints g c = λ l fits plain.
+pub returns-in_err-from-clause-paints : goal.returns-in_err-from-clause-paints
+returns-in_err-from-clause-paints g c = λ l fits plain.
     let s = g.T.TermLike.view (engine_term c.args.self.now) in
-    let r = c.from_residual-in_err-next.result in
+    let r = c.from_residual-in_err-from.result in
     let l' = drawn s.columns s.rows (is_bottom c.args.alignment) c.args.pass (map bar_lines c.args.frame.now) l in
-    subst (λ t. Paints s (g.T.TermLike.view t) (is_failure r) l (lists_after r l l')) (sym c.next_with.ensures.terminal)
-    (paints_refused s r c.in_err-next.field-0.0 l l' c.from_residual-in_err-next.ensures.1 (ap is_fault c.in_err-next.ensures.refused.0))
+    subst (λ t. Paints s (g.T.TermLike.view t) (is_failure r) l (lists_after r l l')) (sym c.store.ensures.terminal)
+    (paints_refused s r c.in_err-from.field-0.0 l l' c.from_residual-in_err-from.ensures.1 (ap is_fault c.in_err-from.ensures.refused.0))
 
-pub overwrite-requires : goal.overwrite-requires
-overwrite-requires g c =
+pub store-requires-clause-suits : goal.store-requires-clause-suits
+store-requires-clause-suits g c = λ r is.
     let s = g.T.TermLike.view (engine_term c.args.self.now) in
     let frame = map bar_lines c.args.frame.now in
     let bottom = is_bottom c.args.alignment in
@@ -101,30 +99,23 @@ overwrite-requires g c =
     let old = c.args.self.now.counts in
     let blanks = rw c.is_bottom.ensures at (c.blanks_of-blanks.ensures.blanks old.live 0 (omega arith)) in
     let t = c.in_ok-lines.ensures.lines ∙ ap (λ xs. replicate c.blanks_of-blanks.result [] ++ xs) c.in_ok-planned.ensures.lines.texts_are in
-    let n = c.in_ok-next.next in
-    let is = c.in_ok-next.ensures.next in
     let above = c.above-above.ensures.above in
     let ls = c.in_ok-lines.lines.items in
     let kept = drop c.above-above.result.from (take c.above-above.result.to c.args.self.now.shown.lines) in
     let next = λ (x : Lists) (o : CountsOf old x). rw p.rows_are at (c.drawn-counts.ensures s.columns c.args.pass bottom frame x o (rw (← p.rows_are) at p.plan_is) blanks) in
-    record {
-      suits = ∥∥₁_map c.args.self.now.some (λ x.
-          let l = x.0 in
-          let l' = drawn s.columns s.rows bottom c.args.pass frame l in
-          let o = next l x.1.counted in (
-            l',
-            subst (λ k. Suits k false n.shown l') (sym is.counts_are)
-                (drawn_suits win.columns s.columns s.rows c.args.pass c.blanks_of-blanks.result bottom c.args.frame.now l old c.drawn-counts.result c.in_ok-planned.planned.plan kept ls n.shown
-                p.columns_are is.marked is.lines_are x.1.counted p.plan_is blanks t (above l win.some x.1.remembered) o),
-          ));
-    }
+    ∥∥₁_map c.args.self.now.some (λ x.
+    let l = x.0 in (
+      drawn s.columns s.rows bottom c.args.pass frame l,
+      drawn_suits win.columns s.columns s.rows c.args.pass c.blanks_of-blanks.result bottom c.args.frame.now l old c.drawn-counts.result c.in_ok-planned.planned.plan kept ls r
+          p.columns_are is.marked is.lines_are x.1.counted p.plan_is blanks t (above l win.some x.1.remembered) (next l x.1.counted),
+    ))
 
 pub returns-then-moves-clause-counted : goal.returns-then-moves-clause-counted
 returns-then-moves-clause-counted g c =
-    let v' = g.T.TermLike.view (engine_term c.overwrite.new.self) in
-    let bytes = moved_bytes c.in_ok-next.next.width c.args.self.now.counts.live (placed (lines_drawn c.in_ok-next.next)) in
-    counted_by bytes _ _ c.in_ok-next.next.counts _ c.overwrite.result c.overwrite.new.self
-    c.overwrite.ensures.remembers (subst (λ t. Draws bytes (g.T.TermLike.view t) v' c.overwrite.result) c.next_with.ensures.terminal c.overwrite.ensures.writes)
+    let v = g.T.TermLike.view (engine_term c.args.self.now) in
+    counted_by (moved_bytes c.in_ok-planned.planned.window.columns c.args.self.now.counts.live (placed c.behind-drawn.result.now)) v (g.T.TermLike.view (engine_term c.ended.new.self)) _ _ c.ended.result c.ended.new.self c.ended.ensures.remembers
+    (subst (λ t. Draws (moved_bytes c.in_ok-planned.planned.window.columns c.args.self.now.counts.live (placed c.behind-drawn.result.now)) (g.T.TermLike.view t) (g.T.TermLike.view (engine_term c.ended.new.self)) c.ended.result) c.store.ensures.terminal
+    (c.ended.ensures.draws _ _ c.write_over-written.ensures))
 
 pub returns-then-moves-clause-lists : goal.returns-then-moves-clause-lists
 returns-then-moves-clause-lists g c = λ l fits.
@@ -134,102 +125,79 @@ returns-then-moves-clause-lists g c = λ l fits.
     let p = c.in_ok-planned.ensures.planned in
     let win = c.in_ok-planned.planned.window in
     let old = c.args.self.now.counts in
-    let o = fits_counts c.args.self.now l fits in
     let blanks = rw c.is_bottom.ensures at (c.blanks_of-blanks.ensures.blanks old.live 0 (omega arith)) in
     let t = c.in_ok-lines.ensures.lines ∙ ap (λ xs. replicate c.blanks_of-blanks.result [] ++ xs) c.in_ok-planned.ensures.lines.texts_are in
-    let n = c.in_ok-next.next in
-    let is = c.in_ok-next.ensures.next in
     let above = c.above-above.ensures.above in
     let ls = c.in_ok-lines.lines.items in
     let kept = drop c.above-above.result.from (take c.above-above.result.to c.args.self.now.shown.lines) in
     let next = λ (x : Lists) (o : CountsOf old x). rw p.rows_are at (c.drawn-counts.ensures s.columns c.args.pass bottom frame x o (rw (← p.rows_are) at p.plan_is) blanks) in
+    let o = fits_counts c.args.self.now l fits in
     let l' = drawn s.columns s.rows bottom c.args.pass frame l in
-    fits_by n.counts n.shown c.overwrite.result c.overwrite.new.self l l' c.overwrite.ensures.remembers (subst (λ k. CountsOf k l') (sym is.counts_are) (next l o))
+    let is = c.in_ok-from.ensures.next.0 in
+    let shown = c.store.new.self.shown in
+    fits_by _ shown c.ended.result c.ended.new.self l l' c.ended.ensures.remembers (subst (λ k. CountsOf k l') (sym c.in_ok-from.ensures.made.0) (next l o))
     (drawn-sound s.columns s.rows bottom c.args.pass frame l)
-    (drawn_shown win.columns s.columns s.rows c.args.pass c.blanks_of-blanks.result bottom c.args.frame.now l old c.drawn-counts.result c.in_ok-planned.planned.plan kept ls n.shown p.columns_are
-    is.marked is.lines_are o p.plan_is blanks t (above l win.some (fits_shown c.args.self.now l fits)) (next l o))
+    (drawn_shown win.columns s.columns s.rows c.args.pass c.blanks_of-blanks.result bottom c.args.frame.now l old c.drawn-counts.result c.in_ok-planned.planned.plan kept ls shown
+    p.columns_are is.marked is.lines_are o p.plan_is blanks t (above l win.some (fits_shown c.args.self.now l fits)) (next l o))
 
 pub returns-then-moves-clause-paints : goal.returns-then-moves-clause-paints
 returns-then-moves-clause-paints g c = λ l fits plain.
     let s = g.T.TermLike.view (engine_term c.args.self.now) in
-    let v' = g.T.TermLike.view (engine_term c.overwrite.new.self) in
     let frame = map bar_lines c.args.frame.now in
     let bottom = is_bottom c.args.alignment in
     let p = c.in_ok-planned.ensures.planned in
     let win = c.in_ok-planned.planned.window in
     let old = c.args.self.now.counts in
-    let o = fits_counts c.args.self.now l fits in
     let blanks = rw c.is_bottom.ensures at (c.blanks_of-blanks.ensures.blanks old.live 0 (omega arith)) in
     let t = c.in_ok-lines.ensures.lines ∙ ap (λ xs. replicate c.blanks_of-blanks.result [] ++ xs) c.in_ok-planned.ensures.lines.texts_are in
-    let n = c.in_ok-next.next in
-    let is = c.in_ok-next.ensures.next in
     let above = c.above-above.ensures.above in
     let ls = c.in_ok-lines.lines.items in
     let kept = drop c.above-above.result.from (take c.above-above.result.to c.args.self.now.shown.lines) in
     let next = λ (x : Lists) (o : CountsOf old x). rw p.rows_are at (c.drawn-counts.ensures s.columns c.args.pass bottom frame x o (rw (← p.rows_are) at p.plan_is) blanks) in
+    let o = fits_counts c.args.self.now l fits in
+    let v' = g.T.TermLike.view (engine_term c.ended.new.self) in
     let plan = c.in_ok-planned.planned.plan in
     let can = rw c.deref.ensures.value at (c.can_move-moves.ensures c.if-moves.true) in
     let lines = subst (λ k. AreLines k ls) p.columns_are (c.in_ok-lines.ensures.right win.columns c.in_ok-planned.ensures.lines.measured) in
     let even = subst (λ k. AreEven k ls) p.columns_are can.even in
     let wide = live_wide win.columns s.columns c.args.self.now.shown l old p.columns_are win.some (fits_shown c.args.self.now l fits) o can.known in
     let bytes = moved_bytes s.columns old.live (placed ls) in
-    let writes : Draws bytes s v' c.overwrite.result =
-    subst (λ k. Draws (moved_bytes k old.live (placed ls)) s v' c.overwrite.result) (is.width_is ∙ p.columns_are)
-    (subst (λ xs. Draws (moved_bytes n.width old.live (placed xs)) s v' c.overwrite.result) is.drawn_are
-    (subst (λ t. Draws (moved_bytes n.width old.live (placed (lines_drawn n))) (g.T.TermLike.view t) v' c.overwrite.result) c.next_with.ensures.terminal c.overwrite.ensures.writes)) in
-    paints_by s v' old n.counts _ c.overwrite.result c.overwrite.new.self c.args.self.now.failed l
-    (drawn s.columns s.rows bottom c.args.pass frame) bytes c.overwrite.ensures.remembers (fits_failed c.args.self.now l fits)
-    (subst (λ f. Draws (led f bytes) s v' c.overwrite.result) (sym can.sound) writes)
+    let drawn_are = c.behind-drawn.ensures ∙ c.in_ok-from.ensures.next.2 in
+    let writes : Draws bytes s v' c.ended.result =
+    subst (λ k. Draws (moved_bytes k old.live (placed ls)) s v' c.ended.result) p.columns_are
+    (subst (λ xs. Draws (moved_bytes win.columns old.live (placed xs)) s v' c.ended.result) drawn_are
+    (subst (λ t. Draws (moved_bytes win.columns old.live (placed c.behind-drawn.result.now)) (g.T.TermLike.view t) v' c.ended.result) c.store.ensures.terminal
+    (c.ended.ensures.draws _ _ c.write_over-written.ensures))) in
+    paints_by s v' old _ _ c.ended.result c.ended.new.self c.args.self.now.failed l
+    (drawn s.columns s.rows bottom c.args.pass frame) bytes c.ended.ensures.remembers (fits_failed c.args.self.now l fits)
+    (subst (λ f. Draws (led f bytes) s v' c.ended.result) (sym can.sound) writes)
     (λ x same. draw_moves s.columns s.rows x old c.drawn-counts.result c.args.pass c.blanks_of-blanks.result bottom c.args.frame.now plan ls
     (rw p.columns_are at win.some) plain p.narrow_frame same.counts p.plan_is (next x same.counts) blanks (can.from_below, can.from_last) can.stays_on_row t lines even can.enough can.some
     (subst (λ live. AreWide s.columns (live_rows s.columns live)) (sym same.live) wide) (λ u. within_rows old (placed ls) (can.no_more u))) o
     (fits_forgets c.args.self.now l fits) (drawn-sound s.columns s.rows bottom c.args.pass frame l) (drawn-adds s.columns s.rows bottom c.args.pass frame l)
     (drawn-known s.columns s.rows bottom c.args.pass frame l)
 
-pub rewrite-requires : goal.rewrite-requires
-rewrite-requires g c =
-    let s = g.T.TermLike.view (engine_term c.args.self.now) in
-    let frame = map bar_lines c.args.frame.now in
-    let bottom = is_bottom c.args.alignment in
-    let p = c.in_ok-planned.ensures.planned in
-    let win = c.in_ok-planned.planned.window in
+pub write_in_room-written-requires : goal.write_in_room-written-requires
+write_in_room-written-requires g c =
     let old = c.args.self.now.counts in
-    let blanks = rw c.is_bottom.ensures at (c.blanks_of-blanks.ensures.blanks old.live 0 (omega arith)) in
-    let t = c.in_ok-lines.ensures.lines ∙ ap (λ xs. replicate c.blanks_of-blanks.result [] ++ xs) c.in_ok-planned.ensures.lines.texts_are in
-    let n = c.in_ok-next.next in
-    let is = c.in_ok-next.ensures.next in
-    let above = c.above-above.ensures.above in
-    let ls = c.in_ok-lines.lines.items in
-    let kept = drop c.above-above.result.from (take c.above-above.result.to c.args.self.now.shown.lines) in
-    let next = λ (x : Lists) (o : CountsOf old x). rw p.rows_are at (c.drawn-counts.ensures s.columns c.args.pass bottom frame x o (rw (← p.rows_are) at p.plan_is) blanks) in
+    let drawn_are = c.behind-drawn.ensures ∙ c.in_ok-from.ensures.next.2 in
     let has = some_is c.room_for-room.result c.in-Some.room _ c.in-Some.is (rw c.deref-2.ensures.value at c.room_for-room.ensures) in
     let small : old.live ≤ 65535 = let f : old.kept + old.live ≤ old.reached = old.fits in let k : old.reached ≤ 65535 = old.small in omega arith in
     record {
-      suits = ∥∥₁_map c.args.self.now.some (λ x.
-          let l = x.0 in
-          let l' = drawn s.columns s.rows bottom c.args.pass frame l in
-          let o = next l x.1.counted in (
-            l',
-            subst (λ k. Suits k false n.shown l') (sym is.counts_are)
-                (drawn_suits win.columns s.columns s.rows c.args.pass c.blanks_of-blanks.result bottom c.args.frame.now l old c.drawn-counts.result c.in_ok-planned.planned.plan kept ls n.shown
-                p.columns_are is.marked is.lines_are x.1.counted p.plan_is blanks t (above l win.some x.1.remembered) o),
-          ));
-      room = subst (λ xs. (rows : ℕ) × IsWithin xs rows c.in-Some.room × (rows ≤ 65535)) (sym is.drawn_are) (old.live, has.1, small);
-      ready = subst AreReady (sym is.drawn_are) c.in_ok-lines.ensures.ready;
+      room = subst (λ xs. (rows : ℕ) × IsWithin xs rows c.in-Some.room × (rows ≤ 65535)) (sym drawn_are) (old.live, has.1, small);
+      ready = subst AreReady (sym drawn_are) c.in_ok-lines.ensures.ready;
     }
 
 pub returns-in-Some-clause-counted : goal.returns-in-Some-clause-counted
 returns-in-Some-clause-counted g c =
-    let n = c.in_ok-next.next in
-    let is = c.in_ok-next.ensures.next in
     let ls = c.in_ok-lines.lines.items in
     let has = some_is c.room_for-room.result c.in-Some.room _ c.in-Some.is (rw c.deref-2.ensures.value at c.room_for-room.ensures) in
     let parts = split_at (placed ls) c.in-Some.room.lines has.1.some (omega (arith, has.1.in_lines, length-map ls placed_of)) in
-    let v' = g.T.TermLike.view (engine_term c.rewrite.new.self) in
-    let bytes = change_bytes n.width c.in-Some.room.free parts.0 parts.1 parts.2 in
-    counted_by bytes _ _ n.counts _ c.rewrite.result c.rewrite.new.self c.rewrite.ensures.remembers
-    (subst (λ t. Draws bytes (g.T.TermLike.view t) v' c.rewrite.result) c.next_with.ensures.terminal
-    (c.rewrite.ensures.writes parts.0 parts.1 parts.2 (ap placed is.drawn_are ∙ parts.3) parts.4))
+    let drawn_are = c.behind-drawn.ensures ∙ c.in_ok-from.ensures.next.2 in
+    let v = g.T.TermLike.view (engine_term c.args.self.now) in
+    counted_by (change_bytes c.in_ok-planned.planned.window.columns c.in-Some.room.free parts.0 parts.1 parts.2) v (g.T.TermLike.view (engine_term c.ended-in-Some.new.self)) _ _ c.ended-in-Some.result c.ended-in-Some.new.self c.ended-in-Some.ensures.remembers
+    (subst (λ t. Draws (change_bytes c.in_ok-planned.planned.window.columns c.in-Some.room.free parts.0 parts.1 parts.2) (g.T.TermLike.view t) (g.T.TermLike.view (engine_term c.ended-in-Some.new.self)) c.ended-in-Some.result) c.store.ensures.terminal
+    (c.ended-in-Some.ensures.draws _ _ (c.write_in_room-written.ensures parts.0 parts.1 parts.2 (ap placed drawn_are ∙ parts.3) parts.4)))
 
 pub returns-in-Some-clause-lists : goal.returns-in-Some-clause-lists
 returns-in-Some-clause-lists g c = λ l fits.
@@ -239,44 +207,43 @@ returns-in-Some-clause-lists g c = λ l fits.
     let p = c.in_ok-planned.ensures.planned in
     let win = c.in_ok-planned.planned.window in
     let old = c.args.self.now.counts in
-    let o = fits_counts c.args.self.now l fits in
     let blanks = rw c.is_bottom.ensures at (c.blanks_of-blanks.ensures.blanks old.live 0 (omega arith)) in
     let t = c.in_ok-lines.ensures.lines ∙ ap (λ xs. replicate c.blanks_of-blanks.result [] ++ xs) c.in_ok-planned.ensures.lines.texts_are in
-    let n = c.in_ok-next.next in
-    let is = c.in_ok-next.ensures.next in
     let above = c.above-above.ensures.above in
     let ls = c.in_ok-lines.lines.items in
     let kept = drop c.above-above.result.from (take c.above-above.result.to c.args.self.now.shown.lines) in
     let next = λ (x : Lists) (o : CountsOf old x). rw p.rows_are at (c.drawn-counts.ensures s.columns c.args.pass bottom frame x o (rw (← p.rows_are) at p.plan_is) blanks) in
+    let o = fits_counts c.args.self.now l fits in
     let l' = drawn s.columns s.rows bottom c.args.pass frame l in
-    fits_by n.counts n.shown c.rewrite.result c.rewrite.new.self l l' c.rewrite.ensures.remembers (subst (λ k. CountsOf k l') (sym is.counts_are) (next l o))
+    let is = c.in_ok-from.ensures.next.0 in
+    let shown = c.store.new.self.shown in
+    fits_by _ shown c.ended-in-Some.result c.ended-in-Some.new.self l l' c.ended-in-Some.ensures.remembers (subst (λ k. CountsOf k l') (sym c.in_ok-from.ensures.made.0) (next l o))
     (drawn-sound s.columns s.rows bottom c.args.pass frame l)
-    (drawn_shown win.columns s.columns s.rows c.args.pass c.blanks_of-blanks.result bottom c.args.frame.now l old c.drawn-counts.result c.in_ok-planned.planned.plan kept ls n.shown p.columns_are
-    is.marked is.lines_are o p.plan_is blanks t (above l win.some (fits_shown c.args.self.now l fits)) (next l o))
+    (drawn_shown win.columns s.columns s.rows c.args.pass c.blanks_of-blanks.result bottom c.args.frame.now l old c.drawn-counts.result c.in_ok-planned.planned.plan kept ls shown
+    p.columns_are is.marked is.lines_are o p.plan_is blanks t (above l win.some (fits_shown c.args.self.now l fits)) (next l o))
 
 pub returns-in-Some-clause-paints : goal.returns-in-Some-clause-paints
 returns-in-Some-clause-paints g c = λ l fits plain.
     let s = g.T.TermLike.view (engine_term c.args.self.now) in
-    let v' = g.T.TermLike.view (engine_term c.rewrite.new.self) in
     let frame = map bar_lines c.args.frame.now in
     let bottom = is_bottom c.args.alignment in
     let p = c.in_ok-planned.ensures.planned in
     let win = c.in_ok-planned.planned.window in
     let old = c.args.self.now.counts in
-    let shown = c.args.self.now.shown in
-    let o = fits_counts c.args.self.now l fits in
     let blanks = rw c.is_bottom.ensures at (c.blanks_of-blanks.ensures.blanks old.live 0 (omega arith)) in
     let t = c.in_ok-lines.ensures.lines ∙ ap (λ xs. replicate c.blanks_of-blanks.result [] ++ xs) c.in_ok-planned.ensures.lines.texts_are in
-    let n = c.in_ok-next.next in
-    let is = c.in_ok-next.ensures.next in
     let above = c.above-above.ensures.above in
     let ls = c.in_ok-lines.lines.items in
     let kept = drop c.above-above.result.from (take c.above-above.result.to c.args.self.now.shown.lines) in
     let next = λ (x : Lists) (o : CountsOf old x). rw p.rows_are at (c.drawn-counts.ensures s.columns c.args.pass bottom frame x o (rw (← p.rows_are) at p.plan_is) blanks) in
     let has = some_is c.room_for-room.result c.in-Some.room _ c.in-Some.is (rw c.deref-2.ensures.value at c.room_for-room.ensures) in
+    let v' = g.T.TermLike.view (engine_term c.ended-in-Some.new.self) in
+    let shown = c.args.self.now.shown in
+    let o = fits_counts c.args.self.now l fits in
     let plan = c.in_ok-planned.planned.plan in
     let room = has.0 in
     let within = has.1 in
+    let drawn_are = c.behind-drawn.ensures ∙ c.in_ok-from.ensures.next.2 in
     let parts = split_at (placed ls) c.in-Some.room.lines within.some (omega (arith, within.in_lines, length-map ls placed_of)) in
     let lines = subst (λ k. AreLines k ls) p.columns_are (c.in_ok-lines.ensures.right win.columns c.in_ok-planned.ensures.lines.measured) in
     let sits = sits_live win.columns s.columns shown c.on-standing.result.now l (placed ls) p.columns_are win.some room.same_width c.on-standing.ensures.lines
@@ -284,46 +251,22 @@ returns-in-Some-clause-paints g c = λ l fits plain.
     (c.in_ok-lines.ensures.sits win.columns (c.on-standing.ensures.right win.some) c.in_ok-planned.ensures.lines.measured
     (subst (λ xs. AreLike xs c.in_ok-planned.planned.lines.items) (sym c.on-standing.ensures.lines) c.in_ok-planned.ensures.lines.alike)) in
     let bytes = change_bytes s.columns c.in-Some.room.free parts.0 parts.1 parts.2 in
-    let writes : Draws bytes s v' c.rewrite.result = subst (λ k. Draws (change_bytes k c.in-Some.room.free parts.0 parts.1 parts.2) s v' c.rewrite.result) (is.width_is ∙ p.columns_are)
-    (subst (λ t. Draws (change_bytes n.width c.in-Some.room.free parts.0 parts.1 parts.2) (g.T.TermLike.view t) v' c.rewrite.result) c.next_with.ensures.terminal
-    (c.rewrite.ensures.writes parts.0 parts.1 parts.2 (ap placed is.drawn_are ∙ parts.3) parts.4)) in
-    paints_by s v' old n.counts _ c.rewrite.result c.rewrite.new.self c.args.self.now.failed l
-    (drawn s.columns s.rows bottom c.args.pass frame) bytes c.rewrite.ensures.remembers (fits_failed c.args.self.now l fits)
-    (subst (λ f. Draws (led f bytes) s v' c.rewrite.result) (sym room.sound) writes)
+    let writes : Draws bytes s v' c.ended-in-Some.result = subst (λ k. Draws (change_bytes k c.in-Some.room.free parts.0 parts.1 parts.2) s v' c.ended-in-Some.result) p.columns_are
+    (subst (λ t. Draws (change_bytes win.columns c.in-Some.room.free parts.0 parts.1 parts.2) (g.T.TermLike.view t) v' c.ended-in-Some.result) c.store.ensures.terminal
+    (c.ended-in-Some.ensures.draws _ _ (c.write_in_room-written.ensures parts.0 parts.1 parts.2 (ap placed drawn_are ∙ parts.3) parts.4))) in
+    paints_by s v' old _ _ c.ended-in-Some.result c.ended-in-Some.new.self c.args.self.now.failed l
+    (drawn s.columns s.rows bottom c.args.pass frame) bytes c.ended-in-Some.ensures.remembers (fits_failed c.args.self.now l fits)
+    (subst (λ f. Draws (led f bytes) s v' c.ended-in-Some.result) (sym room.sound) writes)
     (λ x same. draw_changes s.columns s.rows x old c.drawn-counts.result c.args.pass c.blanks_of-blanks.result bottom c.args.frame.now plan ls c.in-Some.room parts.0 parts.1 parts.2
     (rw p.columns_are at win.some) (rw p.columns_are at room.narrow) plain p.narrow_frame same.counts p.plan_is (next x same.counts) blanks room.on_row room.stays_on_row t parts.3 parts.4
     (subst (λ live. AreSitting s.columns (looks_of (live_rows s.columns live)) (placed ls)) (sym same.live) sits) within lines (λ u. within_rows old (placed ls) (room.no_more u))) o
     (fits_forgets c.args.self.now l fits) (drawn-sound s.columns s.rows bottom c.args.pass frame l) (drawn-adds s.columns s.rows bottom c.args.pass frame l)
     (drawn-known s.columns s.rows bottom c.args.pass frame l)
 
-pub repaint-requires : goal.repaint-requires
-repaint-requires g c =
+pub paint-written-requires : goal.paint-written-requires
+paint-written-requires g c =
     let s = g.T.TermLike.view (engine_term c.args.self.now) in
-    let frame = map bar_lines c.args.frame.now in
-    let bottom = is_bottom c.args.alignment in
-    let p = c.in_ok-planned.ensures.planned in
-    let win = c.in_ok-planned.planned.window in
-    let old = c.args.self.now.counts in
-    let blanks = rw c.is_bottom.ensures at (c.blanks_of-blanks.ensures.blanks old.live 0 (omega arith)) in
-    let t = c.in_ok-lines.ensures.lines ∙ ap (λ xs. replicate c.blanks_of-blanks.result [] ++ xs) c.in_ok-planned.ensures.lines.texts_are in
-    let n = c.in_ok-next.next in
-    let is = c.in_ok-next.ensures.next in
-    let above = c.above-above.ensures.above in
-    let ls = c.in_ok-lines.lines.items in
-    let kept = drop c.above-above.result.from (take c.above-above.result.to c.args.self.now.shown.lines) in
-    let next = λ (x : Lists) (o : CountsOf old x). rw p.rows_are at (c.drawn-counts.ensures s.columns c.args.pass bottom frame x o (rw (← p.rows_are) at p.plan_is) blanks) in
-    record {
-      suits = ∥∥₁_map c.args.self.now.some (λ x.
-          let l = x.0 in
-          let l' = drawn s.columns s.rows bottom c.args.pass frame l in
-          let o = next l x.1.counted in (
-            l',
-            subst (λ k. Suits k false n.shown l') (sym is.counts_are)
-                (drawn_suits win.columns s.columns s.rows c.args.pass c.blanks_of-blanks.result bottom c.args.frame.now l old c.drawn-counts.result c.in_ok-planned.planned.plan kept ls n.shown
-                p.columns_are is.marked is.lines_are x.1.counted p.plan_is blanks t (above l win.some x.1.remembered) o),
-          ));
-      lines = rw p.plan_is.lines_are (frame_lines_le s.columns s.rows c.args.frame.now);
-    }
+    rw c.in_ok-planned.ensures.planned.plan_is.lines_are (frame_lines_le s.columns s.rows c.args.frame.now)
 
 pub returns-clause-lists : goal.returns-clause-lists
 returns-clause-lists g c = λ l fits.
@@ -333,20 +276,20 @@ returns-clause-lists g c = λ l fits.
     let p = c.in_ok-planned.ensures.planned in
     let win = c.in_ok-planned.planned.window in
     let old = c.args.self.now.counts in
-    let o = fits_counts c.args.self.now l fits in
     let blanks = rw c.is_bottom.ensures at (c.blanks_of-blanks.ensures.blanks old.live 0 (omega arith)) in
     let t = c.in_ok-lines.ensures.lines ∙ ap (λ xs. replicate c.blanks_of-blanks.result [] ++ xs) c.in_ok-planned.ensures.lines.texts_are in
-    let n = c.in_ok-next.next in
-    let is = c.in_ok-next.ensures.next in
     let above = c.above-above.ensures.above in
     let ls = c.in_ok-lines.lines.items in
     let kept = drop c.above-above.result.from (take c.above-above.result.to c.args.self.now.shown.lines) in
     let next = λ (x : Lists) (o : CountsOf old x). rw p.rows_are at (c.drawn-counts.ensures s.columns c.args.pass bottom frame x o (rw (← p.rows_are) at p.plan_is) blanks) in
+    let o = fits_counts c.args.self.now l fits in
     let l' = drawn s.columns s.rows bottom c.args.pass frame l in
-    fits_by n.counts n.shown c.repaint.result c.repaint.new.self l l' c.repaint.ensures.remembers (subst (λ k. CountsOf k l') (sym is.counts_are) (next l o))
+    let is = c.in_ok-from.ensures.next.0 in
+    let shown = c.store.new.self.shown in
+    fits_by _ shown c.ended-2.result c.ended-2.new.self l l' c.ended-2.ensures.remembers (subst (λ k. CountsOf k l') (sym c.in_ok-from.ensures.made.0) (next l o))
     (drawn-sound s.columns s.rows bottom c.args.pass frame l)
-    (drawn_shown win.columns s.columns s.rows c.args.pass c.blanks_of-blanks.result bottom c.args.frame.now l old c.drawn-counts.result c.in_ok-planned.planned.plan kept ls n.shown p.columns_are
-    is.marked is.lines_are o p.plan_is blanks t (above l win.some (fits_shown c.args.self.now l fits)) (next l o))
+    (drawn_shown win.columns s.columns s.rows c.args.pass c.blanks_of-blanks.result bottom c.args.frame.now l old c.drawn-counts.result c.in_ok-planned.planned.plan kept ls shown
+    p.columns_are is.marked is.lines_are o p.plan_is blanks t (above l win.some (fits_shown c.args.self.now l fits)) (next l o))
 
 pub returns-clause-paints : goal.returns-clause-paints
 returns-clause-paints g c = λ l fits plain.
@@ -356,22 +299,23 @@ returns-clause-paints g c = λ l fits plain.
     let p = c.in_ok-planned.ensures.planned in
     let win = c.in_ok-planned.planned.window in
     let old = c.args.self.now.counts in
+    let blanks = rw c.is_bottom.ensures at (c.blanks_of-blanks.ensures.blanks old.live 0 (omega arith)) in
+    let t = c.in_ok-lines.ensures.lines ∙ ap (λ xs. replicate c.blanks_of-blanks.result [] ++ xs) c.in_ok-planned.ensures.lines.texts_are in
+    let above = c.above-above.ensures.above in
+    let ls = c.in_ok-lines.lines.items in
+    let kept = drop c.above-above.result.from (take c.above-above.result.to c.args.self.now.shown.lines) in
+    let next = λ (x : Lists) (o : CountsOf old x). rw p.rows_are at (c.drawn-counts.ensures s.columns c.args.pass bottom frame x o (rw (← p.rows_are) at p.plan_is) blanks) in
     let o = fits_counts c.args.self.now l fits in
     let plan = c.in_ok-planned.planned.plan in
-    let n = c.in_ok-next.next in
-    let is = c.in_ok-next.ensures.next in
     let f = c.fresh-fresh.result in
-    let blanks = rw c.is_bottom.ensures at (c.blanks_of-blanks.ensures.blanks old.live 0 (omega arith)) in
-    let next = λ (x : Lists) (o : CountsOf old x). rw p.rows_are at (c.drawn-counts.ensures s.columns c.args.pass bottom frame x o (rw (← p.rows_are) at p.plan_is) blanks) in
     let lines = [] ++ replicate c.blanks_of-blanks.result [] ++ take plan.lines (frame_lines c.args.frame.now) in
-    let below : n.counts.below ≡ c.drawn-counts.result.below = ap (λ (k : Counts). k.below) is.counts_are in
     let fill = draw_fill s.columns s.rows c.args.pass c.blanks_of-blanks.result old.live 0 bottom c.args.frame.now plan p.plan_is p.plan_ends blanks
-    c.drawn-counts.result.below c.fill-fill.result (rw p.columns_are at c.fill-fill.ensures) in
-    paints_by s (g.T.TermLike.view (engine_term c.repaint.new.self)) old n.counts _ c.repaint.result c.repaint.new.self c.args.self.now.failed l
+    c.drawn-counts.result.below c.fill.result (rw p.columns_are at c.fill.ensures) in
+    paints_by s (g.T.TermLike.view (engine_term c.ended-2.new.self)) old _ _ c.ended-2.result c.ended-2.new.self c.args.self.now.failed l
     (drawn s.columns s.rows bottom c.args.pass frame)
-    (reach_bytes f.down f.rows ++ (paint_bytes false old.below old.live lines c.drawn-counts.result.below ++ fill_bytes c.drawn-counts.result.below s.columns lines)) c.repaint.ensures.remembers
+    (reach_bytes f.down f.rows ++ (paint_bytes false old.below old.live lines c.drawn-counts.result.below ++ fill_bytes c.drawn-counts.result.below s.columns lines)) c.ended-2.ensures.remembers
     (fits_failed c.args.self.now l fits)
-    (rw (c.next_with.ensures.terminal, c.next_with.ensures.same.0, c.next_with.ensures.same.1, fill, below) at c.repaint.ensures.writes)
+    (rw (c.store.ensures.terminal, fill) at (c.ended-2.ensures.draws _ _ c.paint-written.ensures))
     (λ x same. draw_paints s.columns s.rows x old c.drawn-counts.result c.args.pass c.blanks_of-blanks.result bottom c.args.frame.now plan f
     (rw p.columns_are at win.some) plain p.narrow_frame same.counts p.plan_is (next x same.counts) blanks (rw p.rows_are at c.fresh-fresh.ensures)) o
     (fits_forgets c.args.self.now l fits) (drawn-sound s.columns s.rows bottom c.args.pass frame l) (drawn-adds s.columns s.rows bottom c.args.pass frame l)

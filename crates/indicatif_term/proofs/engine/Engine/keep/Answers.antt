@@ -15,10 +15,10 @@ returns-clause-lists g c = λ l fits.
     let w = (g.T.TermLike.view (engine_term c.args.self.now)).columns in
     fits_made _ (kept_of w c.args.bar l) (c.keep-outcome.ensures.counts w l (rw c.replace-counts.ensures.value (fits_counts c.args.self.now l fits)))
     (fits_failed c.args.self.now l fits ∙ sym (kept-failed w c.args.bar l)) (kept_forgets w c.args.bar l (fits_forgets c.args.self.now l fits))
-    (rw c.width-width.ensures at (c.after_keep.ensures c.args.bar l
+    (rw c.width-width.ensures at (c.keep.ensures c.args.bar l
     (rw (← c.width-width.ensures) at (live_of c.keep-outcome.result.1 (kept_of w c.args.bar l)
     (c.keep-outcome.ensures.counts w l (rw c.replace-counts.ensures.value (fits_counts c.args.self.now l fits)))))
-    (rw c.replace-shown.ensures.value (fits_shown c.args.self.now l fits))))
+    (fits_shown c.args.self.now l fits)))
 
 pub returns-clause-rests : goal.returns-clause-rests
 returns-clause-rests g c = λ w h l opening t r. kept_rests w h opening l c.args.bar t r
@@ -35,9 +35,9 @@ invariant_of-self g c =
               counted = c.keep-outcome.ensures.counts w l (rw c.replace-counts.ensures.value is.counted);
               failed_is = is.failed_is ∙ sym (kept-failed w c.args.bar l);
               forgets = kept_forgets w c.args.bar l is.forgets;
-              remembered = rw c.width-width.ensures at (c.after_keep.ensures c.args.bar l
+              remembered = rw c.width-width.ensures at (c.keep.ensures c.args.bar l
                   (rw (← c.width-width.ensures) at (live_of c.keep-outcome.result.1 (kept_of w c.args.bar l) (c.keep-outcome.ensures.counts w l (rw c.replace-counts.ensures.value is.counted))))
-                  (rw c.replace-shown.ensures.value is.remembered));
+                  is.remembered);
             },
           ));
     }

@@ -9,8 +9,6 @@ use Rattle.indicatif_term.proofs.LastLineLemmas.{fill_bytes}
 use Rattle.indicatif_term.specs.Inside.Plans.{frame_lines, text_height}
 use Rattle.indicatif_term.specs.Frames.{bar_lines, logged_lines, text_lines, all_lines, is_fault}
 use Rattle.indicatif_term.specs.declared.engine.remembered.StandingLine.{StandingLine}
-use Rattle.indicatif_term.specs.declared.engine.counts.Counts.{Counts}
-use Rattle.indicatif_term.specs.Remembered.{Suits}
 use Rattle.indicatif_term.specs.Standing.{texts}
 use Rattle.indicatif_term.specs.Engines.{engine_term, Fits, Paints, is_failure, lists_after}
 use Rattle.indicatif_term.specs.DrawTargets.{is_bottom}
@@ -41,11 +39,11 @@ pub returns-in_err-lines-clause-paints : goal.returns-in_err-lines-clause-paints
 returns-in_err-lines-clause-paints g c = λ l fits plain.
     paints_refused _ c.from_residual-in_err-lines.result c.in_err-lines.field-0.0 l _ c.from_residual-in_err-lines.ensures.1 (ap is_fault c.in_err-lines.ensures.memory.0)
 
-pub next_with-requires-clause-right : goal.next_with-requires-clause-right
-next_with-requires-clause-right g c = λ some. c.in_ok-lines.ensures.right c.in_ok-planned.planned.window.columns c.in_ok-planned.ensures.lines.measured
+pub store-requires-clause-right : goal.store-requires-clause-right
+store-requires-clause-right g c = λ some. c.in_ok-lines.ensures.right c.in_ok-planned.planned.window.columns c.in_ok-planned.ensures.lines.measured
 
-pub returns-in_err-next-clause-memory : goal.returns-in_err-next-clause-memory
-returns-in_err-next-clause-memory g c = λ e.
+pub returns-in_err-store-clause-memory : goal.returns-in_err-store-clause-memory
+returns-in_err-store-clause-memory g c = λ e.
     let s = g.T.TermLike.view (engine_term c.args.self.now) in
     let p = c.in_ok-planned.ensures.planned in
     let plan = c.in_ok-planned.planned.plan in
@@ -61,30 +59,30 @@ returns-in_err-next-clause-memory g c = λ e.
     ∙ length-append front (take plan.lines (frame_lines c.args.frame.now)) ∙ ap (λ n. n + length (take plan.lines (frame_lines c.args.frame.now))) (length-replicate k []) in (
       rw p.columns_are at c.in_ok-planned.planned.window.some,
       some_lines s.columns s.rows 0 k (old.kept + old.live) rows (is_bottom c.args.alignment) c.args.frame.now plan p.plan_is blanks
-          (omega (arith, size, length-take plan.lines (frame_lines c.args.frame.now), c.in_err-next.ensures.refused.1)),
+          (omega (arith, size, length-take plan.lines (frame_lines c.args.frame.now), c.in_err-store.ensures.refused.1)),
     )
 
-pub returns-in_err-next-clause-counted : goal.returns-in_err-next-clause-counted
-returns-in_err-next-clause-counted g c =
-    counted_refused _ _ c.from_residual-in_err-next.result c.in_err-next.field-0.0 (ap (λ t. g.T.TermLike.view t) c.next_with.ensures.terminal) c.from_residual-in_err-next.ensures.1
-    (ap is_fault c.in_err-next.ensures.refused.0)
+pub returns-in_err-store-clause-counted : goal.returns-in_err-store-clause-counted
+returns-in_err-store-clause-counted g c =
+    counted_refused _ _ c.from_residual-in_err-store.result c.in_err-store.field-0.0 (ap (λ t. g.T.TermLike.view t) c.store.ensures.terminal) c.from_residual-in_err-store.ensures.1
+    (ap is_fault c.in_err-store.ensures.refused.0)
 
-pub returns-in_err-next-clause-lists : goal.returns-in_err-next-clause-lists
+pub returns-in_err-store-clause-lists : goal.returns-in_err-store-clause-lists
 unfolding Fits
-returns-in_err-next-clause-lists g c = λ l fits.
-    fits_refused _ _ c.from_residual-in_err-next.result c.in_err-next.field-0.0 l _ c.in_err-next.ensures.refused.2 c.from_residual-in_err-next.ensures.1
-    (ap is_fault c.in_err-next.ensures.refused.0) fits
+returns-in_err-store-clause-lists g c = λ l fits.
+    fits_refused _ _ c.from_residual-in_err-store.result c.in_err-store.field-0.0 l _ c.in_err-store.ensures.refused.2 c.from_residual-in_err-store.ensures.1
+    (ap is_fault c.in_err-store.ensures.refused.0) fits
 
-pub returns-in_err-next-clause-paints : goal.returns-in_err-next-clause-paints
-returns-in_err-next-clause-paints g c = λ l fits plain.
+pub returns-in_err-store-clause-paints : goal.returns-in_err-store-clause-paints
+returns-in_err-store-clause-paints g c = λ l fits plain.
     let s = g.T.TermLike.view (engine_term c.args.self.now) in
-    let r = c.from_residual-in_err-next.result in
+    let r = c.from_residual-in_err-store.result in
     let l' = logged s.columns s.rows (is_bottom c.args.alignment) (text_lines (logged_lines c.args.text.now)) (map bar_lines c.args.frame.now) l in
-    subst (λ t. Paints s (g.T.TermLike.view t) (is_failure r) l (lists_after r l l')) (sym c.next_with.ensures.terminal)
-    (paints_refused s r c.in_err-next.field-0.0 l l' c.from_residual-in_err-next.ensures.1 (ap is_fault c.in_err-next.ensures.refused.0))
+    subst (λ t. Paints s (g.T.TermLike.view t) (is_failure r) l (lists_after r l l')) (sym c.store.ensures.terminal)
+    (paints_refused s r c.in_err-store.field-0.0 l l' c.from_residual-in_err-store.ensures.1 (ap is_fault c.in_err-store.ensures.refused.0))
 
-pub repaint-requires : goal.repaint-requires
-repaint-requires g c =
+pub store-requires-clause-suits : goal.store-requires-clause-suits
+store-requires-clause-suits g c = λ r is.
     let s = g.T.TermLike.view (engine_term c.args.self.now) in
     let frame = map bar_lines c.args.frame.now in
     let bottom = is_bottom c.args.alignment in
@@ -94,20 +92,20 @@ repaint-requires g c =
     let text = text_lines (logged_lines c.args.text.now) in
     let blanks = rw c.is_bottom.ensures at (c.blanks_of-blanks.ensures.blanks (old.kept + old.live) c.in_ok-planned.planned.text.height c.saturating_sub-free.ensures) in
     let t = c.in_ok-lines.ensures.texts ∙ ap (λ xs. replicate c.blanks_of-blanks.result [] ++ xs) c.in_ok-planned.ensures.lines.texts_are in
-    let n = c.in_ok-next.next in
-    let is = c.in_ok-next.ensures.next in
-    record {
-      suits = ∥∥₁_map c.args.self.now.some (λ x.
-          let l = x.0 in
-          let l' = logged s.columns s.rows bottom text frame l in
-          let next = rw p.rows_are at (c.logged-counts.ensures s.columns bottom text frame l x.1.counted (rw (← p.rows_are) at p.plan_is) p.height_is blanks) in (
-            l',
-            subst (λ k. Suits k false n.shown l') (sym is.counts_are) (suits_made c.logged-counts.result _ l' next (logged-sound s.columns s.rows bottom text frame l)
-                (logged_shown win.columns s.columns s.rows c.in_ok-planned.planned.text.height c.blanks_of-blanks.result bottom text c.args.frame.now l old c.logged-counts.result
-                c.in_ok-planned.planned.plan n.shown p.columns_are is.marked x.1.counted p.plan_is p.height_is blanks (ap texts is.lines_are ∙ t) next)),
-          ));
-      lines = rw p.plan_is.lines_are (frame_lines_le s.columns s.rows c.args.frame.now);
-    }
+    ∥∥₁_map c.args.self.now.some (λ x.
+    let l = x.0 in
+    let l' = logged s.columns s.rows bottom text frame l in
+    let next = rw p.rows_are at (c.logged-counts.ensures s.columns bottom text frame l x.1.counted (rw (← p.rows_are) at p.plan_is) p.height_is blanks) in (
+      l',
+      suits_made c.logged-counts.result r l' next (logged-sound s.columns s.rows bottom text frame l)
+          (logged_shown win.columns s.columns s.rows c.in_ok-planned.planned.text.height c.blanks_of-blanks.result bottom text c.args.frame.now l old c.logged-counts.result
+          c.in_ok-planned.planned.plan r p.columns_are is.marked x.1.counted p.plan_is p.height_is blanks (ap texts is.lines_are ∙ t) next),
+    ))
+
+pub paint-written-requires : goal.paint-written-requires
+paint-written-requires g c =
+    let s = g.T.TermLike.view (engine_term c.args.self.now) in
+    rw c.in_ok-planned.ensures.planned.plan_is.lines_are (frame_lines_le s.columns s.rows c.args.frame.now)
 
 pub returns-clause-answer : goal.returns-clause-answer
 returns-clause-answer g c =
@@ -115,8 +113,8 @@ returns-clause-answer g c =
     let frame = all_lines (map bar_lines c.args.frame.now) in
     let p = c.in_ok-planned.ensures.planned in
     let w = c.in_ok-planned.planned.window.columns in
-    rw (← p.columns_are) (answer_made w (text ++ frame) c.in_ok-next.next.counts _ c.repaint.result c.repaint.new.self
-    c.repaint.ensures.remembers c.in_ok-planned.planned.window.some
+    rw (← p.columns_are) (answer_made w (text ++ frame) _ _ c.ended.result c.ended.new.self
+    c.ended.ensures.remembers c.in_ok-planned.planned.window.some
     (rw (← p.columns_are) at (narrow_both (g.T.TermLike.view (engine_term c.args.self.now)).columns text frame p.narrow_text p.narrow_frame)))
 
 pub returns-clause-lists : goal.returns-clause-lists
@@ -130,15 +128,14 @@ returns-clause-lists g c = λ l fits.
     let text = text_lines (logged_lines c.args.text.now) in
     let blanks = rw c.is_bottom.ensures at (c.blanks_of-blanks.ensures.blanks (old.kept + old.live) c.in_ok-planned.planned.text.height c.saturating_sub-free.ensures) in
     let t = c.in_ok-lines.ensures.texts ∙ ap (λ xs. replicate c.blanks_of-blanks.result [] ++ xs) c.in_ok-planned.ensures.lines.texts_are in
-    let n = c.in_ok-next.next in
-    let is = c.in_ok-next.ensures.next in
+    let is = c.in_ok-store.ensures.next.0 in
     let o = fits_counts c.args.self.now l fits in
     let l' = logged s.columns s.rows bottom text frame l in
     let next = rw p.rows_are at (c.logged-counts.ensures s.columns bottom text frame l o (rw (← p.rows_are) at p.plan_is) p.height_is blanks) in
-    fits_by n.counts n.shown c.repaint.result c.repaint.new.self l l' c.repaint.ensures.remembers (subst (λ k. CountsOf k l') (sym is.counts_are) next)
+    fits_by _ c.store.new.self.shown c.ended.result c.ended.new.self l l' c.ended.ensures.remembers (subst (λ k. CountsOf k l') (sym c.in_ok-store.ensures.made.0) next)
     (logged-sound s.columns s.rows bottom text frame l)
     (logged_shown win.columns s.columns s.rows c.in_ok-planned.planned.text.height c.blanks_of-blanks.result bottom text c.args.frame.now l old c.logged-counts.result c.in_ok-planned.planned.plan
-    n.shown p.columns_are is.marked o p.plan_is p.height_is blanks (ap texts is.lines_are ∙ t) next)
+    c.store.new.self.shown p.columns_are is.marked o p.plan_is p.height_is blanks (ap texts is.lines_are ∙ t) next)
 
 pub returns-clause-paints : goal.returns-clause-paints
 returns-clause-paints g c = λ l fits plain.
@@ -161,14 +158,12 @@ returns-clause-paints g c = λ l fits plain.
     let fill = log_fill s.columns s.rows 0 c.blanks_of-blanks.result (old.kept + old.live) rows bottom c.args.frame.now plan p.plan_is p.plan_ends blanks
     c.logged-counts.result.below c.fill-fill.result c.unwrap_or-last.result text (logged_length c.args.text.now) (rw p.text_ends at c.unwrap_or-last.ensures)
     (rw p.columns_are at c.fill-fill.ensures) in
-    let n = c.in_ok-next.next in
-    let below : n.counts.below ≡ c.logged-counts.result.below = ap (λ (k : Counts). k.below) c.in_ok-next.ensures.next.counts_are in
-    paints_by s (g.T.TermLike.view (engine_term c.repaint.new.self)) old n.counts _ c.repaint.result c.repaint.new.self c.args.self.now.failed l
+    paints_by s (g.T.TermLike.view (engine_term c.ended.new.self)) old _ _ c.ended.result c.ended.new.self c.args.self.now.failed l
     (logged s.columns s.rows bottom (text_lines text) frame)
     (reach_bytes f.down f.rows ++ (paint_bytes false old.below (old.kept + old.live) lines c.logged-counts.result.below ++ fill_bytes c.logged-counts.result.below s.columns lines))
-    c.repaint.ensures.remembers
+    c.ended.ensures.remembers
     (fits_failed c.args.self.now l fits)
-    (rw (c.next_with.ensures.terminal, c.next_with.ensures.same.0, c.next_with.ensures.same.1, fill, below) at c.repaint.ensures.writes)
+    (rw (c.store.ensures.terminal, fill) at (c.ended.ensures.draws _ _ c.paint-written.ensures))
     (λ x is. log_paints s.columns s.rows x old c.logged-counts.result rows c.blanks_of-blanks.result bottom text c.args.frame.now plan end f
     (rw p.columns_are at c.in_ok-planned.planned.window.some) (logged_utf8 c.args.text.now c.utf8.text) plain p.narrow_text p.narrow_frame is.counts p.plan_is (next x is.counts) p.height_is blanks
     (rw p.rows_are at c.fresh-fresh.ensures) ends lasts) o

@@ -1,4 +1,4 @@
-use Rattle.std.proofs.Common.{◌≡◌, ◌<◌, ◌≤◌, ◌+◌, ◌-◌, ◌++◌, ◌∙◌, [], ap, sym, subst, arith, length, length-append, map, chars}
+use Rattle.std.proofs.Common.{◌≡◌, ◌<◌, ◌≤◌, ◌+◌, ◌-◌, ◌++◌, ◌∙◌, ap, sym, subst, arith, length, length-append, map, chars}
 use Rattle.std.proofs.lemmas.List.{length-map}
 use Rattle.indicatif_term.specs.Inside.Edits.{rest_bytes}
 use Rattle.indicatif_term.specs.Inside.Inks.{in_ink, read}

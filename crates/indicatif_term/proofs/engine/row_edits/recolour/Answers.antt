@@ -1,6 +1,5 @@
 use Rattle.std.proofs.Common.{◌≡◌, true, false, ◌++◌, ◌∙◌, sym}
-use Rattle.indicatif_term.specs.Inside.Edits.{reset_bytes}
-use Rattle.indicatif_term.specs.Inside.Inks.{same_ink, colours_of}
+use Rattle.indicatif_term.specs.Inside.Inks.{same_ink}
 use Rattle.indicatif_term.specs.Inside.Rests.{ink_of}
 use Rattle.indicatif_term.proofs.CallTurnLemmas.{reaches_none, writes_then, writes_fail}
 use Rattle.indicatif_term.proofs.engine.row_edits.recolour.Goals as goal

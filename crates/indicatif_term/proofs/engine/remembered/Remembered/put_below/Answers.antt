@@ -1,6 +1,6 @@
 use Rattle.std.proofs.Common.{◌<◌, ◌≤◌, length, sym, subst}
 use Rattle.indicatif_term.specs.Standing.{AreLines}
-use Rattle.indicatif_term.proofs.engine.remembered.Remembered.take_with.Goals as goal
+use Rattle.indicatif_term.proofs.engine.remembered.Remembered.put_below.Goals as goal
 
 pub invariant_of-self : goal.invariant_of-self
 invariant_of-self c =
