@@ -6,6 +6,16 @@
 //! only the cells that differ, and leaves those that stay; each hundredth change of a line writes it whole. Else, as for a log,
 //! it goes up to the first of the kept and live rows, empties them from there down, goes up again, and writes the new ones in
 //! their place. The rows above stand at every moment.
+//!
+//! Its calls are here. In the order of a draw:
+//!
+//! - `lines`: the lines that bars show. `window`: the size of a terminal that has some columns. `spare`: memory to use again.
+//! - State: `counts`, the rows by kinds; `remembered`, the lines that stand. At another size `recounting` and `recutting` cut both, `recutting`
+//!   by the characters of each line (`marked`).
+//! - What differs: `renewed`, for a frame with the same rows; `layout` and `beside`, for any other. `comparing` compares one line, `parting`
+//!   finds where two lines of one row part, and `inks` reads cells with their colours; `last_char` is what a last line writes again.
+//! - What is written: `changing`, lines in the place of others, of which `row_edits` writes a part; `painting`, whole lines on rows that were
+//!   emptied; `moving`, lines over others without an empty row between.
 ghost use Rattle.std.specs.Prelude.{if◌then◌else◌, min, ◌-◌, ◌^◌, ◌≡◌, ◌∷◌, List, true, false, ◌≢◌, map, length, replicate, ◌+◌, ◌<◌, ◌≤◌, IfErr, IfSome, option_map, IsTrue, IsFalse, ◌++◌, [], ℕ, Err, false, ◌⊎◌, ◌↔◌, ◌==◌, ◌&&◌, IfOk, take, drop};
 ghost use Rattle.indicatif_term.specs.Lists.{Lists, opening_lists, forgotten_lists};
 ghost use Rattle.indicatif_term.specs.Counts.{CountsOf};
