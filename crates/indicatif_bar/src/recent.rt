@@ -10,7 +10,7 @@ use crate::tracker::ProgressTracker;
 use indicatif_text::columns::{Moment, Refusal};
 
 /// Two samples, from which the rate of the last seconds is computed: of at least one and a half seconds, once there are as many, and of at
-/// most three while samples come at least that often. So a stall shows as a rate that falls to 0.
+/// most three and the time between two samples. So a stall shows as a rate that falls to 0.
 ///
 /// ```
 /// let seconds = LastSeconds::starting(Sample { steps: 0, moment: 0 });

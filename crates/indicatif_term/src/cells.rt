@@ -184,8 +184,8 @@ impl InMemoryTerm {
     }
 
     /// The calls since the last check, one a line: `Up(n)`, `Down(n)`, `Left(n)`, `Right(n)`, `Str("..")`, `NewLine`, `Clear`, `Flush`.
-    /// `write_line` is `Str` and `NewLine`; a move by 0 isn't listed. The text between quotation marks is escaped as by Rust's `{:?}`.
-    /// Takes no memory.
+    /// `write_line` is `Str` and `NewLine`; a move by 0 isn't listed. Quotation marks, backslashes and ASCII control characters of a text are
+    /// escaped as by Rust's `{:?}`. Takes no memory.
     ///
     /// ```
     /// term.move_cursor_up(2)?;

@@ -24,7 +24,7 @@ use std::sync::{Arc, Wait};
 /// Boards are told apart by their marks alone: give boards that exist at the same time different marks.
 ///
 /// Only a board that keeps its history (`recorded`) takes memory for each call: one entry. If its history has no room, the call returns
-/// `Memory`, and nothing has changed. On any other board a call takes what `Board` says, and for a text that isn't empty a copy.
+/// `Memory`, and nothing has changed. On any other board a call takes what `Board` says.
 ///
 /// The clauses say which answers a call can give, whatever the board is. They don't see which boards keep a history, so they allow `Memory`
 /// for each call. That the board under the lock changes accordingly is tested, not proved.
