@@ -3,11 +3,11 @@ use crate::checks::Granted;
 use indicatif_bar::state::{BarCommand, BarState};
 use indicatif_bar::style::{NoTracker, ProgressStyle};
 use indicatif_board::multi::{
-    Answer, BarId, Call, Candidate, InsertLocation, Opening, Recorded, Size,
+    Answer, BarId, Call, Candidate, InsertLocation, Opening, Receipt, Recorded, Size,
 };
 use indicatif_term::cells::InMemoryTerm;
 use indicatif_term::target::ProgressDrawTarget;
-use indicatif_text::columns::Drawn;
+use indicatif_text::columns::{Drawn, Refusal};
 use std::alloc::Global;
 use std::process::Abort;
 
@@ -57,6 +57,68 @@ fn entry_where_nothing_is_shown(rt: HostRuntime) {
     let (answer, _) = record.apply(Call::Clear, 5);
     same!(rt; &answer, &Answer::Drawn(Drawn::Hidden));
     is_clear(rt, &record, (&answer, None));
+}
+
+// ---- receipts
+
+/// A text of its own.
+fn own(rt: &impl Abort, alloc: Global, text: &str) -> String {
+    String::from_str(alloc, text).granted(rt)
+}
+
+/// Claims that the board of the mark 1 logged a text at the moment 5, and drew it.
+fn claim(rt: &impl Abort, alloc: Global, number: usize, text: &str) -> Receipt {
+    Receipt {
+        mark: 1,
+        number,
+        text: own(rt, alloc, text),
+        moment: 5,
+        answer: Answer::Drawn(Drawn::Yes),
+    }
+}
+
+/// A receipt is held, also after another call. It is the claim that names all of its entry.
+#[test]
+fn receipt_of_a_text(rt: HostRuntime) {
+    let rt = &rt;
+    let alloc = rt.alloc();
+    let mut record: Recording = Recorded::new(
+        alloc,
+        ProgressDrawTarget::term_like(terminal(rt, alloc)),
+        1,
+    );
+    let text = own(rt, alloc, "a");
+    let (answer, receipt) = record.println_with_receipt(text, 5);
+    let receipt = receipt.ok_or(Refusal::Memory).granted(rt);
+    holds!(rt; record.holds(&receipt) && receipt.number == 0 && receipt.answer == answer);
+    let (_, other) = record.println_with_receipt(own(rt, alloc, "b"), 5);
+    holds!(rt; record.holds(&receipt) && record.holds(&other.granted(rt)));
+    holds!(rt; record.holds(&claim(rt, alloc, 0, "a")));
+    holds!(rt; record.holds(&claim(rt, alloc, 1, "b")));
+}
+
+/// A claim of another number, of a number that no entry has, of another text, mark, moment or answer.
+#[test]
+fn claims_that_no_entry_meets(rt: HostRuntime) {
+    let rt = &rt;
+    let alloc = rt.alloc();
+    let mut record: Recording = Recorded::new(alloc, ProgressDrawTarget::hidden(), 1);
+    let (_, receipt) = record.println_with_receipt(own(rt, alloc, "a"), 5);
+    let mut receipt = receipt.granted(rt);
+    holds!(rt; !record.holds(&claim(rt, alloc, 0, "a"))); // it was hidden
+    receipt.number = 1;
+    holds!(rt; !record.holds(&receipt));
+    receipt.number = 0;
+    receipt.mark = 2;
+    holds!(rt; !record.holds(&receipt));
+    receipt.mark = 1;
+    receipt.moment = 6;
+    holds!(rt; !record.holds(&receipt));
+    receipt.moment = 5;
+    receipt.text = own(rt, alloc, "b");
+    holds!(rt; !record.holds(&receipt));
+    receipt.text = own(rt, alloc, "a");
+    holds!(rt; record.holds(&receipt));
 }
 
 // ---- openings

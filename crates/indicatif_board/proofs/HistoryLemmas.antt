@@ -1,6 +1,6 @@
 -- What a board's calls and answers say of its rows: those above are only added, and a text's rows are there once it was logged.
 use Rattle.std.proofs.Common.{◌≡◌, ℕ, zero, suc, Bool, true, false, List, [], ◌∷◌, ◌++◌, ◌-◌, max, length, take, drop, flat_map, refl, sym, ◌∙◌, ap, subst, append_assoc, append-nil, Result, Ok, Err, Option, Some, None, inl, inr, if◌then◌else◌}
-use Rattle.std.specs.Prelude.{IsFalse, ◌^◌, not, ◌==◌}
+use Rattle.std.specs.Prelude.{◌^◌, not, ◌==◌}
 use Rattle.std.specs.List.{list_any}
 use Rattle.std.proofs.lemmas.Bool.{cond_both, false≢true, or_parts}
 use Rattle.std.proofs.lemmas.List.Elements.{All-from_recursion}
@@ -29,7 +29,7 @@ use Rattle.indicatif_board.specs.BoardBars.{board_bars}
 use Rattle.indicatif_board.specs.Boards.{BoardState, BoardKind, Call, Insert, Remove, Drop, Log, BarLog, Clear, Redraw, Align, Tell, Answer, Drew, says, Location, Entrant, New, Old, turned_away, anchor_turned_away, or_refused, inserted, taken_out, draws, draw_of, log_of, laid_out, layout_takes, bar_changed, left_by, left_on, ownerless_on, opening_board, board}
 use Rattle.indicatif_board.specs.HistoryLaws.{AboveOnlyGrows, text_of, AreUnbroken, FollowsFromItsCalls, HasBoundedDraws, LoggedRowsStand, IsReadAsItsRun}
 use Rattle.indicatif_board.specs.Members.{is_member, is_head, without, said_of, leaders, frame_of}
-use Rattle.indicatif_board.specs.Recorded.{BoardStep, Record, IsRun, calls_of, answers_of}
+use Rattle.indicatif_board.specs.Recorded.{BoardStep, calls_of, answers_of}
 use Rattle.indicatif_board.proofs.BoardRunLemmas.{board_read_after}
 use Rattle.indicatif_board.proofs.BoundLemmas.{board_limited}
 use Rattle.indicatif_board.proofs.PlainBoardLemmas.{board_runs_are_plain}

@@ -22,4 +22,5 @@ pub mod SomeBoardLemmas
 pub mod LoneBoardLemmas
 pub mod PlainBoardLemmas
 pub mod HistoryLemmas
+pub mod ReceiptLemmas
 pub mod WindowLemmas

@@ -15,7 +15,7 @@ use Rattle.indicatif_bar.specs.Machines.{Machine, outcomes}
 use Rattle.indicatif_bar.specs.Runs.{Runs, broke, is_undisturbed, Starts, ReadsAs}
 use Rattle.indicatif_bar.specs.Trackers.{Tracking}
 use Rattle.indicatif_board.specs.BoardBars.{board_bars}
-use Rattle.indicatif_board.specs.Boards.{BoardState, Call, Log, BarLog, Answer, Drew, drawn_of, opening_board, board}
+use Rattle.indicatif_board.specs.Boards.{Call, Log, BarLog, Drew, drawn_of, opening_board, board}
 use Rattle.indicatif_board.specs.PlainBoardLaws.{IsPlainCall}
 use Rattle.indicatif_board.specs.Recorded.{BoardStep, Record, IsRun, calls_of, answers_of}
 

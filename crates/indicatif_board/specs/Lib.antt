@@ -15,6 +15,8 @@ pub mod LimitLaws
 pub mod LoneLaws
 pub mod Recorded
 pub mod HistoryLaws
+pub mod Receipts
+pub mod ReceiptCases
 pub mod Bridge
 pub mod Inside
 pub mod PlainBoardLaws

@@ -1,6 +1,9 @@
 //! Worked cases of the definitions: each clause computes.
+ghost use Rattle.indicatif_board.specs.ReceiptCases.{SecondOfTwo};
 ghost use Rattle.indicatif_board.specs.SlotCases.{UsedAgain, FreedLastFirst, EachItsOwn};
 ghost use Rattle.indicatif_board.specs.BoardCases.{TwoBars, ThreeBarsOnTwo, LeftAbove, BothDropped, BoardAtTheBottom, Ordered, EmptyLog, RemovedLater, WaitsBehind, LongLog, RemovedTwice, TooWideForAll, TwentyDrawsAtOnce, Unseen, DropRefused, BrokenBelow, LateOnBoard, OneIsLeft, OwnText, ClearedRows, ClearedHead, WithoutColumns};
+
+use indicatif_bar::style::Tracks;
 
 /// The rows after calls of a board.
 pub fn rows()
@@ -53,4 +56,9 @@ pub fn slots()
     ensures used_again { UsedAgain }
     ensures freed_last_first { FreedLastFirst }
     ensures each_its_own { EachItsOwn }
+{}
+
+/// Which receipts a history holds.
+pub fn receipts<K: Tracks, T>()
+    ensures { SecondOfTwo K T }
 {}

@@ -15,6 +15,7 @@ ghost use Rattle.indicatif_board.specs.Done.{account_of_both, own_half, given_ha
 ghost use Rattle.indicatif_board.specs.declared.done.Account.{Account};
 ghost use Rattle.indicatif_board.specs.HistoryLaws.{AboveOnlyGrows, FollowsFromItsCalls, HasBoundedDraws, LoggedRowsStand, IsReadAsItsRun};
 ghost use Rattle.indicatif_board.specs.LimitLaws.{IsAllowed};
+ghost use Rattle.indicatif_board.specs.Receipts.{HeldStays, HeldRowsStand};
 ghost use Rattle.indicatif_board.specs.LoneLaws.{OneIsTakenIn, LoneRunsAreBoardRuns};
 ghost use Rattle.indicatif_board.specs.PlainBoardLaws.{BoardRunsArePlain};
 ghost use Rattle.indicatif_board.specs.OrderLaws.{RunsPreserve, StandsOnce, IsGone, NumbersCount, NumbersAreNew};
@@ -89,6 +90,13 @@ pub fn what_a_history_says<K: Tracks, T>()
     ensures bounded { HasBoundedDraws T K.means }
     ensures logged { LoggedRowsStand T K.means }
     ensures read { IsReadAsItsRun T K.means }
+{}
+
+/// What a receipt says of a history that holds it (`Recorded::holds`): the history holds it after each further call. And where its
+/// text was answered `Yes`, and the terminal broke no later call off, the text's rows are above.
+pub fn what_a_receipt_says<K: Tracks, T>()
+    ensures stays { HeldStays T K.means }
+    ensures rows { HeldRowsStand T K.means }
 {}
 
 /// When a call of a board gives which answer.

@@ -21,6 +21,7 @@ pub mod laws;
 mod members;
 pub mod multi;
 mod places;
+mod receipts;
 mod recorded;
 mod shown_bars;
 mod slots;

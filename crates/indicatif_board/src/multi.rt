@@ -29,6 +29,7 @@ pub use crate::bar_id::BarId;
 pub use crate::calls::{Answer, Call, Candidate, InsertLocation, Turned};
 use crate::in_window::{bars_in_window, put};
 use crate::members::{leading, take_front};
+pub use crate::receipts::Receipt;
 pub use crate::recorded::{Entry, Opening, Recorded, Size};
 use crate::shown_bars::ShownBars;
 pub use crate::slots::MultiState;

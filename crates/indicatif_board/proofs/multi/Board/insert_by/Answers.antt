@@ -1,4 +1,4 @@
-use Rattle.std.proofs.Common.{refl, ap, sym, subst, option_map, ◌∙◌}
+use Rattle.std.proofs.Common.{refl, ap, sym, subst, option_map}
 use Rattle.indicatif_bar.specs.Machines.{target_of}
 use Rattle.indicatif_bar.specs.Runs.{CallMade}
 use Rattle.indicatif_board.specs.BoardBars.{board_bars}
