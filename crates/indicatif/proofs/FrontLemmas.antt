@@ -48,6 +48,11 @@ pub tried_as : {A Q : Type 0} {P P' : A → Type 0} {B B' : Q → Type 0} (tried
 tried_as (Made answer) made back holds = made answer holds
 tried_as (ComeAgain again) made back holds = back again holds
 
+-- the same of an answer alone
+pub made_as : {A Q : Type 0} {P P' : A → Type 0} (tried : Tried A Q) → ((a : A) → P a → P' a) → IfMade tried P → IfMade tried P'
+made_as (Made answer) made holds = made answer holds
+made_as (ComeAgain again) made holds = tt
+
 -- the same of an answer alone, and of one that says nothing where it is handed back
 pub made_or : {A Q : Type 0} {P P' : A → Type 0} {B : Q → Type 0} (tried : Tried A Q) → ((a : A) → P a → P' a) → ((q : Q) → B q) → IfMade tried P → MatchTried tried P' B
 made_or (Made answer) made back holds = made answer holds

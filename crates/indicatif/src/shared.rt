@@ -135,6 +135,14 @@ impl<T: TermLike + Drop, C: Clock + Drop, R: Wait + Clone + Drop, K: Tracks> Pro
                 Tried::ComeAgain(()) => {}
             }
         }
+        self.move_in_turn(change)
+    }
+
+    /// The same, once the lock is free and no pause is on.
+    #[inline(never)]
+    fn move_in_turn(&self, change: PositionChange) -> Result<Drawn, Refusal>
+        ensures { CanAnswer K (Lone.Obey (position_command change)) result }
+    {
         self.tell(LoneCall::Bar(change.command()))
     }
 

@@ -156,15 +156,13 @@ impl<K: Tracks, T: TermLike + Drop, C: Clock + Drop> LockedBar<K, T, C> {
         if self.paused {
             return Tried::ComeAgain(());
         }
-        if let AnyBar::Alone(bar) = &mut self.bar {
-            let now = self.clock.now();
-            bar.bar();
-            return Tried::Made(change.apply_to(bar, now));
-        }
-        let call: LoneCall<K> = LoneCall::Bar(change.command());
-        match self.tell(rt, call) {
-            Tried::Made(answer) => Tried::Made(answer),
-            Tried::ComeAgain(_) => Tried::ComeAgain(()),
+        let now = self.clock.now();
+        match &mut self.bar {
+            AnyBar::Alone(bar) => {
+                bar.bar();
+                Tried::Made(change.apply_to(bar, now))
+            }
+            AnyBar::Member(member) => member.move_by(rt, change, now),
         }
     }
 

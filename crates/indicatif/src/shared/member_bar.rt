@@ -7,12 +7,14 @@ ghost use Rattle.indicatif_bar.specs.declared.state.commands.Change.{Change as C
 ghost use Rattle.indicatif_board.specs.Boards.{Tell, Drop as Dropped};
 ghost use Rattle.indicatif_board.specs.BoardValues.{id_of};
 ghost use Rattle.indicatif.specs.Fronts.{CanDraw, unchanged};
+ghost use Rattle.indicatif.specs.Inside.PositionChange.{position_command};
 ghost use Rattle.indicatif.specs.Inside.Requests.{IfMade, LeavesSo, MatchTried};
 ghost use Rattle.indicatif.specs.Inside.SharedBoards.{SharedDraws};
 ghost use Rattle.indicatif.specs.Seek.{after_move};
 
 use crate::shared::any_board::AnyBoard;
 use crate::shared::board_cell::SharedBoard;
+use crate::shared::position_change::PositionChange;
 use crate::shared::request::Tried;
 use crate::wrappers::seek::SeekMax;
 use indicatif_bar::lone::LoneCall;
@@ -128,6 +130,25 @@ impl<K: Tracks, T: TermLike + Drop, C: Clock + Drop> MemberBar<K, T, C> {
                 Tried::Made(locked.board.tell(self.id, call, self.alloc, now))
             }
             None => Tried::ComeAgain(f),
+        }
+    }
+
+    /// A change of the bar's position. It isn't inlined, so that a step of a bar that stands alone clears no room for a command.
+    #[inline(never)]
+    pub fn move_by<R: Wait>(
+        &self,
+        rt: &R,
+        change: PositionChange,
+        now: Moment,
+    ) -> Tried<Result<Drawn, Refusal>, ()>
+        ensures { IfMade result (λ answer. SharedDraws K (Tell (id_of self.now.id) (position_command change)) answer) }
+    {
+        match self.board.try_turn(rt) {
+            Some(mut locked) => {
+                let call: LoneCall<K> = LoneCall::Bar(change.command());
+                Tried::Made(locked.board.tell(self.id, call, self.alloc, now))
+            }
+            None => Tried::ComeAgain(()),
         }
     }
 

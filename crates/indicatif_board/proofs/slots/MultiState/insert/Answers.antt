@@ -60,5 +60,5 @@ returns-clause-inserted c =
     let slots = c.queue_at.ensures ∙ ap (λ xs. insert xs c.min-at.result c.unwrap_or-slot.result) c.in_ok-reserve-2.ensures.items in
     let left = c.pop.ensures.rest ∙ ap (λ k. take (k - 1) free.items) free.ok.0 ∙ ap (λ f. take (length f - 1) f) c.in_ok-reserve-3.ensures.items in
     let made = c.number_after-self-inside.ensures in
-    inserted_is t c.args.at c.min-at.result c.in-Some.number c.unwrap_or-slot.result (made_by c.number_after-self-inside.result) c.put_at.new.items.items c.queue_at.new.items.items c.pop.new.self.items
-    c.self.invariant.0 place (sym (ap made_by c.in-Some.is)) slot order slots left made ∙ ap (λ x. seated c.args.at x) c.self.view_is
+    inserted_is t c.args.at c.min-at.result c.in-Some.number c.unwrap_or-slot.result (made_by c.number_after-self-inside.result) c.put_at.new.items.items c.queue_at.new.items.items
+    c.pop.new.self.items c.self.invariant.0 place (sym (ap made_by c.in-Some.is)) slot order slots left made ∙ ap (λ x. seated c.args.at x) c.self.view_is
