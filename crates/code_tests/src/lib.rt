@@ -17,7 +17,7 @@
 //! - `shown`: a terminal that others read. `owners`: what the last owner of a bar leaves there. `watched`: boards there, while a closure
 //!   runs, and with a cursor that only moves. `pauses`: what answers and what waits meanwhile, with threads. `bars`: which types cross
 //!   threads, and a terminal in a box.
-//! - `boards`: boards that threads share. `unlocked`: bars and boards that leave their locks.
+//! - `boards`: boards that threads share. `receipts`: what they hand out for logged texts. `unlocked`: bars and boards that leave their locks.
 //! - `shared`: builders of a wrapper's bar, and threads at one bar. `readers`: two readers of one bar.
 //! - `closures`: closures under a lock. `given_up`: what threads of tickers drop, also in two tests of the crate `indicatif`, and calls
 //!   that get no memory, over a counted runtime (`lent`).
@@ -112,6 +112,8 @@ mod rates;
 mod readers;
 #[cfg(test)]
 mod readme;
+#[cfg(test)]
+mod receipts;
 #[cfg(test)]
 mod recordings;
 #[cfg(test)]

@@ -1,5 +1,5 @@
 -- Which answers the calls of a lone bar and of a board have: those that the table of shared bars and boards allows.
-use Rattle.std.proofs.Common.{◌≡◌, ◌⊎◌, ℕ, ◌^◌, arith, List, [], ◌∷◌, Bool, true, false, refl, sym, ◌∙◌, ap, subst, Result, Ok, Err, Option, Some, None, inl, inr, if◌then◌else◌}
+use Rattle.std.proofs.Common.{◌≡◌, ℕ, ◌^◌, arith, List, [], ◌∷◌, Bool, true, false, refl, sym, ◌∙◌, ap, subst, Result, Ok, Err, Option, Some, None, inl, inr, if◌then◌else◌}
 use Rattle.std.specs.Prelude.{◌==◌, ◌||◌, ◌&&◌, not, nat_lt, IfErr}
 use Rattle.std.specs.declared.io.ErrorKind.{ErrorKind}
 use Rattle.std.proofs.lemmas.Bool.{cond_both, false≢true, ltb-true, lt-ltb}
@@ -24,7 +24,7 @@ use Rattle.indicatif_bar.specs.declared.ask.Ask.TheVariants.{No, Unforced, Force
 use Rattle.indicatif_board.specs.BoardBars.{board_bars}
 use Rattle.indicatif_board.specs.Boards.{BoardState, Id, Location, Before, After, Entrant, New, Old, Insert, Remove, Drop, Log as LogAbove, BarLog, Clear as ClearBoard, Redraw, Align, Tell, Answer, Given, Done, Drew, Refused, drawn_of, or_refused, turned_away, anchor_turned_away, inserted, taken_in, taken_out, draws, draw_of_command, last_draw, log_of, draw_of, laid_out, layout_takes, left_on, ownerless_on, deed_of, board}
 use Rattle.indicatif_board.specs.Members.{Member, is_member, said_of}
-use Rattle.indicatif.specs.Fronts.{of_no_draw, of_a_draw, of_a_clear, of_draw, asked_by, is_late, has_no_bar, bar_answers, CanAnswer, CanDraw, IsMissing, MemoryOrForeign}
+use Rattle.indicatif.specs.Fronts.{of_no_draw, of_a_draw, of_a_clear, of_draw, asked_by, is_late, has_no_bar, bar_answers, CanAnswer, IsMissing, MemoryOrForeign}
 use Rattle.indicatif.specs.Inside.SharedBoards.{SharedCall, SharedDraws, SharedAnswers, on_board, given_by, is_foreign, names_bar, board_answers}
 
 pub or-left : (a b : Bool) → a ≡ true → (a || b) ≡ true

@@ -1,7 +1,9 @@
 -- What is said of a shared bar is an answer that its call can have; and want of memory is one.
-use Rattle.std.proofs.Common.{◌≡◌, ◌⊎◌, ◌||◌, ℕ, inl, inr, refl, sym, subst, Option, Some, None, IfSome, List, Result, Ok, Err, MatchResult}
+use Rattle.std.proofs.Common.{◌≡◌, ◌⊎◌, ◌||◌, ◌∙◌, ℕ, inl, inr, refl, sym, subst, Option, Some, None, IfSome, List, Result, Ok, Err, MatchResult}
+use Rattle.std.specs.Prelude.{◌==◌, ◌≢◌, IsTrue}
+use Rattle.std.proofs.lemmas.Bool.{cases_Bool, eqb-true, eq-eqb, false≢true}
 use Rattle.indicatif_text.specs.declared.refusal.Refusal.{Refusal}
-use Rattle.indicatif_text.specs.declared.refusal.Refusal.TheVariants.{Memory}
+use Rattle.indicatif_text.specs.declared.refusal.Refusal.TheVariants.{Memory, ForeignBar, NotMember}
 use Rattle.indicatif_text.specs.declared.refusal.Drawn.{Drawn}
 use Rattle.indicatif_term.specs.Calls.{TermView}
 use Rattle.indicatif_bar.specs.Commands.{Command, ForceDraw, Update}
@@ -11,9 +13,11 @@ use Rattle.indicatif_bar.specs.LoneBars.{record_of, lone_known}
 use Rattle.indicatif_bar.specs.Progress.{Progress, new_progress, eta, per_sec, duration, elapsed}
 use Rattle.indicatif_bar.specs.declared.state.commands.Change.{Change as Changed}
 use Rattle.indicatif_bar.specs.declared.lone.LoneBar.{LoneBar}
+use Rattle.indicatif_board.specs.Boards.{Id, Tell}
 use Rattle.indicatif_board.specs.BoardValues.{id_of}
-use Rattle.indicatif.specs.Fronts.{of_no_draw, of_a_draw, has_no_bar, CanAnswer, CanClear, CanDraw, CanMove, CanTurn, IsMissing, unchanged}
-use Rattle.indicatif.specs.Inside.AnyBar.{MadeBy, BarMakes, BarTurns, IsUntold, IsOf}
+use Rattle.indicatif.specs.Fronts.{of_no_draw, of_a_draw, has_no_bar, CanAnswer, CanClear, CanDraw, CanMove, CanTurn, CanUpdate, IsMissing}
+use Rattle.indicatif.specs.Inside.AnyBar.{MadeBy, BarMakes, BarTurns, BarUpdates, IsUntold}
+use Rattle.indicatif.specs.Inside.SharedBoards.{SharedDraws}
 use Rattle.indicatif.specs.Inside.Requests.{MatchTried, IfMade, BarRedraws, BarMovesTo}
 use Rattle.indicatif.proofs.AnswerLemmas.{or-left, or-right, anywhere, clear_is_draw, made_alone, redrawn_alone, seated}
 use Rattle.indicatif.specs.declared.shared.any_bar.AnyBar.{AnyBar}
@@ -123,17 +127,33 @@ no_duration = (new_progress None 0, 0, refl)
 pub no_elapsed : (p : Progress) × (now : ℕ) × (0 ≡ elapsed p now)
 no_elapsed = (new_progress None 0, 0, refl)
 
--- what a closure answered, wherever the bar stands
-pub is_of : {K T C : Type 0} (R : Progress → Changed → Type 0) (place : AnyBar K T C) (change : Changed) → IsOf R place change → ((shown : Progress) × R shown change) ⊎ (change ≡ unchanged)
-is_of R (Alone bar) change is = inl ((record_of bar).progress, is)
-is_of R (Member member) change is = is
-
--- what an update can answer, and what its closure answered
+-- what an update can answer, wherever the bar stands
 pub update_answers : {K T C : Type 0} (m : Tracking K) (view : T → TermView) (R : Progress → Changed → Type 0) (old new : AnyBar K T C) (answer : Result Drawn Refusal) →
-    (change : Changed) × BarMakes m view old (Obey (Update change.pos change.len)) answer new × IsOf R old change →
-    (change : Changed) × CanAnswer K (Obey (Update change.pos change.len)) answer × (((shown : Progress) × R shown change) ⊎ (change ≡ unchanged))
-update_answers m view R old new answer made =
-    (made.0, place_answers m view old new (Obey (Update made.0.pos made.0.len)) answer made.1, is_of R old made.0 made.2)
+    BarUpdates m view R old answer new → CanUpdate K R answer
+update_answers m view R (Alone old) new answer made =
+    inl ((record_of old).progress, made.0, made.1, place_answers m view (Alone old) new (Obey (Update made.0.pos made.0.len)) answer made.2)
+update_answers m view R (Member member) new answer made = made.1
+
+-- why a board doesn't lend a bar: it hasn't that
+isnt_there : {X : Type 0} (P : X → Type 0) (N : Type 0) (mark own : ℕ) (bar : Result X Refusal) (e : Refusal) → (mark ≢ own → bar ≡ Err ForeignBar) →
+    (mark ≡ own → MatchResult bar P (λ refusal. (refusal ≡ NotMember) × N)) → bar ≡ Err e → IsTrue (has_no_bar (Err e))
+isnt_there P N mark own bar e foreign gone is = elim (cases_Bool (mark == own)) [
+  | inl same ↦ let missing : (e ≡ NotMember) × N = subst (λ b. MatchResult b P (λ refusal. (refusal ≡ NotMember) × N)) is (gone (eqb-true mark own same)) in rw missing.0 refl
+  | inr apart ↦
+      let other = sym is ∙ foreign (λ same. false≢true (sym apart ∙ eq-eqb mark own same)) in
+      let refused : e ≡ ForeignBar = cc other in
+      rw refused refl
+]
+
+-- what a board can answer that told a bar what a closure gave of its state
+pub updated_answers : (K : Type 0) {X : Type 0} (P : X → Type 0) (N : Type 0) (R : Progress → Changed → Type 0) (id : Id) (own : ℕ) (bar : Result X Refusal) (change : Result Changed Refusal)
+    (answer : Result Drawn Refusal) → (id.mark ≢ own → bar ≡ Err ForeignBar) → (id.mark ≡ own → MatchResult bar P (λ refusal. (refusal ≡ NotMember) × N)) →
+    MatchResult change (λ asked. (shown : Progress) × R shown asked) (λ e. bar ≡ Err e) →
+    MatchResult change (λ asked. SharedDraws K (Tell id (Update asked.pos asked.len)) answer) (λ e. answer ≡ Err e) → CanUpdate K R answer
+updated_answers K P N R id own bar (Ok asked) answer foreign gone given said =
+    inl (given.0, asked, given.1, seated id (Obey (Update asked.pos asked.len)) answer said)
+updated_answers K P N R id own bar (Err e) answer foreign gone given said =
+    inr (subst (λ a. IsTrue (has_no_bar a)) (sym said) (isnt_there P N id.mark own bar e foreign gone given))
 
 -- ---- lines that are written elsewhere where bars are hidden: the log's answer, or one that a draw can have
 

@@ -1,18 +1,22 @@
 -- What is said of a board under a lock: a call leads from some state to some state, and its answer is one that a board can give.
-use Rattle.std.proofs.Common.{◌≡◌, ℕ, ◌⊎◌, inl, inr, refl, sym, subst, ap, Option, Some, None, Result, Ok, Err, IfOk, IfErr, MatchResult}
+use Rattle.std.proofs.Common.{◌≡◌, ◌∙◌, ℕ, ◌⊎◌, List, inl, inr, refl, sym, subst, ap, Option, Some, None, Result, Ok, Err, IfOk, IfErr, IfSome, IfNone, MatchResult}
+use Rattle.std.specs.Prelude.{string_bytes}
 use Rattle.indicatif_text.specs.declared.refusal.Refusal.{Refusal}
 use Rattle.indicatif_text.specs.declared.refusal.Refusal.TheVariants.{Memory}
 use Rattle.indicatif_text.specs.declared.refusal.Drawn.{Drawn}
 use Rattle.indicatif_term.specs.Calls.{TermView}
 use Rattle.indicatif_bar.specs.Trackers.{Tracking}
 use Rattle.indicatif_bar.specs.Commands.{BarRecord}
-use Rattle.indicatif_board.specs.Boards.{Id, Remove, Answer, Done, Refused, says, drawn_of_said}
+use Rattle.indicatif_board.specs.Boards.{Id, Remove, Answer, Done, Refused, says, drawn_of, drawn_of_said}
 use Rattle.indicatif_board.specs.Calls.{answer_of, removal}
 use Rattle.indicatif_board.specs.declared.calls.Answer.{Answer as AnswerValue}
 use Rattle.indicatif_board.specs.declared.calls.Answer.TheVariants as answer
 use Rattle.indicatif_board.specs.Multi.{IsIn, LeadsBy, known, mark_of}
+use Rattle.indicatif_board.specs.Receipts.{Holds}
 use Rattle.indicatif_board.specs.Recorded.{Record, IsOneRun, AddsCall}
+use Rattle.indicatif_board.specs.declared.receipts.Receipt.{Receipt}
 use Rattle.indicatif_board.specs.declared.multi.Board.{Board}
+use Rattle.indicatif.specs.Receipts.{IsReceipt}
 use Rattle.indicatif.specs.Inside.AnyBoard.{BoardDraws, BoardRemoves, refused_with}
 use Rattle.indicatif.specs.declared.shared.any_board.AnyBoard.{AnyBoard}
 use Rattle.indicatif.specs.declared.shared.any_board.AnyBoard.TheVariants as kind
@@ -47,6 +51,20 @@ module _ {K T : Type 0} (m : Tracking K) (view : T → TermView) where
       AddsCall m view old call now (answer_of told) new ⊎ ((new ≡ old) × (answer_of told ≡ Refused Memory))
   grows_so old new call now told (inl grows) = inl grows
   grows_so old new call now told (inr same) = inr (same.0, ap answer_of same.1)
+
+  -- the same by whether there is a receipt
+  pub by_receipt : {X : Type 0} (old new : Record K T) (call : SharedCall K) (now : ℕ) (told : AnswerValue) (receipt : Option X) →
+      IfSome receipt (λ _. AddsCall m view old call now (answer_of told) new) → IfNone receipt ((new ≡ old) × (told ≡ answer.Refused Memory)) →
+      AddsCall m view old call now (answer_of told) new ⊎ ((new ≡ old) × (answer_of told ≡ Refused Memory))
+  by_receipt old new call now told (Some x) made none = inl made
+  by_receipt old new call now told None made none = inr (none.0, ap answer_of none.1)
+
+  -- a receipt of an entry that is this one
+  pub handed_out : (text : List ℕ) (drawn : Result Drawn Refusal) (new : Record K T) (entry : Receipt) (receipt : Option Receipt) → IfSome receipt (λ r. r ≡ entry) → IfSome receipt (Holds new) →
+      IsOneRun m new → string_bytes entry.text ≡ text → drawn ≡ drawn_of (answer_of entry.answer) → IfSome receipt (IsReceipt T m text drawn)
+  handed_out text drawn new entry (Some r) is held run of_text said =
+      (ap (λ x. string_bytes x.text) is ∙ of_text, ap (λ x. drawn_of (answer_of x.answer)) is ∙ sym said, new, run, held)
+  handed_out text drawn new entry None is held run of_text said = tt
 
   -- a removal that was refused
   pub refused_so : (id : Id) (r : Result (Option (BarRecord K)) Refusal) → SharedAnswers K (Remove id) (removal r) → IfErr r (λ e. SharedAnswers K (Remove id) (Refused e))

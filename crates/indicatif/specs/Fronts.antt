@@ -1,6 +1,6 @@
 -- Which answers the calls of shared bars and boards can give. Another owner may have called meanwhile, so nothing is known of the state under a lock: the answers depend on the call alone. No other
 -- answer comes; not each of these does.
-use Rattle.std.specs.Prelude.{◌≡◌, ◌⊎◌, Bool, true, false, IsTrue, ◌||◌, nat_lt, None, Result, Ok, Err}
+use Rattle.std.specs.Prelude.{◌≡◌, ◌⊎◌, Bool, true, false, IsTrue, ◌||◌, nat_lt, Result, Ok, Err}
 use Rattle.indicatif_text.specs.declared.refusal.Refusal.{Refusal}
 use Rattle.indicatif_text.specs.declared.refusal.Refusal.TheVariants.{NoColumns, TooWide, Memory, Terminal as Failure, ForeignBar, NotMember, ElapsedBeyondClock}
 use Rattle.indicatif_text.specs.declared.refusal.Drawn.{Drawn}
@@ -9,13 +9,8 @@ use Rattle.indicatif_bar.specs.declared.ask.Ask.{Ask}
 use Rattle.indicatif_bar.specs.declared.ask.Ask.TheVariants.{No, Unforced, Forced}
 use Rattle.indicatif_bar.specs.Commands.{Command, Tick, TickerTick, SetTicker, Inc, Dec, SetPosition, Update, SetLength, UnsetLength, IncLength, DecLength, SetMessage, SetPrefix, SetStyle, WithPosition, WithMessage, WithPrefix, WithFinish, WithTabWidth, SetTabWidth, SetElapsed, ResetEta, ResetElapsed, Reset, Finish, FinishUsingStyle, ForceDraw}
 use Rattle.indicatif_bar.specs.Lone.{LoneCall, Obey, Log, Clear}
+use Rattle.indicatif_bar.specs.Progress.{Progress}
 use Rattle.indicatif_bar.specs.declared.state.commands.Change.{Change}
-
--- ---- calls
-
--- a change that sets nothing
-abbrev pub unchanged : Change
-unchanged = record { pos = None; len = None }
 
 -- ---- draws
 
@@ -106,6 +101,12 @@ bar_answers Clear answer = of_a_clear answer
 -- an answer that a bar's call can give, wherever the bar stands
 unfoldable pub CanAnswer : (K : Type 0) → LoneCall (Command K) → Result Drawn Refusal → Type 0
 CanAnswer K call answer = IsTrue (bar_answers call answer)
+
+-- an answer that an update can give: its closure was shown a state and returned a change by `R`, and the answer is one of a command that makes this change; or the
+-- closure wasn't called, since the board hasn't the bar
+abbrev pub CanUpdate : (K : Type 0) → (Progress → Change → Type 0) → Result Drawn Refusal → Type 0
+CanUpdate K R answer =
+    ((shown : Progress) × (change : Change) × R shown change × CanAnswer K (Obey (Update change.pos change.len)) answer) ⊎ IsTrue (has_no_bar answer)
 
 -- an answer that a bar can give when it gets another target: it stood alone, and nothing was drawn; or a forced draw showed the others of its board; or it keeps its place
 unfoldable pub CanTurn : Result Drawn Refusal → Type 0

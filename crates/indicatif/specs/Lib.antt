@@ -4,6 +4,7 @@ pub mod Moves
 pub mod Owned
 pub mod Parallel
 pub mod PlainLines
+pub mod Receipts
 pub mod Ring
 pub mod Seek
 pub mod StderrTerm

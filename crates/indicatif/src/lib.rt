@@ -286,8 +286,8 @@ pub use indicatif_bar::style::{
 };
 pub use indicatif_board::done::{Account, BarWorker, Done};
 pub use indicatif_board::multi::{
-    Answer, BarId, Board, Call, Candidate, Entry, InsertLocation, MultiState, Opening, Recorded,
-    Size, Turned,
+    Answer, BarId, Board, Call, Candidate, Entry, InsertLocation, MultiState, Opening, Receipt,
+    Recorded, Size, Turned,
 };
 pub use indicatif_term::cells::{Cells, InMemoryTerm};
 pub use indicatif_term::target::{

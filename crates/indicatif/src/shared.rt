@@ -11,15 +11,13 @@
 //! - `locked_board`: what a board's lock protects; `any_board`: the board there, with its history or without.
 //! - `position_change`: what moves its position.
 //! - `ticker`: its steady ticker; `steady`: the thread that ticks. `counting`: threads that count for it without its lock.
-ghost use Rattle.std.specs.Prelude.{◌≡◌, ◌⊎◌, ℕ, IfErr};
+ghost use Rattle.std.specs.Prelude.{ℕ, IfErr};
 ghost use Rattle.std.specs.Fn.{FnOnceReturnsAt};
 ghost use Rattle.indicatif_bar.specs.Commands as Command;
 ghost use Rattle.indicatif_bar.specs.Finishes as Finish;
 ghost use Rattle.indicatif_bar.specs.Lone as Lone;
 ghost use Rattle.indicatif_bar.specs.LoneBars.{lone_call_as};
-ghost use Rattle.indicatif_bar.specs.Progress.{Progress};
-ghost use Rattle.indicatif_bar.specs.declared.state.commands.Change.{Change as Changed};
-ghost use Rattle.indicatif.specs.Fronts.{CanAnswer, CanDraw, CanMove, CanTurn, IsMissing, MemoryOrForeign, unchanged};
+ghost use Rattle.indicatif.specs.Fronts.{CanAnswer, CanDraw, CanMove, CanTurn, CanUpdate, IsMissing, MemoryOrForeign};
 ghost use Rattle.indicatif.specs.Inside.LockedBar.{OwnerJoins};
 ghost use Rattle.indicatif.specs.Inside.PositionChange.{position_command};
 
@@ -320,11 +318,10 @@ impl<T: TermLike + Drop, C: Clock + Drop, R: Wait + Clone + Drop, K: Tracks> Pro
     }
 
     /// Makes the changes that the closure returns for the bar's state; then as `tick`. The closure is called under the lock, and not at all
-    /// if the board hasn't the bar. A call of this bar inside it, or of any bar of its board, deadlocks.
+    /// if the board hasn't the bar: that is refused, and no history keeps it. A call of this bar inside it, or of any bar of its board, deadlocks.
     pub fn update<F: FnOnce(&ProgressState) -> Change>(&self, f: F) -> Result<Drawn, Refusal>
         requires { F.IsAlwaysCallable f }
-        ensures { (change : Changed) × CanAnswer K (Lone.Obey (Command.Update change.pos change.len)) result
-            × (((shown : Progress) × FnOnceReturnsAt F.FnOnce f shown change) ⊎ (change ≡ unchanged)) }
+        ensures { CanUpdate K (FnOnceReturnsAt F.FnOnce f) result }
     {
         self.state.update(&self.rt, f)
     }

@@ -7,7 +7,7 @@ use Rattle.indicatif_text.specs.declared.refusal.Drawn.TheVariants.{Limited}
 use Rattle.indicatif_term.specs.Calls.{TermView}
 use Rattle.indicatif_bar.specs.Styles.{BarStyle}
 use Rattle.indicatif_bar.specs.Trackers.{Tracking}
-use Rattle.indicatif_bar.specs.Commands.{BarRecord, Command, FinishUsingStyle}
+use Rattle.indicatif_bar.specs.Commands.{BarRecord, Command, Update, FinishUsingStyle}
 use Rattle.indicatif_bar.specs.Progress.{Progress, is_finished}
 use Rattle.indicatif_bar.specs.Lone.{LoneState, LoneCall, Obey}
 use Rattle.indicatif_bar.specs.LoneBars.{LoneIsIn, LoneLeadsBy, CallDone, record_of, lone_terminal}
@@ -15,7 +15,7 @@ use Rattle.indicatif_bar.specs.declared.state.commands.Change.{Change as Changed
 use Rattle.indicatif_bar.specs.declared.lone.LoneBar.{LoneBar}
 use Rattle.indicatif_board.specs.Boards.{Drop}
 use Rattle.indicatif_board.specs.BoardValues.{id_of}
-use Rattle.indicatif.specs.Fronts.{CanDraw, IsMissing, unchanged}
+use Rattle.indicatif.specs.Fronts.{CanDraw, CanUpdate, IsMissing}
 use Rattle.indicatif.specs.Inside.SharedBoards.{SharedDraws, on_board}
 use Rattle.indicatif.specs.declared.shared.any_bar.AnyBar.{AnyBar}
 use Rattle.indicatif.specs.declared.shared.any_bar.AnyBar.TheVariants.{Alone, Member}
@@ -68,10 +68,12 @@ module _ {K T C : Type 0} where
   IsUnfinished (Alone bar) = is_finished (record_of bar).progress ≡ false
   IsUnfinished (Member member) = Unit {0}
 
-  -- what a closure returned for the bar's state; on a board, for some bar's, or nothing if the board hasn't the bar
-  abbrev pub IsOf : (Progress → Changed → Type 0) → AnyBar K T C → Changed → Type 0
-  IsOf R (Alone bar) change = R (record_of bar).progress change
-  IsOf R (Member member) change = ((shown : Progress) × R shown change) ⊎ (change ≡ unchanged)
+  -- an update of a bar: alone, its closure was shown the bar's state, and the bar made the change that it returned by `R`; on a board, the bar stays
+  -- there, and the answer is one that an update can give
+  abbrev pub BarUpdates : Tracking K → (T → TermView) → (Progress → Changed → Type 0) → AnyBar K T C → Result Drawn Refusal → AnyBar K T C → Type 0
+  BarUpdates m view R (Alone old) answer new =
+      (change : Changed) × R (record_of old).progress change × ((bar : LoneBar K T) × (new ≡ Alone bar) × Makes m view old bar (Obey (Update change.pos change.len)) answer)
+  BarUpdates m view R (Member member) answer new = (new ≡ Member member) × CanUpdate K R answer
 
   -- a board's bar was given another target: it stands alone there, and the others were drawn; or it keeps its place
   abbrev pub BarLeaves : AnyBar K T C → Option T → Result Drawn Refusal → AnyBar K T C → Type 0

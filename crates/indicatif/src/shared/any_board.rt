@@ -6,13 +6,16 @@ ghost use Rattle.indicatif_board.specs.BoardValues.{id_of};
 ghost use Rattle.indicatif_board.specs.Calls.{call_of, answer_of, entrant_of, place_at};
 ghost use Rattle.indicatif_board.specs.Recorded.{IsOneRun};
 ghost use Rattle.indicatif.specs.Fronts.{CanClear};
+ghost use Rattle.indicatif.specs.Receipts.{IsReceipt};
 ghost use Rattle.indicatif.specs.Inside.AnyBoard.{BoardMakes, BoardDraws, BoardRemoves, BoardTakes, BoardTurns, BoardMoves, BoardMovesTo, refused_with};
 ghost use Rattle.indicatif.specs.Inside.SharedBoards.{SharedAnswers, SharedDraws, given_by, on_board};
 
 use indicatif_bar::lone::LoneCall;
 use indicatif_bar::state::{BarState, Text, own_text};
 use indicatif_bar::style::Tracks;
-use indicatif_board::multi::{Answer, BarId, Board, Call, Candidate, InsertLocation, Recorded};
+use indicatif_board::multi::{
+    Answer, BarId, Board, Call, Candidate, InsertLocation, Receipt, Recorded,
+};
 use indicatif_term::target::{ProgressDrawTarget, TermLike};
 use indicatif_text::columns::{Drawn, Moment, Refusal};
 use std::alloc::Global;
@@ -92,6 +95,26 @@ impl<K: Tracks, T: TermLike + Drop> AnyBoard<K, T> {
                 board.println(text, now)
             }
             AnyBoard::Recorded(_) => self.draw_kept(log_of(text, alloc), now),
+        }
+    }
+
+    /// Logs a text, and hands out a receipt if a history keeps the entry.
+    pub fn println_with_receipt(
+        &mut self,
+        text: &str,
+        alloc: Global,
+        now: Moment,
+    ) -> (Result<Drawn, Refusal>, Option<Receipt>)
+        ensures made { BoardDraws K.means T.view self.old (Log text.now) now result.0 self.new }
+        ensures can { SharedDraws K (Log text.now) result.0 }
+        ensures receipt { IfSome result.1 (IsReceipt T K.means text.now result.0) }
+    {
+        match self {
+            AnyBoard::Open(board) => {
+                board.order();
+                (board.println(text, now), None)
+            }
+            AnyBoard::Recorded(record) => logged(record, text, alloc, now),
         }
     }
 
@@ -201,6 +224,27 @@ impl<K: Tracks, T: TermLike + Drop> AnyBoard<K, T> {
             }
         }
     }
+}
+
+/// Lines of text above the bars of a board with its history, and the receipt of its entry; nothing is done where there is no memory for
+/// the text.
+fn logged<K: Tracks, T: TermLike + Drop>(
+    record: &mut Recorded<K, T>,
+    text: &str,
+    alloc: Global,
+    now: Moment,
+) -> (Result<Drawn, Refusal>, Option<Receipt>)
+    ensures made { BoardDraws K.means T.view (AnyBoard.Recorded record.old) (Log text.now) now result.0 (AnyBoard.Recorded record.new) }
+    ensures can { SharedDraws K (Log text.now) result.0 }
+    ensures receipt { IfSome result.1 (IsReceipt T K.means text.now result.0) }
+{
+    record.replays();
+    let Ok(text) = String::from_str(alloc, text) else {
+        return (Err(Refusal::Memory), None);
+    };
+    let (answer, receipt) = record.println_with_receipt(text, now);
+    record.replays();
+    (drawn_of(answer), receipt)
 }
 
 /// Lines above the bars, as a value that a history keeps.

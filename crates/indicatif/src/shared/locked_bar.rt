@@ -2,14 +2,13 @@
 ghost use Rattle.std.specs.Prelude.{◌≡◌, ◌≢◌, ◌<◌, ◌-◌, ℕ, Some, None, Ok, Err, true, false, IsTrue, IsFalse, IfOk, IfErr, MatchResult};
 ghost use Rattle.std.specs.Fn.{FnOnceReturnsAt};
 ghost use Rattle.indicatif_term.specs.DrawTargets.{term_of};
-ghost use Rattle.indicatif_bar.specs.Commands.{Update, SetTicker, SetPosition, FinishUsingStyle};
+ghost use Rattle.indicatif_bar.specs.Commands.{SetTicker, SetPosition, FinishUsingStyle};
 ghost use Rattle.indicatif_bar.specs.Lone as Lone;
 ghost use Rattle.indicatif_bar.specs.LoneBars.{lone_call_as, record_of};
 ghost use Rattle.indicatif_bar.specs.Progress.{eta, per_sec, duration, elapsed, is_finished};
-ghost use Rattle.indicatif_bar.specs.declared.state.commands.Change.{Change as Changed};
 ghost use Rattle.indicatif.specs.Fronts.{IsMissing, MemoryOrForeign};
 ghost use Rattle.indicatif.specs.Inside.Requests.{BarTries, BarHalts, BarRedraws, BarMovesTo, IfMade, LeavesSo, MatchTried};
-ghost use Rattle.indicatif.specs.Inside.AnyBar.{MadeBy, BarMakes, BarEnds, BarLeaves, BarTurns, IsOf, IsUnfinished, Measures};
+ghost use Rattle.indicatif.specs.Inside.AnyBar.{MadeBy, BarMakes, BarEnds, BarLeaves, BarTurns, BarUpdates, IsUnfinished, Measures};
 ghost use Rattle.indicatif.specs.Inside.LockedBar.{OwnerJoins, OwnerLeaves};
 ghost use Rattle.indicatif.specs.Inside.PositionChange.{position_command};
 ghost use Rattle.indicatif.specs.Seek.{after_move};
@@ -194,8 +193,7 @@ impl<K: Tracks, T: TermLike + Drop, C: Clock + Drop> LockedBar<K, T, C> {
         f: F,
     ) -> Tried<Result<Drawn, Refusal>, F>
         requires { F.IsAlwaysCallable f }
-        ensures { MatchTried result (λ answer. (change : Changed) × BarMakes K.means T.view self.old.bar (Lone.Obey (Update change.pos change.len)) answer self.new.bar
-            × IsOf (FnOnceReturnsAt F.FnOnce f) self.old.bar change) (λ again. again ≡ f) }
+        ensures { MatchTried result (λ answer. BarUpdates K.means T.view (FnOnceReturnsAt F.FnOnce f) self.old.bar answer self.new.bar) (λ again. again ≡ f) }
     {
         let now = self.clock.now();
         match &mut self.bar {

@@ -1,12 +1,11 @@
 //! A shared bar on a board.
-ghost use Rattle.std.specs.Prelude.{◌≡◌, ◌⊎◌, ℕ};
+ghost use Rattle.std.specs.Prelude.{◌≡◌, ℕ, Err, MatchResult};
 ghost use Rattle.std.specs.Fn.{FnOnceReturnsAt};
 ghost use Rattle.indicatif_bar.specs.Commands.{Update, SetPosition, SetTicker};
 ghost use Rattle.indicatif_bar.specs.Progress.{Progress};
-ghost use Rattle.indicatif_bar.specs.declared.state.commands.Change.{Change as Changed};
 ghost use Rattle.indicatif_board.specs.Boards.{Tell, Drop as Dropped};
 ghost use Rattle.indicatif_board.specs.BoardValues.{id_of};
-ghost use Rattle.indicatif.specs.Fronts.{CanDraw, unchanged};
+ghost use Rattle.indicatif.specs.Fronts.{CanDraw, CanUpdate};
 ghost use Rattle.indicatif.specs.Inside.PositionChange.{position_command};
 ghost use Rattle.indicatif.specs.Inside.Requests.{IfMade, LeavesSo, MatchTried};
 ghost use Rattle.indicatif.specs.Inside.SharedBoards.{SharedDraws};
@@ -43,21 +42,52 @@ impl<K: Tracks, T: Drop, C: Drop> Drop for MemberBar<K, T, C> {
     }
 }
 
-/// The changes that a closure returns for the bar's state; none if there is no bar.
+/// The changes that a closure returns for the bar's state, or why there is no bar.
 fn change_by<K: Tracks, F: FnOnce(&ProgressState) -> Change>(
     bar: Result<&BarState<K>, Refusal>,
     f: F,
-) -> Change
+) -> Result<Change, Refusal>
     requires { F.IsAlwaysCallable f }
-    ensures { ((shown : Progress) × FnOnceReturnsAt F.FnOnce f shown result) ⊎ (result ≡ unchanged) }
+    ensures { MatchResult result (λ change. (shown : Progress) × FnOnceReturnsAt F.FnOnce f shown change) (λ e. bar.entry ≡ Err e) }
 {
     match bar {
-        Ok(bar) => told_of(bar.state(), f),
-        Err(_) => Change {
-            pos: None,
-            len: None,
-        },
+        Ok(bar) => Ok(told_of(bar.state(), f)),
+        Err(refusal) => Err(refusal),
     }
+}
+
+/// Tells a bar of a board a change, if there is one.
+fn tell_change<K: Tracks, T: TermLike + Drop>(
+    board: &mut AnyBoard<K, T>,
+    id: BarId,
+    change: Result<Change, Refusal>,
+    alloc: Global,
+    now: Moment,
+) -> Result<Drawn, Refusal>
+    ensures { MatchResult change (λ asked. SharedDraws K (Tell (id_of id) (Update asked.pos asked.len)) result) (λ e. result ≡ Err e) }
+{
+    match change {
+        Ok(change) => {
+            let call: LoneCall<K> = LoneCall::Bar(BarCommand::Update(change));
+            board.tell(id, call, alloc, now)
+        }
+        Err(refusal) => Err(refusal),
+    }
+}
+
+/// Tells a bar of a board the changes that a closure returns for its state.
+fn updated<K: Tracks, T: TermLike + Drop, F: FnOnce(&ProgressState) -> Change>(
+    board: &mut AnyBoard<K, T>,
+    id: BarId,
+    f: F,
+    alloc: Global,
+    now: Moment,
+) -> Result<Drawn, Refusal>
+    requires { F.IsAlwaysCallable f }
+    ensures { CanUpdate K (FnOnceReturnsAt F.FnOnce f) result }
+{
+    let change = change_by(board.as_board().bar(id), f);
+    tell_change(board, id, change, alloc, now)
 }
 
 /// A bar's position, or 0 if there is no bar.
@@ -112,7 +142,7 @@ impl<K: Tracks, T: TermLike + Drop, C: Clock + Drop> MemberBar<K, T, C> {
         self.board.lock(rt).board.draw(Call::Redraw, now)
     }
 
-    /// A command that makes the changes that the closure returns for the bar's state, or none if the board hasn't the bar.
+    /// A command that makes the changes that the closure returns for the bar's state. If the board hasn't the bar, the closure isn't called.
     pub fn update<R: Wait, F: FnOnce(&ProgressState) -> Change>(
         &self,
         rt: &R,
@@ -120,14 +150,11 @@ impl<K: Tracks, T: TermLike + Drop, C: Clock + Drop> MemberBar<K, T, C> {
         now: Moment,
     ) -> Tried<Result<Drawn, Refusal>, F>
         requires { F.IsAlwaysCallable f }
-        ensures { MatchTried result (λ answer. (change : Changed) × SharedDraws K (Tell (id_of self.now.id) (Update change.pos change.len)) answer
-            × (((shown : Progress) × FnOnceReturnsAt F.FnOnce f shown change) ⊎ (change ≡ unchanged))) (λ again. again ≡ f) }
+        ensures { MatchTried result (CanUpdate K (FnOnceReturnsAt F.FnOnce f)) (λ again. again ≡ f) }
     {
         match self.board.try_turn(rt) {
             Some(mut locked) => {
-                let change = change_by(locked.board.as_board().bar(self.id), f);
-                let call: LoneCall<K> = LoneCall::Bar(BarCommand::Update(change));
-                Tried::Made(locked.board.tell(self.id, call, self.alloc, now))
+                Tried::Made(updated(&mut locked.board, self.id, f, self.alloc, now))
             }
             None => Tried::ComeAgain(f),
         }

@@ -2,13 +2,14 @@
 ghost use Rattle.std.specs.Prelude.{◌≡◌, ◌⊎◌, Err, IfErr, IfSome, Option, option_map};
 ghost use Rattle.indicatif_board.specs.Recorded.{IsOneRun, Record};
 ghost use Rattle.indicatif.specs.Fronts.{CanClear, CanDraw, IsMissing, MemoryOrForeign};
+ghost use Rattle.indicatif.specs.Receipts.{IsReceipt};
 
 use crate::shared::ProgressBar;
 use crate::shared::any_board::AnyBoard;
 use crate::shared::board_cell::{BoardCell, SharedBoard};
 use crate::shared::locked_board::LockedBoard;
 use indicatif_bar::style::{NoTracker, Tracks};
-use indicatif_board::multi::{Board, Call, InsertLocation, Recorded};
+use indicatif_board::multi::{Board, Call, InsertLocation, Receipt, Recorded};
 use indicatif_term::target::{MultiProgressAlignment, ProgressDrawTarget, Setup, TermLike};
 use indicatif_text::columns::{Clock, Drawn, Refusal};
 use std::alloc::{AllocError, Global};
@@ -265,6 +266,25 @@ impl<T: TermLike + Drop, C: Clock + Drop, R: Wait + Clone + Drop, K: Tracks> Mul
         let mut locked = self.board.turn(&self.rt);
         let now = locked.now();
         locked.board.println(text, self.alloc, now)
+    }
+
+    /// The same, and a receipt of the entry that the board's history keeps of it, whatever was answered; `None` where the board keeps no
+    /// history, or this has no room for the entry. The history tells whether it holds a receipt (`Recorded::holds`), also once other threads
+    /// have logged: to one who asks in `with_record`, or behind `into_inner`. What follows then says law `what_a_receipt_says`.
+    ///
+    /// ```
+    /// let (drawn, receipt) = board.println_with_receipt("a.txt");
+    /// ```
+    ///
+    /// Refused: as `println`; `Memory` also where there is no room for the receipt. Nothing has changed then.
+    #[tactic(auto, unfolding(crate::specs::Inside::SharedBoards::SharedDraws))]
+    pub fn println_with_receipt(&self, text: &str) -> (Result<Drawn, Refusal>, Option<Receipt>)
+        ensures drawn { CanDraw result.0 }
+        ensures receipt { IfSome result.1 (IsReceipt T K.means text.now result.0) }
+    {
+        let mut locked = self.board.turn(&self.rt);
+        let now = locked.now();
+        locked.board.println_with_receipt(text, self.alloc, now)
     }
 
     /// Clears the bars' rows, whatever the rate says. The next draw shows the bars again, but for those that were dropped.

@@ -1,11 +1,7 @@
 //! A bar's lock, its pauses, and what waits for them.
-ghost use Rattle.std.specs.Prelude.{◌≡◌, ◌⊎◌, ℕ};
+ghost use Rattle.std.specs.Prelude.{◌≡◌, ℕ};
 ghost use Rattle.std.specs.Fn.{FnOnceReturnsAt};
-ghost use Rattle.indicatif_bar.specs.Commands.{Update};
-ghost use Rattle.indicatif_bar.specs.Lone as Lone;
-ghost use Rattle.indicatif_bar.specs.Progress.{Progress};
-ghost use Rattle.indicatif_bar.specs.declared.state.commands.Change.{Change as Changed};
-ghost use Rattle.indicatif.specs.Fronts.{CanAnswer, CanDraw, CanMove, CanTurn, unchanged};
+ghost use Rattle.indicatif.specs.Fronts.{CanDraw, CanMove, CanTurn, CanUpdate};
 ghost use Rattle.indicatif.specs.Seek.{after_move};
 
 use crate::shared::locked_bar::{Halt, LockedBar};
@@ -44,8 +40,7 @@ impl<K: Tracks, T: TermLike + Drop, C: Clock + Drop> SharedBar<K, T, C> {
         f: F,
     ) -> Result<Drawn, Refusal>
         requires { F.IsAlwaysCallable f }
-        ensures { (change : Changed) × CanAnswer K (Lone.Obey (Update change.pos change.len)) result
-            × (((shown : Progress) × FnOnceReturnsAt F.FnOnce f shown change) ⊎ (change ≡ unchanged)) }
+        ensures { CanUpdate K (FnOnceReturnsAt F.FnOnce f) result }
     {
         let mut left = f;
         for _ in rt.forever() {

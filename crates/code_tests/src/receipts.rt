@@ -1,0 +1,92 @@
+//! Receipts of texts that two threads log on one board, and the picture at the end.
+use crate::checks::Granted;
+use crate::fronts::{Shared, board_shows, recorded, setup};
+use indicatif::{Drawn, InMemoryTerm, MultiProgress, NoTracker, Receipt, RecordReader, Recorded};
+use std::process::Abort;
+use std::sync::Wait;
+use std::thread;
+
+/// Whether a history holds a receipt, and the text stands in the picture in the row of the entry's number: so it is where all entries are
+/// texts of one row.
+#[derive(Drop)]
+struct InItsRow<'a> {
+    receipt: &'a Receipt,
+}
+
+impl RecordReader<InMemoryTerm, NoTracker> for InItsRow<'_> {
+    type Found = bool;
+
+    fn read(self, history: Option<&Recorded<NoTracker, InMemoryTerm>>) -> bool {
+        match history {
+            Some(record) => record.holds(self.receipt) && has_row(record, self.receipt),
+            None => false,
+        }
+    }
+}
+
+/// Whether a receipt's text stands in the row of its number.
+fn has_row(record: &Recorded<NoTracker, InMemoryTerm>, receipt: &Receipt) -> bool {
+    let Some(term) = record.board().term() else {
+        return false;
+    };
+    let Ok(rows) = term.picture() else {
+        return false;
+    };
+    match rows.get(receipt.number) {
+        Some(row) => row.as_str() == receipt.text.as_str(),
+        None => false,
+    }
+}
+
+/// Logs a text that is drawn; its receipt.
+fn logged<R: Wait + Copy + Clone + Drop + Abort>(rt: &R, board: &Shared<R>, text: &str) -> Receipt {
+    let (drawn, receipt) = board.println_with_receipt(text);
+    same!(rt; drawn, Ok(Drawn::Yes));
+    receipt.granted(rt)
+}
+
+/// A receipt's text stands in its row.
+fn stands<R: Wait + Copy + Clone + Drop + Abort>(rt: &R, board: &Shared<R>, receipt: &Receipt) {
+    holds!(rt; board.with_record(InItsRow { receipt }));
+}
+
+/// A thread's two texts, in their order.
+fn logs_two<R: Wait + Copy + Clone + Drop + Abort>(
+    rt: &R,
+    board: &Shared<R>,
+    texts: (&str, &str),
+) -> (Receipt, Receipt) {
+    let one = logged(rt, board, texts.0);
+    let other = logged(rt, board, texts.1);
+    holds!(rt; one.number < other.number);
+    (one, other)
+}
+
+/// Two texts from each of two threads on a terminal of four rows: whichever thread came first, each receipt is held, and its text stands in
+/// the row of its number.
+#[test]
+fn two_threads_and_a_picture(rt: HostRuntime) {
+    let (own, rt) = (rt, &rt);
+    let board = recorded(*rt, rt.alloc());
+    let other = board.clone().expect(rt, "granted");
+    let logs = move || logs_two(&own, &other, ("theirs 1", "theirs 2"));
+    let child = thread::spawn(rt, logs).granted(rt);
+    let mine = logs_two(rt, &board, ("mine 1", "mine 2"));
+    let theirs = child.join(rt);
+    stands(rt, &board, &mine.0);
+    stands(rt, &board, &mine.1);
+    stands(rt, &board, &theirs.0);
+    stands(rt, &board, &theirs.1);
+}
+
+/// A board that keeps no history hands out no receipt, and draws the text all the same.
+#[test]
+fn no_history_no_receipt(rt: HostRuntime) {
+    let rt = &rt;
+    let board = MultiProgress::new(*rt, rt.alloc(), setup(rt, rt.alloc(), 10), 1);
+    let board = board.expect(rt, "granted");
+    let (drawn, receipt) = board.println_with_receipt("a.txt");
+    same!(rt; drawn, Ok(Drawn::Yes));
+    holds!(rt; receipt.is_none());
+    board_shows(rt, &board, "a.txt");
+}
