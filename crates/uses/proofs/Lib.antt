@@ -9,6 +9,7 @@ mod LogLemmas
 mod MoveLemmas
 mod PictureLemmas
 mod PlainLemmas
+mod ReceiptLemmas
 mod SharedLemmas
 mod ShownLemmas
 mod StandingLemmas

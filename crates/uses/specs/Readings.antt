@@ -1,6 +1,7 @@
 -- Texts of rows, and where a terminal starts.
-use Rattle.std.specs.Prelude.{◌≡◌, ℕ, ◌++◌, List, [], map, replicate}
-use Rattle.indicatif_text.specs.Columns.{Cell}
+use Rattle.std.specs.Prelude.{◌≡◌, ℕ, ◌++◌, List, [], flat_map, map, replicate}
+use Rattle.indicatif_text.specs.Columns.{Cell, rows_of}
+use Rattle.indicatif_term.specs.Frames.{text_lines, logged_lines}
 use Rattle.indicatif_term.specs.Screen.{Screen}
 use Rattle.indicatif_term.specs.Terminal.{Terminal}
 use Rattle.indicatif_term.specs.Shows.{IsOpening, looks_of, resting}
@@ -21,3 +22,11 @@ BeginAs texts rows = (others : List (List ℕ)) × (texts ≡ map row_text rows 
 -- all rows are these first ones, any others, some that look as the given rows, and any others
 abbrev pub StandBelow : List (List Cell) → List (List Cell) → List (List Cell) → Type 0
 StandBelow first rows all = (between shown below : List (List Cell)) × (all ≡ first ++ between ++ shown ++ below) × (looks_of shown ≡ looks_of rows)
+
+-- the rows of a text that is logged, on a terminal of w columns
+abbrev pub logged_rows : ℕ → List ℕ → List (List Cell)
+logged_rows w text = flat_map (rows_of w) (text_lines (logged_lines text))
+
+-- rows stand among others, one right below the other
+abbrev pub StandAmong : List (List Cell) → List (List Cell) → Type 0
+StandAmong rows all = (front : List (List Cell)) × (rest : List (List Cell)) × (all ≡ front ++ rows ++ rest)

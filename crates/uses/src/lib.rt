@@ -10,6 +10,9 @@
 //! - `engines`: what engines show of fixed lines, and how many draws a limiter allows at once.
 //! - `orders`: which bars stand in the order of a board.
 //! - `histories`: what a board's history holds of a call.
+//! - `receipts`: that texts stand if a history holds their receipts.
+//! - `trackers`: that keys with texts of the caller's own keep runs plain.
+//! - `unlocked`: what is proved about shared bars and boards once their only owner has taken them out of their locks.
 //! - `fronts`: what is proved about shared bars and boards, and about lists and pieces that threads work on.
 //! - `logs`: that a logged line stands, whatever is drawn after it.
 //! - `loops`: what a loop makes of the bar that shows its progress.
@@ -34,9 +37,12 @@ pub mod loops;
 pub mod orders;
 pub mod plain;
 pub mod programs;
+pub mod receipts;
 pub mod rows;
 pub mod runs;
 pub mod sizes;
 pub mod sums;
 pub mod texts;
+pub mod trackers;
+pub mod unlocked;
 pub mod warnings;
