@@ -16,9 +16,9 @@ use Rattle.indicatif_bar.specs.Styles.{BarStyle, Wide, WideBarOf, WideMessageOf,
 use Rattle.indicatif_bar.specs.StyleLaws.{IsPlainText, cells_in}
 use Rattle.indicatif_bar.specs.LineLaws.{IsPlainPart, HasPlainParts, PlainPartsGivePlainLines}
 use Rattle.indicatif_bar.specs.Inside.Steps.{wide_source, source_text, source_of}
-use Rattle.indicatif_bar.specs.declared.style.keys.Key.TheVariants.{Bar, WideBar, WideMessage, Spinner, Prefix, Message, Position, Length, Percent, PercentPrecise, Elapsed, Eta, Duration, PerSecond, BytesPerSecond}
+use Rattle.indicatif_bar.specs.declared.style.keys.Key.TheVariants.{WideBar, WideMessage}
 use Rattle.indicatif_bar.specs.declared.style.steps.Source.{Source}
-use Rattle.indicatif_bar.specs.declared.style.steps.Source.TheVariants.{Tracker, Known, Nothing}
+use Rattle.indicatif_bar.specs.declared.style.steps.Source.TheVariants.{Known}
 use Rattle.indicatif_bar.proofs.BarWidthLemmas.{takes_bar}
 use Rattle.indicatif_bar.proofs.FillingLemmas.{no_fillers}
 use Rattle.indicatif_bar.proofs.LinesLemmas.{names, text_of_name, wide_of_name, latest_by}
@@ -82,23 +82,9 @@ module _ {K : Type 0} (m : Tracking K) (style : BarStyle K) (p : Progress) (now 
 
   -- a wide key leaves a filler
   leaves_filler : (layout : Layout) (source : Source) (wide : Wide) → wide_source layout source ≡ Some wide → source_text m style p now layout source ≡ filler
-  leaves_filler layout (Tracker k) wide e = absurd (cc e)
-  leaves_filler layout Nothing wide e = absurd (cc e)
   leaves_filler layout (Known WideBar) wide e = refl
   leaves_filler layout (Known WideMessage) wide e = refl
-  leaves_filler layout (Known Bar) wide e = absurd (cc e)
-  leaves_filler layout (Known Spinner) wide e = absurd (cc e)
-  leaves_filler layout (Known Prefix) wide e = absurd (cc e)
-  leaves_filler layout (Known Message) wide e = absurd (cc e)
-  leaves_filler layout (Known (Position form)) wide e = absurd (cc e)
-  leaves_filler layout (Known (Length form)) wide e = absurd (cc e)
-  leaves_filler layout (Known Percent) wide e = absurd (cc e)
-  leaves_filler layout (Known PercentPrecise) wide e = absurd (cc e)
-  leaves_filler layout (Known (Elapsed form)) wide e = absurd (cc e)
-  leaves_filler layout (Known (Eta form)) wide e = absurd (cc e)
-  leaves_filler layout (Known (Duration form)) wide e = absurd (cc e)
-  leaves_filler layout (Known PerSecond) wide e = absurd (cc e)
-  leaves_filler layout (Known (BytesPerSecond form)) wide e = absurd (cc e)
+  leaves_filler layout source wide e = absurd (cc e)
 
   key_mixed : (key : List ℕ) (layout : Layout) (o : Option Wide) → wide_part m style p now (KeyText key layout) ≡ o → IsPlainPart m style p now (KeyText key layout)
       → Mixed (part_text m style p now (KeyText key layout))

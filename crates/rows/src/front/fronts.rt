@@ -34,6 +34,7 @@ use crate::front::history::{Answered, Look, Question, shown};
 use crate::front::readings::read;
 use crate::front::scripted::script_of;
 use crate::front::tell::{Told, tell};
+use indicatif::machine::Shares;
 use indicatif::{Drawn, MultiProgressAlignment, ProgressBar, ProgressDrawTarget, Refusal};
 use scripts::got::{Bad, Got};
 use scripts::row::{Words, headed};
@@ -476,9 +477,7 @@ impl<R: AllocGlobal + RandomSource + Wait + Copy + Clone + Drop> Fronts<R> {
     }
 }
 
-impl<
-    R: AllocGlobal + RandomSource + Wait + Threads + Clock + Copy + Clone + Drop + Send + 'static,
-> World<R> {
+impl<R: Shares + RandomSource> World<R> {
     /// Makes a step, or reads something.
     pub fn step(&mut self, step: &str, got: &mut Got) {
         let (name, rest) = headed(step);
@@ -496,9 +495,7 @@ impl<
     }
 }
 
-impl<
-    R: AllocGlobal + RandomSource + Wait + Threads + Clock + Copy + Clone + Drop + Send + 'static,
-> Fronts<R> {
+impl<R: Shares + RandomSource> Fronts<R> {
     /// Makes a step without the wrapped value. Unknown steps go to `takes_in`, then to `settles`, and then to `draws`.
     fn step(&mut self, step: &str, got: &mut Got) {
         let (name, rest) = headed(step);

@@ -1,0 +1,78 @@
+//! Updates by closures: of a record, and of a shared bar. (Rows compare those of a lone bar with a shared one's: `learn further 4` in `calls.txt`.)
+use crate::checks::Granted;
+use crate::fronts::{Bar, alone, bar_on, recorded};
+use indicatif::{Ask, BarState, Change, NoTracker, ProgressState, ProgressStyle};
+use std::alloc::Global;
+use std::process::Abort;
+use std::sync::Wait;
+use std::thread::{Threads, join};
+
+type Record = BarState<NoTracker>;
+
+/// A record with this length that shows its position, in a box: each way out of a function drops it by one call.
+pub fn plain_bar(rt: &impl Abort, alloc: Global, len: u64) -> Box<Record> {
+    let style = ProgressStyle::with_template(alloc, "{pos}").granted(rt);
+    let bar = BarState::styled(alloc, style, Some(len), 0).granted(rt);
+    Box::new(alloc, bar).granted(rt)
+}
+
+/// Doubles the position, and sets the length to one more than that.
+fn update_twice(bar: &mut Record) -> Ask {
+    bar.update(
+        |state| {
+            let twice = state.pos().saturating_mul(2);
+            Change {
+                pos: Some(twice),
+                len: Some(twice.saturating_add(1)),
+            }
+        },
+        0,
+    )
+}
+
+#[test]
+fn an_update_of_a_record(rt: HostRuntime) {
+    let rt = &rt;
+    let mut bar = plain_bar(rt, rt.alloc(), 10);
+    bar.with_position(12, 0);
+    same!(rt; update_twice(&mut bar), Ask::Unforced);
+    same!(rt; (bar.state().pos(), bar.state().len()), (24, Some(25)));
+}
+
+// ---- in two threads: the lock is held meanwhile, so that nobody else's call comes between
+
+/// One step further.
+fn further(state: &ProgressState) -> Change {
+    Change {
+        pos: Some(state.pos().wrapping_add(1)),
+        len: None,
+    }
+}
+
+/// Sets the position to the current one plus 1, `times` times; how often it was refused.
+fn updates<R: Wait + Copy + Clone + Drop>(bar: &Bar<R>, times: u32) -> u32 {
+    let mut refused: u32 = 0;
+    for _ in 0..times {
+        if bar.update(|state| further(state)).is_err() {
+            refused = refused.saturating_add(1);
+        }
+    }
+    refused
+}
+
+/// Two threads bring a bar to 2000 by a thousand updates each.
+fn is_updated_by_two<R: Wait + Threads + Sync + Copy + Clone + Drop + Abort>(rt: &R, bar: &Bar<R>) {
+    let refused = join(rt, || updates(bar, 1000), || updates(bar, 1000));
+    same!(rt; refused, (0, 0));
+    same!(rt; bar.position(), 2000);
+}
+
+/// Two threads update a bar that stands alone, and one on a board: no update is lost.
+#[test]
+fn updates_of_two_threads(rt: HostRuntime) {
+    let rt = &rt;
+    let alloc = rt.alloc();
+    is_updated_by_two(rt, &alone(*rt, alloc, "{pos}"));
+    let board = recorded(*rt, alloc);
+    is_updated_by_two(rt, &bar_on(&board, *rt, alloc, "a"));
+}
