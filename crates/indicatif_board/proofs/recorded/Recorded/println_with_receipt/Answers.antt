@@ -20,5 +20,6 @@ returns-clause-held g c =
     let made = returns-clause-made g c in
     let count = entries_count c.entries-number.result.now _ c.entries-number.ensures in (
       made.mark ∙ sym c.opening.ensures.began.0,
-      stands_last g.K.Tracks.means g.T.TermLike.view _ _ _ _ _ _ count made ∙ ap (λ a. Some (record { call = Log (string_bytes c.args.text); now = c.args.now; answer = answer_of a })) (sym c.same.ensures),
+      stands_last g.K.Tracks.means g.T.TermLike.view _ _ _ _ _ _ count made
+          ∙ ap (λ a. Some (record { call = Log (string_bytes c.args.text); now = c.args.now; answer = answer_of a })) (sym c.same.ensures),
     )
