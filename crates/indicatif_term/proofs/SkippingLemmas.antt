@@ -21,7 +21,6 @@ use Rattle.indicatif_term.specs.declared.engine.counts.Counts.{Counts}
 use Rattle.indicatif_term.specs.declared.engine.layout.Plan.{Plan}
 use Rattle.indicatif_term.specs.declared.engine.lines.Segment.{Segment}
 use Rattle.std.proofs.Common.{Result, Ok, Err, Option, Some}
-use Rattle.std.proofs.Math.Logic.{∥∥₁_map}
 use Rattle.indicatif_text.specs.declared.refusal.Refusal.TheVariants.{Memory}
 use Rattle.std.specs.Prelude.{fold}
 use Rattle.indicatif_text.specs.declared.refusal.Refusal.{Refusal}
@@ -35,7 +34,7 @@ use Rattle.indicatif_term.proofs.ShownRowLemmas.{lines_rows, frame_rows, frame_l
 use Rattle.indicatif_term.proofs.CountLemmas.{length-live, live_of, settled-rows, passed-rows, same_blanks_log}
 use Rattle.indicatif_term.proofs.PaintingLemmas.{IsDrawable, AreDrawable}
 use Rattle.indicatif_term.proofs.EditWalkLemmas.{height-append, sitting_parts}
-use Rattle.indicatif_term.proofs.RememberedLemmas.{rows-append, lines_height, lines_placed, nothing_shown, remembered_by}
+use Rattle.indicatif_term.proofs.RememberedLemmas.{rows-append, lines_height, lines_placed, remembered_by}
 use Rattle.indicatif_term.proofs.TerminalStepLemmas.{rows_some}
 use Rattle.indicatif_term.proofs.SkipDrawingLemmas.{change_redraws}
 use Rattle.indicatif_term.proofs.DrawingLemmas.{Replaces, drawn_goes, drawn-sound, log_live}
@@ -192,13 +191,6 @@ fits_refused new old (Err x) e l l' same q f fits =
 
 pub some_is : {A : Type 0} (o : Option A) (x : A) (P : A → Type 0) → o ≡ Some x → IfSome o P → P x
 some_is o x P e p = subst (λ q. IfSome q P) e p
-
--- where its lines were taken away, or memory for more was refused
-pub still_suits : {A : Type 0} (counts : Counts) (failed : Bool) (old new : Remembered) (n : ℕ) (result : Result A Refusal) → IfErr result (λ e. (e ≡ Memory) × (0 < n) × (new ≡ old)) →
-    IfOk result (λ _. new.width ≡ 0) → ∥ ((l : Lists) × Suits counts failed old l) ∥₁ → ∥ ((l : Lists) × Suits counts failed new l) ∥₁
-still_suits counts failed old new n (Ok a) e o s =
-    ∥∥₁_map s (λ x. (x.0, record { counted = x.1.counted; failed_is = x.1.failed_is; forgets = x.1.forgets; remembered = nothing_shown new x.0 o }))
-still_suits counts failed old new n (Err x) e o s = subst (λ r. ∥ ((l : Lists) × Suits counts failed r l) ∥₁) (sym e.2) s
 
 -- ---- lines of which there are some
 
