@@ -1,7 +1,10 @@
-//! Updates by closures: of a record, and of a shared bar. (Rows compare those of a lone bar with a shared one's: `learn further 4` in `calls.txt`.)
+//! Updates by closures: of a record, of a lone bar, and of a shared one.
 use crate::checks::Granted;
 use crate::fronts::{Bar, alone, bar_on, recorded};
-use indicatif::{Ask, BarState, Change, NoTracker, ProgressState, ProgressStyle};
+use indicatif::{
+    Ask, BarState, Change, Drawn, InMemoryTerm, LoneBar, NoTracker, ProgressDrawTarget,
+    ProgressState, ProgressStyle, Refusal,
+};
 use std::alloc::Global;
 use std::process::Abort;
 use std::sync::Wait;
@@ -37,6 +40,42 @@ fn an_update_of_a_record(rt: HostRuntime) {
     bar.with_position(12, 0);
     same!(rt; update_twice(&mut bar), Ask::Unforced);
     same!(rt; (bar.state().pos(), bar.state().len()), (24, Some(25)));
+}
+
+type Lone = LoneBar<NoTracker, InMemoryTerm>;
+
+/// One further than it is.
+fn update_next(bar: &mut Lone) -> Result<Drawn, Refusal> {
+    bar.update(
+        |state| Change {
+            pos: Some(state.pos().saturating_add(1)),
+            len: None,
+        },
+        0,
+    )
+}
+
+/// A bar at this position of 25, on a terminal of 3 rows and 20 columns.
+fn shown_at(rt: &impl Abort, alloc: Global, place: u64) -> Box<Lone> {
+    let mut bar = plain_bar(rt, alloc, 25);
+    bar.with_position(place, 0);
+    let term = InMemoryTerm::new(alloc, 3, 20).granted(rt);
+    let target = ProgressDrawTarget::term_like(term);
+    Box::new(alloc, LoneBar::new(Box::into_inner(bar), target)).granted(rt)
+}
+
+/// What stands on a bar's terminal.
+fn contents(rt: &impl Abort, bar: &Lone) -> String {
+    let term = bar.term().granted(rt);
+    term.contents().granted(rt)
+}
+
+#[test]
+fn an_update_of_a_lone_bar(rt: HostRuntime) {
+    let rt = &rt;
+    let mut bar = shown_at(rt, rt.alloc(), 23);
+    same!(rt; update_next(&mut bar), Ok(Drawn::Yes));
+    same!(rt; contents(rt, &bar).as_str(), "24");
 }
 
 // ---- in two threads: the lock is held meanwhile, so that nobody else's call comes between
