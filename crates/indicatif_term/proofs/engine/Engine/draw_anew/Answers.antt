@@ -113,10 +113,10 @@ store-requires-clause-suits g c = λ r is.
 pub returns-then-moves-clause-counted : goal.returns-then-moves-clause-counted
 returns-then-moves-clause-counted g c =
     let v = g.T.TermLike.view (engine_term c.args.self.now) in
-    let moved = moved_bytes c.in_ok-planned.planned.window.columns c.args.self.now.counts.live (placed c.behind-drawn.result.now) in
-    let drawn = g.T.TermLike.view (engine_term c.ended.new.self) in
-    counted_by moved v drawn _ _ c.ended.result c.ended.new.self c.ended.ensures.remembers
-    (subst (λ t. Draws moved (g.T.TermLike.view t) drawn c.ended.result) c.store.ensures.terminal
+    let v' = g.T.TermLike.view (engine_term c.ended.new.self) in
+    let bytes = moved_bytes c.in_ok-planned.planned.window.columns c.args.self.now.counts.live (placed c.behind-drawn.result.now) in
+    counted_by bytes v v' _ _ c.ended.result c.ended.new.self c.ended.ensures.remembers
+    (subst (λ t. Draws bytes (g.T.TermLike.view t) v' c.ended.result) c.store.ensures.terminal
     (c.ended.ensures.draws _ _ c.write_over-written.ensures))
 
 pub returns-then-moves-clause-lists : goal.returns-then-moves-clause-lists
@@ -197,10 +197,10 @@ returns-in-Some-clause-counted g c =
     let parts = split_at (placed ls) c.in-Some.room.lines has.1.some (omega (arith, has.1.in_lines, length-map ls placed_of)) in
     let drawn_are = c.behind-drawn.ensures ∙ c.in_ok-from.ensures.next.2 in
     let v = g.T.TermLike.view (engine_term c.args.self.now) in
-    let changed = change_bytes c.in_ok-planned.planned.window.columns c.in-Some.room.free parts.0 parts.1 parts.2 in
-    let drawn = g.T.TermLike.view (engine_term c.ended-in-Some.new.self) in
-    counted_by changed v drawn _ _ c.ended-in-Some.result c.ended-in-Some.new.self c.ended-in-Some.ensures.remembers
-    (subst (λ t. Draws changed (g.T.TermLike.view t) drawn c.ended-in-Some.result) c.store.ensures.terminal
+    let v' = g.T.TermLike.view (engine_term c.ended-in-Some.new.self) in
+    let bytes = change_bytes c.in_ok-planned.planned.window.columns c.in-Some.room.free parts.0 parts.1 parts.2 in
+    counted_by bytes v v' _ _ c.ended-in-Some.result c.ended-in-Some.new.self c.ended-in-Some.ensures.remembers
+    (subst (λ t. Draws bytes (g.T.TermLike.view t) v' c.ended-in-Some.result) c.store.ensures.terminal
     (c.ended-in-Some.ensures.draws _ _ (c.write_in_room-written.ensures parts.0 parts.1 parts.2 (ap placed drawn_are ∙ parts.3) parts.4)))
 
 pub returns-in-Some-clause-lists : goal.returns-in-Some-clause-lists
