@@ -1,18 +1,14 @@
-//! The examples of the documentation comments that say what comes, and that no other test has. Those here are of `indicatif_text` and of single
-//! calls of the libraries above it. `tools/examples.py` looks for an example's lines in each file of the tests.
+//! The examples of the libraries' documentation with a result. Those here have an assert in their comment.
 //!
-//! - `texts`: others of `indicatif_text`. `memory`, `engines`, `targets`: of `indicatif_term`. `records`, `lone`: of `indicatif_bar`. `boards`: of
-//!   `indicatif_board`. `shared`, `wrappers`, `machine`: of `indicatif`.
+//! - `texts`: others of `indicatif_text`. `memory`, `engines`, `targets`: of `indicatif_term`.
+//! - `records`, `lone`: of `indicatif_bar`. `boards`: of `indicatif_board`; those of its histories are in `histories`, beside this module.
 mod boards;
 mod engines;
 mod lone;
-mod machine;
 mod memory;
 mod records;
-mod shared;
 mod targets;
 mod texts;
-mod wrappers;
 
 use crate::checks::Granted;
 use indicatif_bar::state::Ask;

@@ -1,8 +1,10 @@
 //! A bar on a terminal whose calls have no clauses here, so that a test of many calls is proved call by call: what the prover knows of one
 //! call isn't carried through all that follow it. It is in a box, so that each way out of a test drops it by one call.
+use crate::checks::Granted;
 use indicatif_bar::lone::LoneBar;
 use indicatif_bar::state::BarState;
 use indicatif_bar::style::{NoTracker, ProgressStyle};
+use indicatif_term::cells::InMemoryTerm;
 use indicatif_term::target::{ProgressDrawTarget, TermLike};
 use indicatif_text::columns::{Drawn, Refusal};
 use std::alloc::Global;
@@ -67,3 +69,27 @@ pub const SCRIPT: &[Step] = &[
 
 /// The place in the script of the tick that changes no line: the log before it wrote all of them. Such a draw writes nothing.
 pub const STILL: usize = 4;
+
+/// Two lines were already written to the terminal. The log scrolls the first of them away unchanged.
+#[test]
+fn a_log_on_the_last_row_scrolls(rt: HostRuntime) {
+    let rt = &rt;
+    let alloc = rt.alloc();
+    let mut term = InMemoryTerm::new(alloc, 3, 10).granted(rt);
+    term.write_line("u1").granted(rt);
+    term.write_line("u2").granted(rt);
+    let mut bar = Shown::on(alloc, "x", term).granted(rt);
+    same!(rt; bar.makes(Step::Tick), Ok(Drawn::Yes));
+    same!(rt; bar.makes(Step::Log("l")), Ok(Drawn::Yes));
+    let Some(term) = bar.term() else {
+        panic!(rt; "the terminal is the bar's")
+    };
+    let contents = term.contents().granted(rt);
+    same!(rt; contents.as_str(), "u2\nl\nx");
+    let picture = term.picture().granted(rt);
+    same!(rt; picture.len(), 4);
+    let Some(first) = picture.first() else {
+        panic!(rt; "there are four rows")
+    };
+    same!(rt; first.as_str(), "u1");
+}

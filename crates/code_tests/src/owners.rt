@@ -1,15 +1,29 @@
-//! What the last owner of a bar leaves, what stays on another target, threads with owners of their own, and a terminal in a box.
+//! What the last owner of a bar leaves, what stays on another target, and threads that are owners, on a terminal that others read.
 use crate::checks::Granted;
-use crate::fronts::{self, Shared};
-use crate::shown::{Bar, bar_on, board_on, is_seen, no_bytes, setup_on};
-use indicatif::{
-    Drawn, InMemoryTerm, ProgressBar, ProgressDrawTarget, ProgressFinish, Setup, StepClock,
-    TermLike, WeakProgressBar,
-};
+use crate::shown::{Bytes, Shown, is_seen, no_bytes, setup_on};
+use crate::watched::board_on;
+use indicatif::{Drawn, ProgressBar, ProgressFinish, ProgressStyle, StepClock, Term};
 use std::alloc::Global;
 use std::process::Abort;
 use std::sync::Wait;
 use std::thread::{self, join};
+
+pub type Bar<R> = ProgressBar<Term<Shown<R>>, StepClock, R>;
+
+/// A bar on that terminal, with this template and a length of 10.
+pub fn bar_on<R: Wait + Copy + Clone + Drop + Abort>(
+    rt: R,
+    alloc: Global,
+    bytes: &Bytes,
+    template: &str,
+) -> Bar<R> {
+    let rt = &rt;
+    let style = ProgressStyle::with_template(alloc, template).granted(rt);
+    let setup = setup_on(*rt, bytes, 10);
+    ProgressBar::styled(*rt, alloc, style, Some(10), setup).expect(rt, "granted")
+}
+
+// ---- owners
 
 /// Draws a bar with this stored finish, and releases its owner, and then another one, which is the last; or drops its only owner: then this
 /// must stand there.
@@ -97,35 +111,4 @@ fn threads_advance_through_clones(rt: HostRuntime) {
     same!(rt; bar.position(), 1000);
     same!(rt; bar.force_draw(), Ok(Drawn::Yes));
     is_seen(rt, rt.alloc(), &bytes, "1000");
-}
-
-/// Types that may go to another thread, and be used by several.
-fn crosses<X: Send + Sync>() {}
-
-/// A test of the crate `indicatif` 0.18.6: shared types may go to another thread, and be used by several.
-#[test]
-fn progress_bar_sync_send(rt: HostRuntime) {
-    crosses::<fronts::Bar<HostRuntime>>();
-    crosses::<WeakProgressBar<InMemoryTerm, StepClock, HostRuntime>>();
-    crosses::<Shared<HostRuntime>>();
-}
-
-// ---- a terminal in a box
-
-/// A terminal of a kind that only its maker knows.
-type Boxed = Box<dyn TermLike + Drop>;
-
-#[test]
-fn a_boxed_terminal(rt: HostRuntime) {
-    let rt = &rt;
-    let alloc = rt.alloc();
-    let term = InMemoryTerm::new(alloc, 4, 20).granted(rt);
-    let term: Boxed = Box::new(alloc, term).expect(rt, "granted");
-    let setup = Setup {
-        target: ProgressDrawTarget::term_like(term),
-        clock: StepClock { next: 0, step: 0 },
-    };
-    let bar = ProgressBar::no_length(*rt, alloc, setup).expect(rt, "granted");
-    same!(rt; bar.inc(2), Ok(Drawn::Yes));
-    same!(rt; bar.position(), 2);
 }

@@ -8,8 +8,10 @@ use crate::{
 use indicatif_text::columns::Moment;
 use meter_parts::bytes_said;
 use scripts::got::{Bad, Got};
+use scripts::play::{Tally, World, play_rows};
 use scripts::row::{At, headed, timed};
 use std::alloc::Global;
+use std::io::{self, BufRead};
 use std::mem::replace;
 
 /// A world that steps are played on.
@@ -116,27 +118,49 @@ impl On {
 
 /// The world, and the moment of the last step.
 #[derive(Drop)]
-pub struct Stage {
+struct Stage {
     at: At,
     on: On,
 }
 
+/// Plays the rows of a reader on a new stage, and prints each that differs under this name.
+pub fn play_on_new_stage<R: Print + Alloc<A = Global>, L: BufRead + Drop>(
+    rt: &R,
+    path: &str,
+    lines: L,
+) -> io::Result<Tally> {
+    let at = At {
+        alloc: rt.alloc(),
+        now: 0,
+    };
+    let mut stage = Stage {
+        at,
+        on: On::Nothing,
+    };
+    play_rows(rt, path, lines, &mut stage)
+}
+
 impl Stage {
-    /// One with nothing on it.
-    pub fn new(alloc: Global) -> Stage {
-        Stage {
-            at: At { alloc, now: 0 },
-            on: On::Nothing,
+    /// Continues with the current world, at this moment or that of the last step: makes a step, or reads something.
+    fn go_on(&mut self, step: &str, moment: Option<Moment>, got: &mut Got) {
+        self.at.now = moment.unwrap_or(self.at.now);
+        match headed(step).0 {
+            "ended" | "shown" => match replace(&mut self.on, On::Nothing).turned(step, self.at) {
+                Ok(on) => self.on = on,
+                Err(bad) => got.bad(bad),
+            },
+            _ => self.on.step(step, self.at, got),
         }
     }
+}
 
-    /// Makes a step, and appends what it gives. It begins another world, at this moment or at 0, where the step does so; else it goes on with
-    /// what is there.
-    pub fn play(&mut self, step: &str, got: &mut Got) {
+impl World for Stage {
+    /// Begins another world, at this moment or at 0, if the step does so; otherwise continues with the current one.
+    fn play(&mut self, step: &str, got: &mut Got) -> Result<(), Bad> {
         let (step, moment) = timed(step);
         let (name, rest) = headed(step);
         if asked(name, rest, self.at, got) {
-            return;
+            return Ok(());
         }
         let at = At {
             now: moment.unwrap_or(0),
@@ -150,17 +174,6 @@ impl Stage {
             Some(Err(bad)) => got.bad(bad),
             None => self.go_on(step, moment, got),
         }
-    }
-
-    /// Continues with the current world, at this moment or that of the last step: makes a step, or reads something.
-    fn go_on(&mut self, step: &str, moment: Option<Moment>, got: &mut Got) {
-        self.at.now = moment.unwrap_or(self.at.now);
-        match headed(step).0 {
-            "ended" | "shown" => match replace(&mut self.on, On::Nothing).turned(step, self.at) {
-                Ok(on) => self.on = on,
-                Err(bad) => got.bad(bad),
-            },
-            _ => self.on.step(step, self.at, got),
-        }
+        Ok(())
     }
 }

@@ -3,7 +3,7 @@
 //! A row is a line: a step, ` -> `, and its result. A step without a result may lack both. Lines that are empty or begin with `#` are
 //! skipped.
 //!
-//! - `play`: files of rows: which steps a row makes, and which rows agree; each that differs is printed, with its file and its line.
+//! - `play`: files of rows, played line by line on a world; each row that differs is printed, with its file and its line.
 //! - `row`: the step of a line and its expected result; words and moments of a step.
 //! - `spelling`: numbers and escapes.
 //! - `got`: the result of a step, or why it has none.

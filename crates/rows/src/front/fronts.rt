@@ -34,7 +34,6 @@ use crate::front::history::{Answered, Look, Question, shown};
 use crate::front::readings::read;
 use crate::front::scripted::script_of;
 use crate::front::tell::{Told, tell};
-use indicatif::machine::Shares;
 use indicatif::{Drawn, MultiProgressAlignment, ProgressBar, ProgressDrawTarget, Refusal};
 use scripts::got::{Bad, Got};
 use scripts::row::{Words, headed};
@@ -477,7 +476,9 @@ impl<R: AllocGlobal + RandomSource + Wait + Copy + Clone + Drop> Fronts<R> {
     }
 }
 
-impl<R: Shares + RandomSource> World<R> {
+impl<
+    R: AllocGlobal + RandomSource + Wait + Threads + Clock + Copy + Clone + Drop + Send + 'static,
+> World<R> {
     /// Makes a step, or reads something.
     pub fn step(&mut self, step: &str, got: &mut Got) {
         let (name, rest) = headed(step);
@@ -495,7 +496,9 @@ impl<R: Shares + RandomSource> World<R> {
     }
 }
 
-impl<R: Shares + RandomSource> Fronts<R> {
+impl<
+    R: AllocGlobal + RandomSource + Wait + Threads + Clock + Copy + Clone + Drop + Send + 'static,
+> Fronts<R> {
     /// Makes a step without the wrapped value. Unknown steps go to `takes_in`, then to `settles`, and then to `draws`.
     fn step(&mut self, step: &str, got: &mut Got) {
         let (name, rest) = headed(step);

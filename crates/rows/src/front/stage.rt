@@ -10,16 +10,17 @@ use crate::front::on_panes::OnPanes;
 use crate::front::places::Places;
 use crate::front::plain::Plain;
 use crate::front::{beside, environment, fronts, loops, on_pane, on_panes, places, plain};
-use indicatif::machine::Shares;
 use scripts::got::{Bad, Got};
 use scripts::row::headed;
 use std::alloc::Global;
 use std::random::RandomSource;
 use std::sync::Wait;
+use std::thread::Threads;
+use std::time::Clock;
 
 /// A world that steps are played on.
 #[derive(Drop)]
-enum On<R: Wait + Copy + Clone + Drop> {
+pub enum On<R: Wait + Copy + Clone + Drop> {
     Nothing,
     Fronts(Box<World<R>>),
     Beside(Box<Pair<R>>),
@@ -35,21 +36,12 @@ enum On<R: Wait + Copy + Clone + Drop> {
 /// A world, and the machine.
 #[derive(Drop)]
 pub struct Stage<R: Wait + Copy + Clone + Drop> {
-    rt: R,
-    alloc: Global,
-    on: On<R>,
+    pub rt: R,
+    pub alloc: Global,
+    pub on: On<R>,
 }
 
 impl<R: AllocGlobal + RandomSource + Wait + Copy + Clone + Drop> Stage<R> {
-    /// One with nothing on it.
-    pub fn new(rt: R) -> Stage<R> {
-        Stage {
-            rt,
-            alloc: rt.alloc(),
-            on: On::Nothing,
-        }
-    }
-
     /// The world that the step with this name begins.
     fn begun(&self, name: &str, rest: &str) -> Option<Result<On<R>, Bad>> {
         Some(match name {
@@ -67,7 +59,9 @@ impl<R: AllocGlobal + RandomSource + Wait + Copy + Clone + Drop> Stage<R> {
     }
 }
 
-impl<R: Shares + RandomSource> On<R> {
+impl<
+    R: AllocGlobal + RandomSource + Wait + Threads + Clock + Copy + Clone + Drop + Send + 'static,
+> On<R> {
     /// Makes a step, or reads something.
     fn step(&mut self, step: &str, got: &mut Got) {
         match self {
@@ -85,7 +79,9 @@ impl<R: Shares + RandomSource> On<R> {
     }
 }
 
-impl<R: Shares + RandomSource> Stage<R> {
+impl<
+    R: AllocGlobal + RandomSource + Wait + Threads + Clock + Copy + Clone + Drop + Send + 'static,
+> Stage<R> {
     /// Makes a step, and appends its result.
     pub fn play(&mut self, step: &str, got: &mut Got) {
         let (name, rest) = headed(step);

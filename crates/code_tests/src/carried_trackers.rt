@@ -1,0 +1,149 @@
+//! Tests of the crate `indicatif` 0.18.6 on keys of your own, each under its own name and with its own values.
+ghost use Rattle.std.specs.Prelude.{false, true, List, [], ◌++◌, if◌then◌else◌, codes, decimal, unwrap_or};
+
+use crate::checks::Granted;
+use crate::styles::{look, saying, shows_line};
+use crate::values::is_shown;
+use indicatif::style::ProgressTracker;
+use indicatif::{BarState, FnTracker, Moment, ProgressState, ProgressStyle, Refusal, TellsText};
+use std::alloc::Global;
+use std::process::Abort;
+
+/// Gives this text.
+#[derive(Drop)]
+pub struct Says {
+    pub alloc: Global,
+    pub text: &'static str,
+}
+
+impl TellsText for Says {
+    ghost told_text = { λ says p now. says.text.now };
+
+    fn tell(&self, _state: &ProgressState, _now: Moment) -> Result<String, Refusal> {
+        Ok(String::from_str(self.alloc, self.text)?)
+    }
+}
+
+/// A key with that text.
+pub type Telling = FnTracker<Says>;
+
+/// Ends the test if the keys `foo` and `bar` give another line for a template.
+fn expands<R: Abort>(rt: &R, alloc: Global, template: &str, wanted: &str) {
+    let look = look(rt, alloc, (template, false));
+    let look = saying(rt, alloc, look, ("foo", "FOO"));
+    let look = saying(rt, alloc, look, ("bar", "BAR"));
+    shows_line(rt, alloc, look, wanted);
+}
+
+#[test]
+fn test_expand_template(rt: HostRuntime) {
+    let rt = &rt;
+    let alloc = rt.alloc();
+    expands(rt, alloc, "{{ {foo} {bar} }}", "{ FOO BAR }");
+    let json = r#"{ "foo": "{foo}", "bar": {bar} }"#;
+    expands(rt, alloc, json, r#"{ "foo": "FOO", "bar": BAR }"#);
+}
+
+/// Ends the test if the key `foo` gives another line for a template, with colours or without.
+fn expands_flags<R: Abort>(rt: &R, alloc: Global, template: (&str, bool), wanted: &str) {
+    let look = look(rt, alloc, template);
+    let look = saying(rt, alloc, look, ("foo", "XXX"));
+    shows_line(rt, alloc, look, wanted);
+}
+
+#[test]
+fn test_expand_template_flags(rt: HostRuntime) {
+    let rt = &rt;
+    let table: &[(&str, &str)] = &[
+        ("{foo:5}", "XXX  "),
+        ("{foo:.red.on_blue}", "\u{1b}[31m\u{1b}[44mXXX\u{1b}[0m"),
+        ("{foo:^5.red.on_blue}", "\u{1b}[31m\u{1b}[44m XXX \u{1b}[0m"),
+        (
+            "{foo:^5.red.on_blue/green.on_cyan}",
+            "\u{1b}[31m\u{1b}[44m XXX \u{1b}[0m",
+        ),
+    ];
+    for (template, wanted) in table {
+        expands_flags(rt, rt.alloc(), (*template, true), *wanted);
+    }
+}
+
+/// The crate has colours for each of two streams; here a style has colours or not.
+#[test]
+fn test_stderr_colors(rt: HostRuntime) {
+    let rt = &rt;
+    expands_flags(rt, rt.alloc(), ("{foo:.red.on_blue}", false), "XXX");
+}
+
+// ---- a text that changes
+
+/// The length and the position at the last tick since the last reset, if there was one.
+#[derive(Clone, Copy, Drop)]
+struct TestTracker {
+    alloc: Global,
+    ticked: bool,
+    len: u64,
+    pos: u64,
+}
+
+impl ProgressTracker for TestTracker {
+    ghost means = { record {
+      text = λ t p now. if t.ticked then decimal t.len ++ codes " " ++ decimal t.pos else [];
+      ticked = λ t p now. record t { ticked = true; len = unwrap_or p.len 0; pos = p.position };
+      was_reset = λ t p now. record t { ticked = false };
+    } };
+
+    fn tick(&mut self, state: &ProgressState, _now: Moment) {
+        self.ticked = true;
+        self.len = state.len().unwrap_or(0);
+        self.pos = state.pos();
+    }
+
+    fn reset(&mut self, _state: &ProgressState, _now: Moment) {
+        self.ticked = false;
+    }
+
+    fn write(&self, _state: &ProgressState, _now: Moment, out: &mut String) -> Result<(), Refusal> {
+        if self.ticked {
+            let (len, pos) = (self.len, self.pos);
+            let text = format!(in self.alloc; "{len} {pos}")?;
+            out.push_str(text.as_str())?;
+        }
+        Ok(())
+    }
+
+    fn try_clone(&self) -> Result<TestTracker, Refusal> {
+        Ok(*self)
+    }
+}
+
+/// A bar of 1 that shows such a tracker.
+fn tracked<R: Abort>(rt: &R, alloc: Global) -> BarState<TestTracker> {
+    let tracker = TestTracker {
+        alloc,
+        ticked: false,
+        len: 0,
+        pos: 0,
+    };
+    let style = ProgressStyle::with_template(alloc, "{{ {foo} }}").granted(rt);
+    let style = style.with_key("foo", tracker).expect(rt, "granted");
+    let style = style.progress_chars("#>-").granted(rt);
+    BarState::styled(alloc, style, Some(1), 0).expect(rt, "granted")
+}
+
+/// Ends the test if the bar's one line is another one, on 16 columns.
+fn is_line<R: Abort>(rt: &R, bar: &BarState<TestTracker>, wanted: &str) {
+    is_shown(rt, &bar.lines(0, 16).granted(rt), wanted);
+}
+
+#[test]
+fn test_stateful_tracker(rt: HostRuntime) {
+    let rt = &rt;
+    let mut bar = tracked(rt, rt.alloc());
+    is_line(rt, &bar, "{  }");
+    bar.inc(1, 0);
+    is_line(rt, &bar, "{ 1 1 }");
+    bar.reset(0);
+    is_line(rt, &bar, "{  }");
+    bar.finish_and_clear(0);
+}

@@ -1,0 +1,148 @@
+//! Shared bars with the tests' own key, on their own target and on a board; and wrappers that get such a bar. What the key shows follows
+//! from its documentation: how many of ten steps are left.
+ghost use Rattle.std.specs.Prelude.{◌-◌, decimal};
+ghost use Rattle.indicatif_bar.specs.Trackers.{telling};
+
+use crate::checks::Granted;
+use crate::fronts::{bar_shows, board_shows, contents, target};
+use indicatif::style::ProgressTracker;
+use indicatif::{
+    InMemoryTerm, Moment, MultiProgress, ProgressBar, ProgressIterator, ProgressState,
+    ProgressStyle, Refusal, Setup, StepClock,
+};
+use itoa::Buffer;
+use std::alloc::Global;
+use std::process::Abort;
+use std::sync::Wait;
+use std::thread;
+
+/// Says how many of the steps are left.
+#[derive(Clone, Copy, Drop)]
+pub struct Left {
+    of: u64,
+}
+
+impl ProgressTracker for Left {
+    ghost means = { telling (λ left p now. decimal (left.of - p.position)) };
+
+    fn tick(&mut self, _state: &ProgressState, _now: Moment) {}
+
+    fn reset(&mut self, _state: &ProgressState, _now: Moment) {}
+
+    fn write(&self, state: &ProgressState, _now: Moment, out: &mut String) -> Result<(), Refusal> {
+        let mut digits = Buffer::new();
+        out.push_str(digits.format(self.of.saturating_sub(state.pos())))?;
+        Ok(())
+    }
+
+    fn try_clone(&self) -> Result<Left, Refusal> {
+        Ok(*self)
+    }
+}
+
+/// A shared bar whose key `left` is the tests' own.
+type Keyed<R> = ProgressBar<InMemoryTerm, StepClock, R, Left>;
+
+/// A board of such bars.
+pub type Several<R> = MultiProgress<InMemoryTerm, StepClock, R, Left>;
+
+fn setup(alloc: Global) -> Result<Setup<InMemoryTerm, StepClock>, Refusal> {
+    Ok(Setup {
+        target: target(alloc)?,
+        clock: StepClock { next: 0, step: 1 },
+    })
+}
+
+/// A style that shows a message, and how many of ten steps are left.
+fn style(alloc: Global) -> Result<ProgressStyle<Left>, Refusal> {
+    let style = ProgressStyle::with_template(alloc, "{msg} {left}")?.with_key(
+        "left",
+        Left { of: 10 },
+    )?;
+    Ok(style)
+}
+
+fn files<R: Wait + Copy + Clone + Drop + Abort>(rt: R, alloc: Global) -> Keyed<R> {
+    let rt = &rt;
+    let setup = setup(alloc).granted(rt);
+    let style = style(alloc).granted(rt);
+    let bar = ProgressBar::styled(*rt, alloc, style, Some(10), setup).expect(rt, "granted");
+    holds!(rt; bar.set_message("files").is_ok());
+    bar
+}
+
+/// Positions of the bar, and what it shows there.
+const SHOWN: &[(u64, &str)] = &[(12, "files 0"), (3, "files 7"), (0, "files 10")];
+
+/// The bar has the length that it was made with. The key follows the position, whoever owns the bar, and stays at 0 past the end. Another
+/// thread moves the bar, and the key with it. A style that is set later, and one that was read from the bar, have the key too.
+#[test]
+fn what_is_left(rt: HostRuntime) {
+    let rt = &rt;
+    let bar = files(*rt, rt.alloc());
+    same!(rt; bar.length(), Some(10));
+    let other = bar.clone().expect(rt, "granted");
+    for (position, wanted) in SHOWN {
+        holds!(rt; other.set_position(*position).is_ok());
+        bar_shows(rt, &bar, wanted);
+    }
+    let moved = thread::spawn(rt, move || other.inc(4)).granted(rt);
+    holds!(rt; moved.join(rt).is_ok());
+    bar_shows(rt, &bar, "files 6");
+    let style = bar.style().granted(rt);
+    let style = style.template("{left} of 10").granted(rt);
+    holds!(rt; bar.set_style(style).is_ok());
+    holds!(rt; bar.set_position(1).is_ok());
+    bar_shows(rt, &bar, "9 of 10");
+}
+
+/// A bar that a board makes, in that style.
+fn made_by<R: Wait + Copy + Clone + Drop + Abort>(
+    board: &Several<R>,
+    rt: R,
+    alloc: Global,
+) -> Keyed<R> {
+    let rt = &rt;
+    let bar = board.new_bar(10).expect(rt, "granted");
+    let style = style(alloc).granted(rt);
+    holds!(rt; bar.set_style(style).is_ok());
+    holds!(rt; bar.set_message("a").is_ok());
+    bar
+}
+
+/// The second of a board's two bars moves by 2.
+fn shows_two<R: Wait + Copy + Clone + Drop + Abort>(rt: R, alloc: Global) {
+    let rt = &rt;
+    let board: Several<R> = MultiProgress::keyed(
+        *rt,
+        alloc,
+        setup(alloc).expect(rt, "granted"),
+        1,
+    ).expect(rt, "granted");
+    let first = made_by(&board, *rt, alloc);
+    let second = board.add(files(*rt, alloc)).expect(rt, "granted");
+    holds!(rt; first.tick().is_ok());
+    holds!(rt; second.inc(2).is_ok());
+    board_shows(rt, &board, "a 10\nfiles 8");
+}
+
+#[test]
+fn on_a_board(rt: HostRuntime) {
+    shows_two(rt, rt.alloc());
+}
+
+/// Two of three items are taken from an iterator with its own bar in that style.
+#[test]
+fn in_a_loop(rt: HostRuntime) {
+    let rt = &rt;
+    let alloc = rt.alloc();
+    let items = vec![in alloc; 1u32, 2, 3].granted(rt).into_iter();
+    let setup = setup(alloc).granted(rt);
+    let style = style(alloc).granted(rt);
+    let wrapped = items.progress_with_style(alloc, style, setup);
+    let mut wrapped = Box::new(alloc, wrapped.expect(rt, "granted")).expect(rt, "granted");
+    let _ = wrapped.next();
+    let _ = wrapped.next();
+    let text = contents(wrapped.progress.bar().term()).granted(rt);
+    same!(rt; text.as_str(), " 8");
+}
