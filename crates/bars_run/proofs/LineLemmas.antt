@@ -4,7 +4,7 @@ use Rattle.std.specs.Prelude.{◌==◌, ◌&&◌, nat_lt}
 use Rattle.std.specs.Io.BufRead.{take_through, drop_through, ends_with_byte, strip_last, first_piece}
 use Rattle.std.proofs.lemmas.Bool.{cases_Bool}
 use Rattle.std.proofs.lemmas.Bool.Decides.{nat_tests}
-use Rattle.bars_run.specs.Commands.{with_first, lines_of}
+use Rattle.bars_run.specs.Commands.{with_first, input_lines}
 
 some : (n : ℕ) → nat_lt 0 (suc n) ≡ true
 some n = grind (arith, nat_tests)
@@ -43,28 +43,28 @@ drop-ends x xs e = ap (λ t. if t then xs else drop_through 0x0A xs) e
 
 -- a piece, and the lines behind it
 abbrev Parted : List ℕ → Type 0
-Parted xs = lines_of xs ≡ first_piece 0x0A xs ∷ lines_of (drop_through 0x0A xs)
+Parted xs = input_lines xs ≡ first_piece 0x0A xs ∷ input_lines (drop_through 0x0A xs)
 
 -- a line ends at this byte
 ends_here : (x : ℕ) (xs : List ℕ) → (x == 0x0A) ≡ true → Parted (x ∷ xs)
 ends_here x xs e =
-    ap (λ t. if t then [] ∷ lines_of xs else with_first x (lines_of xs)) e
-    ∙ ap (λ zs. zs ∷ lines_of xs) (sym (piece-ends x xs e))
-    ∙ ap (λ zs. first_piece 0x0A (x ∷ xs) ∷ lines_of zs) (sym (drop-ends x xs e))
+    ap (λ t. if t then [] ∷ input_lines xs else with_first x (input_lines xs)) e
+    ∙ ap (λ zs. zs ∷ input_lines xs) (sym (piece-ends x xs e))
+    ∙ ap (λ zs. first_piece 0x0A (x ∷ xs) ∷ input_lines zs) (sym (drop-ends x xs e))
 
 -- or goes on behind it
-goes_on : (x : ℕ) (xs : List ℕ) → (x == 0x0A) ≡ false → with_first x (lines_of xs) ≡ (x ∷ first_piece 0x0A xs) ∷ lines_of (drop_through 0x0A xs) → Parted (x ∷ xs)
+goes_on : (x : ℕ) (xs : List ℕ) → (x == 0x0A) ≡ false → with_first x (input_lines xs) ≡ (x ∷ first_piece 0x0A xs) ∷ input_lines (drop_through 0x0A xs) → Parted (x ∷ xs)
 goes_on x xs e within =
-    ap (λ t. if t then [] ∷ lines_of xs else with_first x (lines_of xs)) e
+    ap (λ t. if t then [] ∷ input_lines xs else with_first x (input_lines xs)) e
     ∙ within
-    ∙ ap (λ zs. zs ∷ lines_of (drop_through 0x0A xs)) (sym (piece-more x xs e))
-    ∙ ap (λ zs. first_piece 0x0A (x ∷ xs) ∷ lines_of zs) (sym (drop-more x xs e))
+    ∙ ap (λ zs. zs ∷ input_lines (drop_through 0x0A xs)) (sym (piece-more x xs e))
+    ∙ ap (λ zs. first_piece 0x0A (x ∷ xs) ∷ input_lines zs) (sym (drop-more x xs e))
 
 parted : (x : ℕ) (xs : List ℕ) → Parted (x ∷ xs)
 parted x [] = elim (cases_Bool (x == 0x0A)) [ inl e ↦ ends_here x [] e | inr e ↦ goes_on x [] e refl ]
 parted x (y ∷ ys) = elim (cases_Bool (x == 0x0A)) [ inl e ↦ ends_here x (y ∷ ys) e | inr e ↦ goes_on x (y ∷ ys) e (ap (with_first x) (parted y ys)) ]
 
 -- what is left after a piece
-pub next_line : (xs : List ℕ) → 0 < length xs → lines_of xs ≡ first_piece 0x0A xs ∷ lines_of (drop_through 0x0A xs)
+pub next_line : (xs : List ℕ) → 0 < length xs → input_lines xs ≡ first_piece 0x0A xs ∷ input_lines (drop_through 0x0A xs)
 next_line [] h = absurd (omega arith)
 next_line (x ∷ xs) h = parted x xs

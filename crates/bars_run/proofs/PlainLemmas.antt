@@ -24,7 +24,7 @@ use Rattle.indicatif_board.specs.Bridge.{bridge_bytes}
 use Rattle.indicatif_board.specs.PlainBoardLaws.{IsPlainCall}
 use Rattle.bars_run.specs.Commands.{Action, Message, Tick, Finish, Hide, Abandon, Drop, Remove, Spelled, Add, Log, Warn, Clear, Resize, OfBar, and_then, each}
 use Rattle.bars_run.specs.Inside.Players.{unanswered}
-use Rattle.bars_run.specs.Plays.{Step, calling, bar_at, bar_saying, call_on, step_of, IsPlain, IsPlainAction}
+use Rattle.bars_run.specs.Plays.{Step, calling, bar_at, bar_with_message, call_on, script_step, IsPlain, IsPlainAction}
 use Rattle.bars_run.proofs.PlainScriptLemmas.{ArePlainParts}
 use Rattle.bars_run.proofs.PlayLemmas.{both}
 
@@ -49,12 +49,12 @@ nothing_plain = (plain_by ([] ∷ []) nothing_tested).0
 none_with_tabs : IsPlainWithTabs []
 none_with_tabs tab = nothing_plain
 
-saying_plain : (text : List ℕ) → IsPlainWithTabs text → IsPlainBar writes_nothing (bar_saying text)
+saying_plain : (text : List ℕ) → IsPlainWithTabs text → IsPlainBar writes_nothing (bar_with_message text)
 saying_plain text h = record {
   style = record {
-    literals = All-from_recursion HasPlainLiteral (bar_saying text).style.parts (tt, tt);
+    literals = All-from_recursion HasPlainLiteral (bar_with_message text).style.parts (tt, tt);
     ticks = All-from_recursion IsPlainText (characters_of TICKS.now) (plain_by (characters_of TICKS.now) ticks_tested);
-    trackers = All-from_recursion (λ entry. IsPlainTracker writes_nothing entry.1) (bar_saying text).style.keys tt;
+    trackers = All-from_recursion (λ entry. IsPlainTracker writes_nothing entry.1) (bar_with_message text).style.keys tt;
     clusters = first_are_taken;
   };
   message = h;
@@ -75,8 +75,8 @@ plain_action id Remove h = tt
 abbrev IsPlainStep : Step → Type 0
 IsPlainStep step = ArePlainParts writes_nothing 0 (step ∷ [])
 
-plain_step : (command : Spelled) (step : Step) → step_of command ≡ Some step → IsPlain command → IsPlainStep step
-plain_step (Add text) step e h = let q : calling (on.Insert on.End (on.New (bar_saying text))) ≡ step = cc in subst IsPlainStep q ((saying_plain text h, tt), tt)
+plain_step : (command : Spelled) (step : Step) → script_step command ≡ Some step → IsPlain command → IsPlainStep step
+plain_step (Add text) step e h = let q : calling (on.Insert on.End (on.New (bar_with_message text))) ≡ step = cc in subst IsPlainStep q ((saying_plain text h, tt), tt)
 plain_step (Log text) step e h = let q : calling (on.Log text) ≡ step = cc in subst IsPlainStep q ((h, tt), tt)
 plain_step (Warn text) step e h = let q : calling (on.Log (bridge_bytes WarnLevel text)) ≡ step = cc in subst IsPlainStep q ((h, tt), tt)
 plain_step Clear step e h = let q : calling on.Clear ≡ step = cc in subst IsPlainStep q ((tt, tt), tt)
@@ -89,10 +89,10 @@ plain_more : (step : Step) (steps : List Step) → IsPlainStep step → ArePlain
 plain_more (Called calls answers) steps one others = (one.0, others)
 plain_more (script.Size w h) steps one others = others
 
-plain_steps : (commands : List Spelled) (steps : List Step) → each step_of commands ≡ Some steps → AllByRecursion IsPlain commands → ArePlainParts writes_nothing 0 steps
+plain_steps : (commands : List Spelled) (steps : List Step) → each script_step commands ≡ Some steps → AllByRecursion IsPlain commands → ArePlainParts writes_nothing 0 steps
 plain_steps [] steps e all = let n : [] ≡ steps = cc in subst (ArePlainParts writes_nothing 0) n tt
 plain_steps (command ∷ commands) steps e all =
-    let p = both (step_of command) (each step_of commands) steps e in
+    let p = both (script_step command) (each script_step commands) steps e in
     subst (ArePlainParts writes_nothing 0) (sym p.4) (plain_more p.0 p.1 (plain_step command p.0 p.2 all.0) (plain_steps commands p.1 p.3 all.1))
 
 -- answers count for nothing
@@ -102,7 +102,7 @@ answers_apart (Called calls answers ∷ made) all = (all.0, answers_apart made a
 answers_apart (script.Size w h ∷ made) all = answers_apart made all
 
 -- a script whose first call has no text
-pub plain_made : (commands : List Spelled) (steps made : List Step) (bottom : Bool) → each step_of commands ≡ Some steps → map unanswered made ≡ calling (on.Align bottom) ∷ steps →
+pub plain_made : (commands : List Spelled) (steps made : List Step) (bottom : Bool) → each script_step commands ≡ Some steps → map unanswered made ≡ calling (on.Align bottom) ∷ steps →
     AllByRecursion IsPlain commands → ArePlainParts writes_nothing 0 made
 plain_made commands steps made bottom e is all =
     answers_apart made (subst (ArePlainParts writes_nothing 0) (sym is) ((tt, tt), plain_steps commands steps e all))

@@ -13,13 +13,13 @@ use Rattle.indicatif_term.specs.Memory.{view_of}
 use Rattle.indicatif_bar.specs.Machines.{Machine, target_of}
 use Rattle.indicatif_bar.specs.Scripts.{Part, Called, Size, Sizing, sized, Plays}
 use Rattle.indicatif_bar.specs.Trackers.{writes_nothing}
-use Rattle.indicatif_board.specs.Boards.{BoardState, Align, Answer, Done, Refused, opening_board}
+use Rattle.indicatif_board.specs.Boards.{BoardState, Align, Answer, Accepted, Refused, opening_board}
 use Rattle.indicatif_board.specs.Multi.{IsIn, LeadsBy, known}
 use Rattle.bars_run.specs.declared.arguments.Asked.{Asked}
 use Rattle.bars_run.specs.Arguments.{HasCells}
 use Rattle.bars_run.specs.Commands.{Spelled, and_then, each, spelled}
 use Rattle.bars_run.specs.Inside.Players.{Played, empty_memory, unanswered, Makes, Obeys, HasPlayed}
-use Rattle.bars_run.specs.Plays.{Bar, BarCall, Step, machine, sizing, calling, step_of, script_of, is_refused, any_refused}
+use Rattle.bars_run.specs.Plays.{Bar, BarCall, Step, machine, sizing, calling, script_step, script_of, is_refused, any_refused}
 
 -- ---- what stands for each
 
@@ -46,7 +46,7 @@ called call answer old new fine leads s is =
 -- where bars stand is never refused
 pub align_taken : (bottom : Bool) (e : Refusal) (old new : Played) → IsIn 0 old (opening_board None) → LeadsBy writes_nothing view_of old new (Align bottom) 0 (Refused e) → ⊥
 align_taken bottom e old new is leads = elim (leads 0 (opening_board None) is).2.leads [
-  | inl made ↦ absurd (let q : Refused e ≡ Done = ap (λ o. o.0) made in cc)
+  | inl made ↦ absurd (let q : Refused e ≡ Accepted = ap (λ o. o.0) made in cc)
   | inr short ↦ absurd (let q : false ≡ true = short.1 in cc)
 ]
 
@@ -66,7 +66,7 @@ resized (Ok done) w h old new plays = λ s is. let r = plays s is in (Size w h, 
 resized (Err e) w h old new plays = tt
 
 -- a command whose step was made
-pub obeyed : {X E : Type 0} (r : Result X E) (command : Spelled) (step : Step) (old new : Played) → step_of command ≡ Some step → OnOk r (Makes step old new) → OnOk r (Obeys command old new)
+pub obeyed : {X E : Type 0} (r : Result X E) (command : Spelled) (step : Step) (old new : Played) → script_step command ≡ Some step → OnOk r (Makes step old new) → OnOk r (Obeys command old new)
 obeyed (Ok done) command step old new is made = (step, is, made)
 obeyed (Err e) command step old new is made = tt
 
@@ -115,7 +115,7 @@ one_more asked lines line command old new p is obeys =
       commands = p.commands ++ command ∷ [];
       commands_are = each-push spelled lines line p.commands command p.commands_are is;
       steps = p.steps ++ step ∷ [];
-      steps_are = each-push step_of p.commands command p.steps step p.steps_are obeys.1;
+      steps_are = each-push script_step p.commands command p.steps step p.steps_are obeys.1;
       made = p.made ++ c.0 ∷ [];
       made_are = map-append unanswered p.made (c.0 ∷ []) ∙ ap (λ xs. xs ++ unanswered c.0 ∷ []) p.made_are ∙ ap (λ x. script_of asked p.steps ++ x ∷ []) c.1;
       done = refused-push p.made c.0 p.done c.2;

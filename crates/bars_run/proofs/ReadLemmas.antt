@@ -9,7 +9,7 @@ use Rattle.bars_run.specs.declared.arguments.Asked.{Asked}
 use Rattle.bars_run.specs.declared.fault.Fault.{Fault}
 use Rattle.bars_run.specs.declared.fault.Fault.TheVariants.{Usage, BadCommand, Line, Refused, Input, Output}
 use Rattle.bars_run.specs.Arguments.{HasCells}
-use Rattle.bars_run.specs.Commands.{Spelled, lines_of, spelled}
+use Rattle.bars_run.specs.Commands.{Spelled, input_lines, spelled}
 use Rattle.bars_run.specs.Inside.Players.{Played, Obeys, HasPlayed, LineEnds}
 use Rattle.bars_run.specs.Printing.{IsInputLine, EndsOn}
 use Rattle.bars_run.proofs.LineLemmas.{next_line}
@@ -22,7 +22,7 @@ pub record Reads (asked : Asked) (number : ℕ) (bytes : List ℕ) (known : Opti
   pub byte_is : byte ≡ 0x0A
   pub lines : List (List ℕ)
   pub number_is : number ≡ min (length lines) (2 ^ 64 - 1)
-  pub all : lines_of bytes ≡ lines ++ lines_of left
+  pub all : input_lines bytes ≡ lines ++ input_lines left
   pub played : HasPlayed asked lines b
 
 pub reads_first : (asked : Asked) (o known : Option (List ℕ)) (byte : ℕ) (b : Played) → known ≡ o → byte ≡ 0x0A → HasPlayed asked [] b → IfSome o (λ bytes. Reads asked 0 bytes known byte b)
@@ -44,8 +44,8 @@ module _ {X E : Type 0} (f : X → List ℕ) (asked : Asked) (o known known' : O
       let rest = drop_through 0x0A p.left in
       record {
         before = p.lines;
-        behind = lines_of rest;
-        lines_are = p.all ∙ ap (λ ls. p.lines ++ ls) (next_line p.left some.0 ∙ ap (λ l. l ∷ lines_of rest) (sym line));
+        behind = input_lines rest;
+        lines_are = p.all ∙ ap (λ ls. p.lines ++ ls) (next_line p.left some.0 ∙ ap (λ l. l ∷ input_lines rest) (sym line));
         number_is = next_number number (length p.lines) number' p.number_is counted;
         commands = p.played.commands;
         commands_are = p.played.commands_are;
@@ -67,7 +67,7 @@ module _ {X E : Type 0} (f : X → List ℕ) (asked : Asked) (o known known' : O
               byte_is = same ∙ p.byte_is;
               lines = p.lines ++ f x ∷ [];
               number_is = next_number number (length p.lines) number' p.number_is counted ∙ ap (λ n. min n (2 ^ 64 - 1)) (sym (length-append p.lines (f x ∷ []) ∙ add-one (length p.lines)));
-              all = (is_input_line bytes old x p is).lines_are ∙ sym (append_assoc p.lines (f x ∷ []) (lines_of rest));
+              all = (is_input_line bytes old x p is).lines_are ∙ sym (append_assoc p.lines (f x ∷ []) (input_lines rest));
               played = one_more asked p.lines (f x) command old new p.played spells obeys;
             }
       ] reads
@@ -96,13 +96,13 @@ module _ {X E : Type 0} (f : X → List ℕ) (asked : Asked) (o known known' : O
         ] reads),
   )
 
-  pub reads_last : (b : Played) → IfSome o (λ bytes. Reads asked number bytes known byte b) → r ≡ None → IfSome o (λ bytes. HasPlayed asked (lines_of bytes) b)
-  reads_last b reads is = elim o as (λ y. IfSome y (λ bytes. Reads asked number bytes known byte b) → IfSome y (λ bytes. HasPlayed asked (lines_of bytes) b)) [
+  pub reads_last : (b : Played) → IfSome o (λ bytes. Reads asked number bytes known byte b) → r ≡ None → IfSome o (λ bytes. HasPlayed asked (input_lines bytes) b)
+  reads_last b reads is = elim o as (λ y. IfSome y (λ bytes. Reads asked number bytes known byte b) → IfSome y (λ bytes. HasPlayed asked (input_lines bytes) b)) [
     | None ↦ λ p. tt
     | Some bytes ↦ λ p.
         let at_end = subst (λ y. YieldsKnownPiece f (first_piece byte) byte known y known') is gives in
         let none : p.left ≡ [] = subst IsAtEnd p.known_is at_end in
-        let all : lines_of bytes ≡ p.lines = p.all ∙ ap (λ xs. p.lines ++ lines_of xs) none ∙ append-nil p.lines in
+        let all : input_lines bytes ≡ p.lines = p.all ∙ ap (λ xs. p.lines ++ input_lines xs) none ∙ append-nil p.lines in
         subst (λ ls. HasPlayed asked ls b) (sym all) p.played
   ] reads
 

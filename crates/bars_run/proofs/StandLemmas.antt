@@ -21,7 +21,7 @@ use Rattle.indicatif_bar.specs.Scripts.{Called, Size, SizedOn, sized, sized_targ
 use Rattle.indicatif_bar.specs.Trackers.{writes_nothing}
 use Rattle.indicatif_bar.proofs.RunLemmas.{run_target_stays}
 use Rattle.indicatif_bar.proofs.ScriptLemmas.{unbroken_read, script_once}
-use Rattle.indicatif_board.specs.Boards.{BoardState, Answer, Given, Done, Drew, Refused, drawn_of, opening_board}
+use Rattle.indicatif_board.specs.Boards.{BoardState, Answer, Given, Accepted, Drew, Refused, drawn_of, opening_board}
 use Rattle.indicatif_board.specs.BoardBars.{board_bars}
 use Rattle.indicatif_board.specs.Multi.{known, terminal_of}
 use Rattle.indicatif_board.specs.PlainBoardLaws.{IsPlainMember}
@@ -30,11 +30,11 @@ use Rattle.bars_run.specs.declared.arguments.Asked.{Asked}
 use Rattle.bars_run.specs.declared.fault.Fault.{Fault}
 use Rattle.bars_run.specs.declared.fault.Fault.TheVariants.{Usage, BadCommand, Line, Refused as Denied, Input, Output}
 use Rattle.bars_run.specs.Arguments.{asked_by}
-use Rattle.bars_run.specs.Commands.{lines_of}
+use Rattle.bars_run.specs.Commands.{input_lines}
 use Rattle.bars_run.specs.Fault.{status_of}
 use Rattle.bars_run.specs.Inside.Players.{Played, empty_memory, unanswered, HasPlayed, Stands}
 use Rattle.bars_run.specs.Plays as plays
-use Rattle.bars_run.specs.Plays.{Bar, Step, machine, sizing, script_of, played, rows_after, columns_after, is_refused, any_refused, SizesHaveCells, IsPlain}
+use Rattle.bars_run.specs.Plays.{Bar, Step, machine, sizing, script_of, script_outcome, rows_after, columns_after, is_refused, any_refused, SizesHaveCells, IsPlain}
 use Rattle.bars_run.specs.Printing.{Prints, EndsOn, EndsBy, printed}
 use Rattle.bars_run.proofs.PlainLemmas.{plain_made}
 use Rattle.bars_run.proofs.PlainScriptLemmas.{scripts_plain}
@@ -44,7 +44,7 @@ use Rattle.bars_run.proofs.PrintLemmas.{ended, none_behind}
 
 fine_answer : (answer : Answer) → is_refused answer ≡ false → (is_undisturbed (drawn_of answer) ≡ true) × (broke machine answer ≡ false)
 fine_answer (Given id) e = (refl, refl)
-fine_answer Done e = (refl, refl)
+fine_answer Accepted e = (refl, refl)
 fine_answer (Drew d) e = (refl, refl)
 fine_answer (Refused x) e = absurd (let q : true ≡ false = e in cc)
 
@@ -139,10 +139,10 @@ module _ (asked : Asked) (lines : List (List ℕ)) (b : Played) (p : HasPlayed a
   abbrev v : TermView
   v = view_of (empty_memory asked)
 
-  once : played asked p.steps ≡ (p.made, p.next)
+  once : script_outcome asked p.steps ≡ (p.made, p.next)
   once =
       let start : BoardState Bar = opening_board None in
-      let target = plays.target_of asked in
+      let target = plays.asked_target asked in
       ap (λ steps. script.played machine sizing target steps start) (sym p.made_are) ∙ played_apart p.made target start
       ∙ script_once machine sizing p.made (Some v) start (known view_of b) p.next p.plays (fine_steps p.made p.done).0
 
@@ -179,12 +179,12 @@ module _ (asked : Asked) (lines : List (List ℕ)) (b : Played) (p : HasPlayed a
       )
 
 -- the same where the input's bytes are known
-pub stands_read : (asked : Asked) (o left : Option (List ℕ)) (b : Played) (texts : List (List ℕ)) → NewShows → left ≡ o → IfSome left (λ bytes. HasPlayed asked (lines_of bytes) b) →
+pub stands_read : (asked : Asked) (o left : Option (List ℕ)) (b : Played) (texts : List (List ℕ)) → NewShows → left ≡ o → IfSome left (λ bytes. HasPlayed asked (input_lines bytes) b) →
     IfSome (terminal_of b) (λ term. texts ≡ picture_text term.terminal.screen) → IfSome o (λ bytes. Stands asked bytes texts)
-stands_read asked o left b texts shows same played read = elim o as (λ y. IfSome y (λ bytes. HasPlayed asked (lines_of bytes) b) → IfSome y (λ bytes. Stands asked bytes texts)) [
+stands_read asked o left b texts shows same played read = elim o as (λ y. IfSome y (λ bytes. HasPlayed asked (input_lines bytes) b) → IfSome y (λ bytes. Stands asked bytes texts)) [
   | None ↦ λ p. tt
   | Some bytes ↦ λ p.
-      let lines = lines_of bytes in
+      let lines = input_lines bytes in
       record {
         commands = p.commands;
         commands_are = p.commands_are;
@@ -199,7 +199,7 @@ stands_read asked o left b texts shows same played read = elim o as (λ y. IfSom
             let t = stood asked lines b p shows there.0 there.1 (recursion_from_All IsPlain p.commands all) in
             (t.0, subst (λ t. IfSome t (λ term. texts ≡ picture_text term.terminal.screen)) there.1 read ∙ t.1);
       }
-] (subst (λ y. IfSome y (λ bytes. HasPlayed asked (lines_of bytes) b)) same played)
+] (subst (λ y. IfSome y (λ bytes. HasPlayed asked (input_lines bytes) b)) same played)
 
 -- ---- what is printed
 

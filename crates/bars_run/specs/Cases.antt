@@ -5,8 +5,8 @@ use Rattle.indicatif_term.specs.declared.target.MultiProgressAlignment.TheVarian
 use Rattle.bars_run.specs.declared.arguments.Asked.{Asked}
 use Rattle.bars_run.specs.declared.arguments.Size.{Size}
 use Rattle.bars_run.specs.Arguments.{asked_by}
-use Rattle.bars_run.specs.Commands.{Message, Tick, Drop, Spelled, Add, Log, Warn, Clear, Resize, OfBar, lines_of, spelled, each}
-use Rattle.bars_run.specs.Plays.{Step, step_of, played, any_refused, rows_after}
+use Rattle.bars_run.specs.Commands.{Message, Tick, Drop, Spelled, Add, Log, Warn, Clear, Resize, OfBar, input_lines, spelled, each}
+use Rattle.bars_run.specs.Plays.{Step, script_step, script_outcome, any_refused, rows_after}
 use Rattle.bars_run.specs.Printing.{printed}
 
 -- a terminal's size
@@ -26,10 +26,10 @@ WordsRead =
 -- lines: each ends at a newline, which the last may lack
 abbrev pub LinesRead : Type 0
 LinesRead =
-    (lines_of [] ≡ [])
-    × (lines_of (codes "a") ≡ codes "a" ∷ [])
-    × (lines_of (codes "a\n") ≡ codes "a" ∷ [])
-    × (lines_of (codes "ab\n\nc") ≡ codes "ab" ∷ [] ∷ codes "c" ∷ [])
+    (input_lines [] ≡ [])
+    × (input_lines (codes "a") ≡ codes "a" ∷ [])
+    × (input_lines (codes "a\n") ≡ codes "a" ∷ [])
+    × (input_lines (codes "ab\n\nc") ≡ codes "ab" ∷ [] ∷ codes "c" ∷ [])
 
 -- commands, and lines that aren't commands
 abbrev pub CommandsRead : Type 0
@@ -58,9 +58,9 @@ small = record { size = sized 4 10; alignment = Top }
 -- the lines of an input are these commands, whose steps no board refuses, and this is printed
 abbrev pub Printed : List ℕ → List Spelled → List ℕ → Type 0
 Printed input commands output =
-    (each spelled (lines_of input) ≡ Some commands)
-    × (steps : List Step) × (each step_of commands ≡ Some steps)
-    × (any_refused (played small steps).0 ≡ false)
+    (each spelled (input_lines input) ≡ Some commands)
+    × (steps : List Step) × (each script_step commands ≡ Some steps)
+    × (any_refused (script_outcome small steps).0 ≡ false)
     × (printed (map row_text (rows_after small steps)) ≡ output)
 
 -- a text above a bar

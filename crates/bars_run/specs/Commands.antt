@@ -40,9 +40,9 @@ with_first b [] = (b ∷ []) ∷ []
 with_first b (line ∷ lines) = (b ∷ line) ∷ lines
 
 -- the lines of bytes, without the newlines that end them; the last may lack its own
-abbrev pub lines_of : List ℕ → List (List ℕ)
-lines_of [] = []
-lines_of (b ∷ bytes) = if b == 0x0A then [] ∷ lines_of bytes else with_first b (lines_of bytes)
+abbrev pub input_lines : List ℕ → List (List ℕ)
+input_lines [] = []
+input_lines (b ∷ bytes) = if b == 0x0A then [] ∷ input_lines bytes else with_first b (input_lines bytes)
 
 abbrev pub is_space : ℕ → Bool
 is_space b = b == 0x20

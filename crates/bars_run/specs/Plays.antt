@@ -44,8 +44,8 @@ abbrev pub calling : BarCall → Step
 calling call = Called ((call, 0) ∷ []) []
 
 -- a bar whose template is `{msg}`, with this message
-abbrev pub bar_saying : List ℕ → Bar
-bar_saying text =
+abbrev pub bar_with_message : List ℕ → Bar
+bar_with_message text =
     let made = new_bar (first_style TICKS.now (KeyText (codes "msg") plain_layout ∷ [])) None 0 in
     record made { progress = record made.progress { message = text } }
 
@@ -64,14 +64,14 @@ call_on id Drop = on.Drop id
 call_on id Remove = on.Remove id
 
 -- the step of a command; none if it names bar 0 or one past 2 ^ 64 - 1, which don't exist
-abbrev pub step_of : Spelled → Option Step
-step_of (Add text) = Some (calling (on.Insert End (New (bar_saying text))))
-step_of (Log text) = Some (calling (on.Log text))
-step_of (Warn text) = Some (calling (on.Log (bridge_bytes WarnLevel text)))
-step_of Clear = Some (calling on.Clear)
-step_of (Resize size) = Some (script.Size size.columns size.rows)
-step_of (OfBar (Some (suc number)) action) = Some (calling (call_on (bar_at number) action))
-step_of (OfBar _ action) = None
+abbrev pub script_step : Spelled → Option Step
+script_step (Add text) = Some (calling (on.Insert End (New (bar_with_message text))))
+script_step (Log text) = Some (calling (on.Log text))
+script_step (Warn text) = Some (calling (on.Log (bridge_bytes WarnLevel text)))
+script_step Clear = Some (calling on.Clear)
+script_step (Resize size) = Some (script.Size size.columns size.rows)
+script_step (OfBar (Some (suc number)) action) = Some (calling (call_on (bar_at number) action))
+script_step (OfBar _ action) = None
 
 -- ---- a script
 
@@ -82,16 +82,16 @@ abbrev pub sizing : Sizing machine
 sizing = board_sizing writes_nothing 0
 
 -- the terminal at the start
-abbrev pub target_of : Asked → Target
-target_of asked = record { hidden = false; columns = asked.size.columns; rows = asked.size.rows }
+abbrev pub asked_target : Asked → Target
+asked_target asked = record { hidden = false; columns = asked.size.columns; rows = asked.size.rows }
 
 -- the steps, after a first one for the alignment
 abbrev pub script_of : Asked → List Step → List Step
 script_of asked steps = calling (on.Align (is_bottom asked.alignment)) ∷ steps
 
 -- the steps with their answers on a new board if nothing fails, and the board after them
-abbrev pub played : Asked → List Step → List Step × BoardState Bar
-played asked steps = script.played machine sizing (target_of asked) (script_of asked steps) (opening_board None)
+abbrev pub script_outcome : Asked → List Step → List Step × BoardState Bar
+script_outcome asked steps = script.played machine sizing (asked_target asked) (script_of asked steps) (opening_board None)
 
 -- whether a call was refused
 abbrev pub is_refused : Answer → Bool
@@ -117,7 +117,7 @@ columns_after w (script.Size columns rows ∷ steps) = columns_after columns ste
 
 -- the rows that stand after steps
 abbrev pub rows_after : Asked → List Step → List (List Cell)
-rows_after asked steps = all_rows (columns_after asked.size.columns steps) (played asked steps).1.lists
+rows_after asked steps = all_rows (columns_after asked.size.columns steps) (script_outcome asked steps).1.lists
 
 -- ---- texts
 

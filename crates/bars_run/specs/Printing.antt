@@ -8,8 +8,8 @@ use Rattle.bars_run.specs.declared.arguments.Asked.{Asked}
 use Rattle.bars_run.specs.declared.fault.Fault.{Fault}
 use Rattle.bars_run.specs.declared.fault.Fault.TheVariants.{Usage, BadCommand, Line, Refused, Input, Output}
 use Rattle.bars_run.specs.Arguments.{HasCells, asked_by}
-use Rattle.bars_run.specs.Commands.{Spelled, lines_of, spelled, each}
-use Rattle.bars_run.specs.Plays.{Step, step_of, played, any_refused, SizesHaveCells, rows_after, IsPlain}
+use Rattle.bars_run.specs.Commands.{Spelled, input_lines, spelled, each}
+use Rattle.bars_run.specs.Plays.{Step, script_step, script_outcome, any_refused, SizesHaveCells, rows_after, IsPlain}
 
 -- texts up to the last one that isn't empty
 abbrev pub up_to_last : List (List ℕ) → List (List ℕ)
@@ -27,14 +27,14 @@ pub record Prints (words : List (List ℕ)) (input : List ℕ) (old new : Option
   pub asked_is : asked_by words ≡ Some asked
   -- the lines are these commands, with these steps
   pub commands : List Spelled
-  pub commands_are : each spelled (lines_of input) ≡ Some commands
+  pub commands_are : each spelled (input_lines input) ≡ Some commands
   pub steps : List Step
-  pub steps_are : each step_of commands ≡ Some steps
+  pub steps_are : each script_step commands ≡ Some steps
   -- the terminal has rows and columns, at first and after each size
   pub cells : HasCells asked.size
   pub sizes : SizesHaveCells steps
   -- and a board on it refuses none of the calls
-  pub done : IsFalse (any_refused (played asked steps).0)
+  pub done : IsFalse (any_refused (script_outcome asked steps).0)
   -- and if all texts are plain, exactly the texts of the rows that stand at the end were printed
   pub shown : All IsPlain commands → Appends old new (printed (map row_text (rows_after asked steps)))
 
@@ -44,7 +44,7 @@ pub record Prints (words : List (List ℕ)) (input : List ℕ) (old new : Option
 pub record IsInputLine (input : List ℕ) (number : ℕ) (line : List ℕ) : Type 0 where
   pub before : List (List ℕ)
   pub behind : List (List ℕ)
-  pub lines_are : lines_of input ≡ before ++ line ∷ behind
+  pub lines_are : input_lines input ≡ before ++ line ∷ behind
   pub number_is : number ≡ min (suc (length before)) (2 ^ 64 - 1)
   pub commands : List Spelled
   pub commands_are : each spelled before ≡ Some commands
@@ -52,10 +52,10 @@ pub record IsInputLine (input : List ℕ) (number : ℕ) (line : List ℕ) : Typ
 -- all lines of an input were played on such a terminal, and a board refuses none of the calls
 pub record IsPlayed (asked : Asked) (input : List ℕ) : Type 0 where
   pub commands : List Spelled
-  pub commands_are : each spelled (lines_of input) ≡ Some commands
+  pub commands_are : each spelled (input_lines input) ≡ Some commands
   pub steps : List Step
-  pub steps_are : each step_of commands ≡ Some steps
-  pub done : IsFalse (any_refused (played asked steps).0)
+  pub steps_are : each script_step commands ≡ Some steps
+  pub done : IsFalse (any_refused (script_outcome asked steps).0)
 
 -- what is known if a run on such a terminal ended with a fault. Whether a read or a write failed, or memory was refused, isn't known
 abbrev pub EndsOn : Asked → Option (List ℕ) → Fault → Type 0

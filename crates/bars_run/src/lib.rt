@@ -25,7 +25,7 @@ ghost use Rattle.std.specs.Io.KnownBytes.{Appends};
 ghost use Rattle.bars_run.specs.declared.arguments.Asked.{Asked as AskedFor};
 ghost use Rattle.bars_run.specs.declared.fault.Fault.{Fault as Ending};
 ghost use Rattle.bars_run.specs.Arguments.{HasCells, asked_by};
-ghost use Rattle.bars_run.specs.Commands.{command_of, lines_of, spelled, Spelled};
+ghost use Rattle.bars_run.specs.Commands.{command_of, input_lines, spelled, Spelled};
 ghost use Rattle.bars_run.specs.Fault.{status_of};
 ghost use Rattle.bars_run.specs.Inside.Players.{HasPlayed, LineEnds, Obeys, Stands};
 ghost use Rattle.bars_run.specs.Printing.{EndsBy, EndsOn, Prints, printed, up_to_last as trimmed};
@@ -142,7 +142,7 @@ fn buffered<R: Read + Drop>(alloc: Global, input: R) -> Result<BufReader<Input<R
 /// Plays each line.
 fn play<R: BufRead + Drop>(alloc: Global, player: &mut Player, input: R) -> Result<(), Fault>
     ensures played { (asked : AskedFor) → HasPlayed asked [] player.old.board →
-        OnOk result (IfSome (R.remaining input) (λ bytes. HasPlayed asked (lines_of bytes) player.new.board)) }
+        OnOk result (IfSome (R.remaining input) (λ bytes. HasPlayed asked (input_lines bytes) player.new.board)) }
     ensures fault { (asked : AskedFor) → HasPlayed asked [] player.old.board → IfErr result (λ fault. EndsOn asked (R.remaining input) fault) }
 {
     let mut number: u64 = 0;

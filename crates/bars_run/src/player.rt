@@ -11,7 +11,7 @@ ghost use Rattle.indicatif_board.specs.Calls.{call_of as call_as};
 ghost use Rattle.indicatif_board.specs.Multi.{LeadsBy, terminal_of};
 ghost use Rattle.bars_run.specs.Arguments.{HasCells};
 ghost use Rattle.bars_run.specs.Commands.{Add, Log, Warn, OfBar, command_of, action_of};
-ghost use Rattle.bars_run.specs.Plays.{bar_at, bar_saying as saying, call_on, calling};
+ghost use Rattle.bars_run.specs.Plays.{bar_at, bar_with_message as saying, call_on, calling};
 ghost use Rattle.bars_run.specs.Inside.Players.{Obeys, Makes, HasPlayed};
 
 use crate::arguments::{Asked, Size};
@@ -98,7 +98,7 @@ impl Player {
                 self.given = self.given.saturating_add(1);
                 Ok(())
             }
-            Answer::Done | Answer::Drawn(_) => Ok(()),
+            Answer::Accepted | Answer::Drawn(_) => Ok(()),
         }
     }
 
@@ -113,7 +113,7 @@ impl Player {
     fn add(&mut self, text: &str) -> Result<(), Refusal>
         ensures { OnOk result (Obeys (Add text.now) self.old.board self.new.board) }
     {
-        let bar = bar_saying(self.alloc, text)?;
+        let bar = bar_with_message(self.alloc, text)?;
         self.make(Call::Insert {
             at: InsertLocation::End,
             candidate: Candidate::New(bar),
@@ -185,7 +185,7 @@ fn bar_call(alloc: Global, id: BarId, action: BarAction<'_>) -> Result<Call<NoTr
 }
 
 /// A bar that shows this message.
-fn bar_saying(alloc: Global, text: &str) -> Result<BarState<NoTracker>, Refusal>
+fn bar_with_message(alloc: Global, text: &str) -> Result<BarState<NoTracker>, Refusal>
     ensures { IfOk result (λ bar. bar ≡ saying text.now) }
 {
     let style = ProgressStyle::with_template(alloc, "{msg}")?;

@@ -1,14 +1,18 @@
-//! The examples of the libraries' documentation with a result. Those here have an assert in their comment.
+//! The examples of the documentation comments that say what comes, and that no other test has. Those here are of `indicatif_text` and of single
+//! calls of the libraries above it. `tools/examples.py` looks for an example's lines in each file of the tests.
 //!
-//! - `texts`: others of `indicatif_text`. `memory`, `engines`, `targets`: of `indicatif_term`.
-//! - `records`, `lone`: of `indicatif_bar`. `boards`: of `indicatif_board`; those of its histories are in `histories`, beside this module.
+//! - `texts`: others of `indicatif_text`. `memory`, `engines`, `targets`: of `indicatif_term`. `records`, `lone`: of `indicatif_bar`. `boards`: of
+//!   `indicatif_board`. `shared`, `wrappers`, `machine`: of `indicatif`.
 mod boards;
 mod engines;
 mod lone;
+mod machine;
 mod memory;
 mod records;
+mod shared;
 mod targets;
 mod texts;
+mod wrappers;
 
 use crate::checks::Granted;
 use indicatif_bar::state::Ask;
@@ -20,7 +24,7 @@ use indicatif_text::columns::{
 };
 use indicatif_text::format::{
     BinaryBytes, DecimalBytes, FormattedDuration, HumanBytes, HumanCount, HumanDuration,
-    HumanFloatCount,
+    HumanFloatCount, nearest,
 };
 use indicatif_text::template::{Part, Template, TemplateError};
 use log::Level;
@@ -35,11 +39,6 @@ fn columns_of_texts(rt: HostRuntime) {
     holds!(rt; colour_len("\u{1b}[31mred") == 5 && colour_len("red") == 0);
     holds!(rt; is_parameter_byte(b'7') && !is_parameter_byte(b'm'));
     holds!(rt; is_parameter('7') && is_parameter(';') && !is_parameter('m'));
-}
-
-#[test]
-fn rows_of_lines(rt: HostRuntime) {
-    let rt = &rt;
     let measured = Metrics {
         height: 3,
         last_line_width: 1,
@@ -81,11 +80,6 @@ fn pieces_of_a_text(rt: HostRuntime) {
             text: "\u{1b}[1m",
             colour: true
         }));
-}
-
-#[test]
-fn moments_of_a_step_clock(rt: HostRuntime) {
-    let rt = &rt;
     let mut clock = StepClock { next: 5, step: 2 };
     same!(rt; clock.now(), 5);
     same!(rt; clock.now(), 7);
@@ -124,6 +118,7 @@ fn bytes_and_counts(rt: HostRuntime) {
 #[test]
 fn quotients(rt: HostRuntime) {
     let rt = &rt;
+    same!(rt; (nearest(7, 2), nearest(5, 2)), (4, 2));
     let alloc = rt.alloc();
     let count = HumanFloatCount::new(85, 2)
         .ok_or("a divisor of 0")

@@ -1,37 +1,20 @@
-//! Tests that need code: their own trackers, closures, threads, terminals and types. All other tests are rows of data (crate `rows`).
-//! Expected values come from outside.
+//! Tests that need code: they have trackers, closures, threads, terminals and types of their own. All other tests are rows of data (crate
+//! `rows`). Expected values come from outside. A module has the name of a call, or of a subject:
 //!
-//! Of the four lower libraries, and of the players of rows and scripts over them:
+//! - `writers`: writers behind a terminal. `trackers`: keys of a template, also in tests of the crate `indicatif`. `spare_lines`: the room of a
+//!   bar's lines. `recent`: keys of the last seconds. `many_bars`: a board of many bars. `done`: workers that add to one sum.
+//! - `absorb`: what counts for a bar. `into_inner`: bars and boards that leave their locks. `log_bridge`: lines of a log above a board's bars.
+//!   `machine`: what is asked of the machine. `map_collect`: lists, block by block. `owners`: what the last owner of a bar leaves, and what
+//!   crosses threads. `println_or`: lines above bars, or beside hidden ones. `progress`: what gets a bar when it is wrapped. `receipts`: what
+//!   boards with a history hand out for logged texts. `recorded`: such boards. `run_workers`: pieces that threads work on. `shared_keys`:
+//!   shared bars with keys of the tests' own. `suspend`: pauses. `tickers`: steady tickers, and calls that find no memory for another owner.
+//!   `update`: updates by closures. `wrappers`: what is said of a wrapper's bar, and two readers of one.
+//! - `documented`: the examples of the documentation comments. `readme`: the README's program. `rows`: which lines of a file are rows, and which of them
+//!   agree. `words`: those of a command line.
 //!
-//! - `values`: what bars return, defaults, and closures that bars take.
-//! - `writers`: boxed terminals, and buffers. `lone_shown`: a bar on a terminal.
-//! - `histories`: boards that keep their history. `many`: a board of many bars. `sums`: workers that add to one sum.
-//! - `played`: which lines of a file are rows, and which of them agree.
-//! - `rates`: keys of the last seconds. `styles`, `term`, `text`: keys of a template, the parts of targets, numbers and formatters.
-//!   `words`: those of a command line.
-//! - `documented`: the examples of these libraries' documentation with a result.
-//!
-//! Of `indicatif`:
-//!
-//! - `fronts`: bars and boards for tests, and what they show. `recordings`: the histories of boards.
-//! - `shown`: a terminal that others read. `owners`: what the last owner of a bar leaves there. `watched`: boards there, while a closure
-//!   runs, and with a cursor that only moves. `pauses`: what answers and what waits meanwhile, with threads. `bars`: which types cross
-//!   threads, and a terminal in a box.
-//! - `boards`: boards that threads share. `receipts`: what they hand out for logged texts. `unlocked`: bars and boards that leave their locks.
-//! - `shared`: builders of a wrapper's bar, and threads at one bar. `readers`: two readers of one bar.
-//! - `closures`: closures under a lock. `given_up`: what threads of tickers drop, also in two tests of the crate `indicatif`, and calls
-//!   that get no memory, over a counted runtime (`lent`).
-//! - `machines`: the module `machine`. `made`: iterators that get a bar when they are wrapped.
-//! - `bridges`: lines of a log above a board's bars. `beside`: a program's own lines, above bars or beside hidden ones.
-//! - `carried_trackers`: tests of the crate `indicatif` that need code, of trackers.
-//! - `counted`: threads that count for a bar. `documented_shared`: the examples of the documentation comments. `readme`: the README's
-//!   program.
-//! - `ticking`: a bar's ticker, seen from outside. `intervals`: how often it ticks. `keyed`: shared bars with the tests' own key.
-//!   `odd_keys`: keys that write what no line holds.
-//! - `lists`: lists, block by block. `own_bars`: lists with their own bar. `pieces`: pieces that threads work on. `stepped`, `gates`: a bar
-//!   and gates for them, and functions on an item.
-//!
-//! `checks`: the functions behind `same!`, `holds!` and `granted`.
+//! What tests share: `checks`: what `same!`, `holds!` and `granted` do. `fronts`: shared bars and boards, and what they show. `shown`: a terminal
+//! that others see, and bars and boards there. `replays`: what a board has recorded. `gates`, `stepped`: gates and a bar for pieces. `lent`: a
+//! runtime that is counted.
 #![tactic(auto)]
 
 /// Ends the test if a value isn't the expected one.
@@ -51,94 +34,68 @@ macro_rules! holds {
 }
 
 #[cfg(test)]
-mod bars;
-#[cfg(test)]
-mod beside;
-#[cfg(test)]
-mod boards;
-#[cfg(test)]
-mod bridges;
-#[cfg(test)]
-mod carried_trackers;
+mod absorb;
 #[cfg(test)]
 mod checks;
 #[cfg(test)]
-mod closures;
-#[cfg(test)]
-mod counted;
-#[cfg(test)]
 mod documented;
 #[cfg(test)]
-mod documented_shared;
+mod done;
 #[cfg(test)]
 mod fronts;
 #[cfg(test)]
 mod gates;
 #[cfg(test)]
-mod given_up;
-#[cfg(test)]
-mod histories;
-#[cfg(test)]
-mod intervals;
-#[cfg(test)]
-mod keyed;
+mod into_inner;
 #[cfg(test)]
 mod lent;
 #[cfg(test)]
-mod lists;
+mod log_bridge;
 #[cfg(test)]
-mod lone_shown;
+mod machine;
 #[cfg(test)]
-mod machines;
+mod many_bars;
 #[cfg(test)]
-mod made;
-#[cfg(test)]
-mod many;
-#[cfg(test)]
-mod odd_keys;
-#[cfg(test)]
-mod own_bars;
+mod map_collect;
 #[cfg(test)]
 mod owners;
 #[cfg(test)]
-mod pauses;
+mod println_or;
 #[cfg(test)]
-mod pieces;
-#[cfg(test)]
-mod played;
-#[cfg(test)]
-mod rates;
-#[cfg(test)]
-mod readers;
+mod progress;
 #[cfg(test)]
 mod readme;
 #[cfg(test)]
 mod receipts;
 #[cfg(test)]
-mod recordings;
+mod recent;
 #[cfg(test)]
-mod shared;
+mod recorded;
+#[cfg(test)]
+mod replays;
+#[cfg(test)]
+mod rows;
+#[cfg(test)]
+mod run_workers;
+#[cfg(test)]
+mod shared_keys;
 #[cfg(test)]
 mod shown;
 #[cfg(test)]
+mod spare_lines;
+#[cfg(test)]
 mod stepped;
 #[cfg(test)]
-mod styles;
+mod suspend;
 #[cfg(test)]
-mod sums;
+mod tickers;
 #[cfg(test)]
-mod term;
+mod trackers;
 #[cfg(test)]
-mod text;
-#[cfg(test)]
-mod ticking;
-#[cfg(test)]
-mod unlocked;
-#[cfg(test)]
-mod values;
-#[cfg(test)]
-mod watched;
+mod update;
 #[cfg(test)]
 mod words;
+#[cfg(test)]
+mod wrappers;
 #[cfg(test)]
 mod writers;

@@ -1,29 +1,11 @@
-//! What the last owner of a bar leaves, what stays on another target, and threads that are owners, on a terminal that others read.
+//! What the last owner of a bar leaves, what stays on another target, and what crosses threads.
 use crate::checks::Granted;
-use crate::shown::{Bytes, Shown, is_seen, no_bytes, setup_on};
-use crate::watched::board_on;
-use indicatif::{Drawn, ProgressBar, ProgressFinish, ProgressStyle, StepClock, Term};
+use crate::fronts::{self, Shared};
+use crate::shown::{bar_on, board_on, is_seen, no_bytes, setup_on};
+use indicatif::{Drawn, InMemoryTerm, ProgressFinish, StepClock, WeakProgressBar};
 use std::alloc::Global;
 use std::process::Abort;
 use std::sync::Wait;
-use std::thread::{self, join};
-
-pub type Bar<R> = ProgressBar<Term<Shown<R>>, StepClock, R>;
-
-/// A bar on that terminal, with this template and a length of 10.
-pub fn bar_on<R: Wait + Copy + Clone + Drop + Abort>(
-    rt: R,
-    alloc: Global,
-    bytes: &Bytes,
-    template: &str,
-) -> Bar<R> {
-    let rt = &rt;
-    let style = ProgressStyle::with_template(alloc, template).granted(rt);
-    let setup = setup_on(*rt, bytes, 10);
-    ProgressBar::styled(*rt, alloc, style, Some(10), setup).expect(rt, "granted")
-}
-
-// ---- owners
 
 /// Draws a bar with this stored finish, and releases its owner, and then another one, which is the last; or drops its only owner: then this
 /// must stand there.
@@ -86,29 +68,13 @@ fn what_was_drawn_stays(rt: HostRuntime) {
 
 // ---- threads
 
-/// Advances `times` times; how often it was refused.
-fn advance<R: Wait + Clone + Drop>(bar: &Bar<R>, times: u32) -> u64 {
-    let mut refused: u64 = 0;
-    for _ in 0..times {
-        if bar.inc(1).is_err() {
-            refused = refused.saturating_add(1);
-        }
-    }
-    refused
-}
+/// Types that may go to another thread, and be used by several.
+fn crosses<X: Send + Sync>() {}
 
+/// A test of the crate `indicatif` 0.18.6: shared types may go to another thread, and be used by several.
 #[test]
-fn threads_advance_through_clones(rt: HostRuntime) {
-    let rt = &rt;
-    let bytes = no_bytes(rt, rt.alloc());
-    let bar = bar_on(*rt, rt.alloc(), &bytes, "{pos}");
-    let other = bar.clone().expect(rt, "granted");
-    let third = bar.clone().expect(rt, "granted");
-    let child = thread::spawn(rt, move || advance(&third, 500)).granted(rt);
-    let refused = join(rt, || advance(&bar, 250), || advance(&other, 250));
-    same!(rt; refused, (0, 0));
-    same!(rt; child.join(rt), 0);
-    same!(rt; bar.position(), 1000);
-    same!(rt; bar.force_draw(), Ok(Drawn::Yes));
-    is_seen(rt, rt.alloc(), &bytes, "1000");
+fn progress_bar_sync_send(rt: HostRuntime) {
+    crosses::<fronts::Bar<HostRuntime>>();
+    crosses::<WeakProgressBar<InMemoryTerm, StepClock, HostRuntime>>();
+    crosses::<Shared<HostRuntime>>();
 }

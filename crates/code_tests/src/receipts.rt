@@ -1,7 +1,11 @@
-//! Receipts of texts that two threads log on one board, and the picture at the end.
+//! Receipts of logged texts: which claims a history holds; texts that two threads log on one board, and the picture at the end.
 use crate::checks::Granted;
 use crate::fronts::{Shared, board_shows, recorded, setup};
-use indicatif::{Drawn, InMemoryTerm, MultiProgress, NoTracker, Receipt, RecordReader, Recorded};
+use indicatif::{
+    Answer, Drawn, InMemoryTerm, MultiProgress, NoTracker, ProgressDrawTarget, Receipt,
+    RecordReader, Recorded, Refusal,
+};
+use std::alloc::Global;
 use std::process::Abort;
 use std::sync::Wait;
 use std::thread;
@@ -89,4 +93,65 @@ fn no_history_no_receipt(rt: HostRuntime) {
     same!(rt; drawn, Ok(Drawn::Yes));
     holds!(rt; receipt.is_none());
     board_shows(rt, &board, "a.txt");
+}
+
+// ---- without threads
+
+type Recording = Recorded<NoTracker, InMemoryTerm>;
+
+/// A text of its own.
+fn own(rt: &impl Abort, alloc: Global, text: &str) -> String {
+    String::from_str(alloc, text).granted(rt)
+}
+
+/// Claims that the board of the mark 1 logged a text at the moment 5, and drew it.
+fn claim(rt: &impl Abort, alloc: Global, number: usize, text: &str) -> Receipt {
+    Receipt {
+        mark: 1,
+        number,
+        text: own(rt, alloc, text),
+        moment: 5,
+        answer: Answer::Drawn(Drawn::Yes),
+    }
+}
+
+/// A receipt is held, also after another call. It is the claim that names all of its entry.
+#[test]
+fn receipt_of_a_text(rt: HostRuntime) {
+    let rt = &rt;
+    let alloc = rt.alloc();
+    let term = InMemoryTerm::new(alloc, 4, 10).granted(rt);
+    let mut record: Recording = Recorded::new(alloc, ProgressDrawTarget::term_like(term), 1);
+    let text = own(rt, alloc, "a");
+    let (answer, receipt) = record.println_with_receipt(text, 5);
+    let receipt = receipt.ok_or(Refusal::Memory).granted(rt);
+    holds!(rt; record.holds(&receipt) && receipt.number == 0 && receipt.answer == answer);
+    let (_, other) = record.println_with_receipt(own(rt, alloc, "b"), 5);
+    holds!(rt; record.holds(&receipt) && record.holds(&other.granted(rt)));
+    holds!(rt; record.holds(&claim(rt, alloc, 0, "a")));
+    holds!(rt; record.holds(&claim(rt, alloc, 1, "b")));
+}
+
+/// A claim of another number, of a number that no entry has, of another text, mark, moment or answer.
+#[test]
+fn claims_that_no_entry_meets(rt: HostRuntime) {
+    let rt = &rt;
+    let alloc = rt.alloc();
+    let mut record: Recording = Recorded::new(alloc, ProgressDrawTarget::hidden(), 1);
+    let (_, receipt) = record.println_with_receipt(own(rt, alloc, "a"), 5);
+    let mut receipt = receipt.granted(rt);
+    holds!(rt; !record.holds(&claim(rt, alloc, 0, "a"))); // it was hidden
+    receipt.number = 1;
+    holds!(rt; !record.holds(&receipt));
+    receipt.number = 0;
+    receipt.mark = 2;
+    holds!(rt; !record.holds(&receipt));
+    receipt.mark = 1;
+    receipt.moment = 6;
+    holds!(rt; !record.holds(&receipt));
+    receipt.moment = 5;
+    receipt.text = own(rt, alloc, "b");
+    holds!(rt; !record.holds(&receipt));
+    receipt.text = own(rt, alloc, "a");
+    holds!(rt; record.holds(&receipt));
 }

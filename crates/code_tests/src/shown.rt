@@ -1,6 +1,9 @@
-//! A terminal that others read: a writer whose bytes are behind a lock.
+//! A terminal that others see: a writer whose bytes stand under a lock; and bars and boards there.
 use crate::checks::Granted;
-use indicatif::{Cells, ProgressDrawTarget, Refusal, Setup, StepClock, Term};
+use indicatif::{
+    Cells, MultiProgress, ProgressBar, ProgressDrawTarget, ProgressStyle, Refusal, Setup,
+    StepClock, Term,
+};
 use std::alloc::Global;
 use std::io::{self, Write};
 use std::process::Abort;
@@ -68,4 +71,48 @@ pub fn is_seen<R: Wait + Abort>(rt: &R, alloc: Global, bytes: &Mutex<Vec<u8>>, w
 /// Ends the test if the bytes are others.
 pub fn is_written<R: Wait + Abort>(rt: &R, bytes: &Mutex<Vec<u8>>, wanted: &str) {
     same!(rt; bytes.lock(rt).as_slice(), wanted.as_bytes());
+}
+
+// ---- bars and boards there
+
+/// A bar on that terminal.
+pub type Bar<R> = ProgressBar<Term<Shown<R>>, StepClock, R>;
+
+/// A bar on that terminal, with this template and a length of 10.
+pub fn bar_on<R: Wait + Copy + Clone + Drop + Abort>(
+    rt: R,
+    alloc: Global,
+    bytes: &Bytes,
+    template: &str,
+) -> Bar<R> {
+    let rt = &rt;
+    let style = ProgressStyle::with_template(alloc, template).granted(rt);
+    let setup = setup_on(*rt, bytes, 10);
+    ProgressBar::styled(*rt, alloc, style, Some(10), setup).expect(rt, "granted")
+}
+
+/// A board on that terminal.
+pub type Board<R> = MultiProgress<Term<Shown<R>>, StepClock, R>;
+
+/// A board on that terminal, with this many columns.
+pub fn board_on<R: Wait + Copy + Clone + Drop + Abort>(
+    rt: R,
+    alloc: Global,
+    bytes: &Bytes,
+    cols: u16,
+) -> Board<R> {
+    let rt = &rt;
+    MultiProgress::new(*rt, alloc, setup_on(*rt, bytes, cols), 1).expect(rt, "granted")
+}
+
+/// A bar of the board whose one line is this text; it isn't drawn yet.
+pub fn bar_of<R: Wait + Copy + Clone + Drop + Abort>(
+    board: &Board<R>,
+    rt: R,
+    alloc: Global,
+    text: &str,
+) -> Bar<R> {
+    let rt = &rt;
+    let bar = bar_on(*rt, alloc, &no_bytes(rt, alloc), text);
+    board.add(bar).expect(rt, "granted")
 }

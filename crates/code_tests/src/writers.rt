@@ -1,16 +1,78 @@
-//! What a terminal passes to its writer, and how it handles the writer's answers; and terminals in a box.
+//! What a terminal passes to its writer, also one in a box.
 use crate::checks::Granted;
-use crate::lone_shown::{SCRIPT, STILL, Shown, Step};
-use indicatif_term::cells::InMemoryTerm;
-use indicatif_term::target::{Term, TermLike};
+use indicatif_bar::lone::LoneBar;
+use indicatif_bar::state::BarState;
+use indicatif_bar::style::{NoTracker, ProgressStyle};
+use indicatif_term::target::{ProgressDrawTarget, Term, TermLike};
 use indicatif_text::columns::{Drawn, Refusal};
-use scripts::judged::record::{Plan, Record, Size};
 use std::alloc::Global;
 use std::cell::Cell;
-use std::io;
-use std::io::{BufWriter, ErrorKind, Write};
+use std::io::{self, BufWriter, Write};
 use std::process::Abort;
 use std::rc::Rc;
+
+// ---- a bar whose calls have no clauses, so that a test of many calls is proved call by call
+
+/// A bar on a terminal, in a box, so that each way out of a test drops it by one call.
+#[derive(Drop)]
+struct OnTerm<T: Drop> {
+    bar: Box<LoneBar<NoTracker, T>>,
+}
+
+/// A record with this message.
+fn state_of(alloc: Global, message: &str) -> Result<BarState<NoTracker>, Refusal> {
+    let style = ProgressStyle::with_template(alloc, "{msg}")?;
+    let mut state = BarState::styled(alloc, style, None, 0)?;
+    state.set_message(message, 0)?;
+    Ok(state)
+}
+
+impl<T: TermLike + Drop> OnTerm<T> {
+    /// A bar with this message on this terminal.
+    fn on(alloc: Global, message: &str, term: T) -> Result<OnTerm<T>, Refusal> {
+        let state = state_of(alloc, message)?;
+        let bar = Box::new(
+            alloc,
+            LoneBar::new(state, ProgressDrawTarget::term_like(term)),
+        )?;
+        Ok(OnTerm { bar })
+    }
+
+    /// The terminal.
+    fn term(&self) -> Option<&T> {
+        self.bar.term()
+    }
+
+    /// Makes a call.
+    fn makes(&mut self, step: Step) -> Result<Drawn, Refusal> {
+        match step {
+            Step::Tick => self.bar.tick(0),
+            Step::Message(text) => self.bar.set_message(text, 0),
+            Step::Log(text) => self.bar.println(text, 0),
+        }
+    }
+}
+
+/// A call of a bar.
+#[derive(Clone, Copy, Drop)]
+enum Step {
+    Tick,
+    Message(&'static str),
+    Log(&'static str),
+}
+
+/// The calls of a bar with the first message `ab`.
+const SCRIPT: &[Step] = &[
+    Step::Tick,
+    Step::Log("l1"),
+    Step::Message("c\nd"),
+    Step::Log("l2"),
+    Step::Tick,
+    Step::Message("e"),
+];
+
+/// The place in the script of the tick that changes no line: the log before it wrote all of them. Such a draw writes nothing.
+const STILL: usize = 4;
 
 // ---- a writer that takes all
 
@@ -34,7 +96,7 @@ impl Write for CallCount {
 }
 
 /// A bar behind a buffer.
-type Buffered = Shown<Term<BufWriter<CallCount>>>;
+type Buffered = OnTerm<Term<BufWriter<CallCount>>>;
 
 /// How often the writer behind the buffer was written to, and flushed.
 fn writes_and_flushes(bar: &Buffered) -> Option<(u64, u64)> {
@@ -65,7 +127,7 @@ fn a_drawing_is_one_write(rt: HostRuntime) {
         flushes: 0,
     };
     let writer = BufWriter::new(alloc, count).granted(rt);
-    let bar = Shown::on(alloc, "ab", Term::new(writer, 6, 10)).granted(rt);
+    let bar = OnTerm::on(alloc, "ab", Term::new(writer, 6, 10)).granted(rt);
     each_is_one_write(rt, bar);
 }
 
@@ -89,30 +151,6 @@ impl Write for SharedCount {
 /// A terminal of a kind that only its maker knows.
 type Boxed = Box<dyn TermLike + Drop>;
 
-/// A bar draws the script, and refuses a wide character.
-fn draws_the_script<T: TermLike + Drop>(rt: &impl Abort, mut bar: Shown<T>) {
-    for step in SCRIPT {
-        same!(rt; bar.makes(*step), Ok(Drawn::Yes));
-    }
-    same!(rt; bar.makes(Step::Log("国")), Err(Refusal::TooWide));
-}
-
-/// A terminal of 5 rows and one column.
-fn small(rt: &impl Abort, alloc: Global) -> InMemoryTerm {
-    InMemoryTerm::new(alloc, 5, 1).granted(rt)
-}
-
-#[test]
-fn a_boxed_terminal_answers_as_the_plain_one(rt: HostRuntime) {
-    let rt = &rt;
-    let alloc = rt.alloc();
-    let plain = Shown::on(alloc, "ab", small(rt, alloc)).granted(rt);
-    draws_the_script(rt, plain);
-    let boxed: Boxed = Box::new(alloc, small(rt, alloc)).granted(rt);
-    let bar = Shown::on(alloc, "ab", boxed).granted(rt);
-    draws_the_script(rt, bar);
-}
-
 /// A terminal in a box that counts its flushes there.
 fn boxed(rt: &impl Abort, alloc: Global, count: &Rc<Cell<u64>>) -> Boxed {
     let count = count.clone().granted(rt);
@@ -120,7 +158,11 @@ fn boxed(rt: &impl Abort, alloc: Global, count: &Rc<Cell<u64>>) -> Boxed {
 }
 
 /// Each call of the script is drawn, and flushed once.
-fn each_is_flushed_once<T: TermLike + Drop>(rt: &impl Abort, mut bar: Shown<T>, count: &Cell<u64>) {
+fn each_is_flushed_once<T: TermLike + Drop>(
+    rt: &impl Abort,
+    mut bar: OnTerm<T>,
+    count: &Cell<u64>,
+) {
     let mut flushes = count.get();
     for step in SCRIPT {
         flushes = flushes.saturating_add(1);
@@ -138,36 +180,6 @@ fn a_boxed_terminal_is_flushed_once_a_drawing(rt: HostRuntime) {
     let mut boxed = boxed(rt, alloc, &count);
     same!(rt; (boxed.write_line("ab").is_ok(), count.get()), (true, 0));
     same!(rt; (boxed.flush().is_ok(), count.get()), (true, 1));
-    let bar = Shown::on(alloc, "ab", boxed).granted(rt);
+    let bar = OnTerm::on(alloc, "ab", boxed).granted(rt);
     each_is_flushed_once(rt, bar, &count);
-}
-
-// ---- one in a box that fails
-
-/// How often the bar's terminal has failed.
-fn faults<T: TermLike + Drop>(bar: &Shown<T>) -> Option<u64> {
-    Some(bar.term()?.faults())
-}
-
-/// A tick is drawn, a line fails and is counted, and then the same line is drawn.
-fn fails_at_a_line<T: TermLike + Drop>(rt: &impl Abort, mut bar: Shown<T>) {
-    same!(rt; bar.makes(Step::Tick), Ok(Drawn::Yes));
-    let broken = Err(Refusal::Terminal(ErrorKind::BrokenPipe));
-    same!(rt; (bar.makes(Step::Log("l")), faults(&bar)), (broken, Some(1)));
-    same!(rt; (bar.makes(Step::Log("l")), faults(&bar)), (Ok(Drawn::Yes), Some(1)));
-}
-
-/// A boxed terminal whose writer fails once, after the ten bytes of a first draw on ten columns.
-fn failing(rt: &impl Abort, alloc: Global) -> Boxed {
-    let record = Record::new(alloc, Plan::Byte(10), 64).granted(rt);
-    let size = Size { rows: 5, cols: 10 };
-    Box::new(alloc, size.terminal(&record).granted(rt)).granted(rt)
-}
-
-#[test]
-fn a_boxed_terminal_that_fails(rt: HostRuntime) {
-    let rt = &rt;
-    let alloc = rt.alloc();
-    let bar = Shown::on(alloc, "ab", failing(rt, alloc)).granted(rt);
-    fails_at_a_line(rt, bar);
 }

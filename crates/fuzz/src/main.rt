@@ -1,32 +1,23 @@
 //! Random input, and laws that hold for all of it; terminals that fail; and the engine beside one that writes whole frames.
 //!
-//! `fuzz laws SEED BYTES TEMPLATES LONE BOARD THREADS [STEPS]` feeds BYTES random bytes to cell terminals, reads TEMPLATES random
-//! templates, and plays random lists of calls: LONE of a lone bar, BOARD of a board, and THREADS of a board in four threads with random
-//! delays, each of which makes STEPS calls, 8 by default. It prints how many runs of each kind there were and how many broke a law; for the
-//! first of these its number and the law. The same seed gives the same bytes, templates and lists. The exit status is 1 if a law was
-//! broken.
+//! `fuzz laws SEED TEMPLATES THREADS [STEPS]` lays out TEMPLATES bars with random templates, and plays THREADS random lists of calls of a
+//! board in four threads with random delays, each of which makes STEPS calls, 8 by default. It prints how many runs of each kind there were
+//! and how many broke a law; for the first of these its number and the law. The same seed gives the same templates and lists. The exit
+//! status is 1 if a law was broken.
 //!
-//! `fuzz sweeps ..` and `fuzz whole_frames ..` do what the modules with these names say. `fuzz SEED BYTES ..`, with numbers only, plays
+//! `fuzz sweeps ..` and `fuzz whole_frames ..` do what the modules with these names say. `fuzz SEED TEMPLATES ..`, with numbers only, plays
 //! random input, then the sweeps, and compares the engines last.
 //!
-//! - `numbers`: random numbers. `law`: what must hold. `texts`, `calls`: random texts and calls.
-//! - `cells`: bytes. `templates`: templates and styles.
-//! - `setting`: a terminal, how it fails, and the checks of its bytes. `lone_lists`, `board_lists`: lists of calls.
+//! - `numbers`: random numbers. `law`: what must hold. `templates`: templates and their lines.
 //! - `threads`: a shared board that keeps its history. `player`: the calls of a thread.
 //! - `sweeps`: terminals that fail, at each possible place. `whole_frames`: engines beside one that writes whole frames.
 #![tactic(auto)]
 
-mod board_lists;
-mod calls;
-mod cells;
 mod law;
-mod lone_lists;
 mod numbers;
 mod player;
-mod setting;
 mod sweeps;
 mod templates;
-mod texts;
 mod threads;
 mod whole_frames;
 
@@ -41,10 +32,7 @@ use std::process::ExitCode;
 #[derive(Drop)]
 struct Counts {
     seed: u64,
-    bytes: u64,
     templates: u64,
-    lone: u64,
-    board: u64,
     threads: u64,
     steps: u64,
 }
@@ -70,17 +58,14 @@ fn counts_behind<R: AllocGlobal + Env>(rt: &R, passed: usize) -> Result<Counts> 
         numbers.push(word.as_str().parse()?)?;
     }
     match numbers.as_slice() {
-        [seed, bytes, templates, lone, board, threads, rest @ ..] if rest.len() < 2 => Ok(Counts {
+        [seed, templates, threads, rest @ ..] if rest.len() < 2 => Ok(Counts {
             seed: *seed,
-            bytes: *bytes,
             templates: *templates,
-            lone: *lone,
-            board: *board,
             threads: *threads,
             steps: rest.first().copied().unwrap_or(STEPS),
         }),
         _ => Err(anyhow!(
-            "usage: fuzz [laws] SEED BYTES TEMPLATES LONE BOARD THREADS [STEPS] | sweeps .. | whole_frames .."
+            "usage: fuzz [laws] SEED TEMPLATES THREADS [STEPS] | sweeps .. | whole_frames .."
         )),
     }
 }
@@ -103,26 +88,16 @@ fn request<R: AllocGlobal + Env>(rt: &R) -> Result<Asked> {
 /// A kind of runs.
 #[derive(Drop)]
 enum Kind {
-    Bytes,
     Templates,
-    Lone,
-    Board,
     /// Each in four threads that make this many calls.
     Threads(u64),
 }
 
-/// How many bytes a run feeds.
-const BYTES: usize = 1000;
-
 impl Kind {
     /// Makes the run with this number, with its own stream of numbers.
     fn plays<R: Plays>(&self, rt: R, seed: u64, number: u64) -> Held {
-        let mut numbers = Numbers::new(seed, number);
         match self {
-            Kind::Bytes => cells::fed(rt.alloc(), &mut numbers, BYTES),
-            Kind::Templates => templates::parsed(rt.alloc(), &mut numbers),
-            Kind::Lone => lone_lists::played(rt.alloc(), &mut numbers),
-            Kind::Board => board_lists::played(rt.alloc(), &mut numbers),
+            Kind::Templates => templates::drawn(rt.alloc(), &mut Numbers::new(seed, number)),
             Kind::Threads(steps) => {
                 let random = Random {
                     seed: seed.wrapping_add(number),
@@ -155,16 +130,10 @@ impl Kind {
 
 /// Plays random input; whether no law was broken.
 fn make_random<R: Plays + Print>(rt: R, counts: &Counts) -> Result<bool> {
-    let blocks = counts.bytes.div_ceil(BYTES as u64);
+    let threads = Kind::Threads(counts.steps);
     let kinds = [
-        (Kind::Bytes, ("bytes by thousands", blocks)),
         (Kind::Templates, ("templates", counts.templates)),
-        (Kind::Lone, ("lists of a lone bar", counts.lone)),
-        (Kind::Board, ("lists of a board", counts.board)),
-        (
-            Kind::Threads(counts.steps),
-            ("lists in four threads", counts.threads),
-        ),
+        (threads, ("lists in four threads", counts.threads)),
     ];
     let mut is_kept = true;
     for (kind, named) in &kinds {

@@ -3,9 +3,9 @@ use crate::law::{Held, Law};
 use crate::player::{Bar, Multi, Player, Plays, Random};
 use indicatif::machine::MachineClock;
 use indicatif::{
-    Board, Entry, InMemoryTerm, MultiProgress, NoTracker, ProgressDrawTarget, RecordReader,
-    Recorded, Refusal,
+    InMemoryTerm, MultiProgress, NoTracker, ProgressDrawTarget, RecordReader, Recorded, Refusal,
 };
+use scripts::replay::{is_one_run, rows_of};
 use std::alloc::Global;
 use std::thread::map_indices;
 
@@ -46,28 +46,6 @@ fn logged_in(rows: &[String]) -> u64 {
 
 type Recording = Recorded<NoTracker, InMemoryTerm>;
 
-/// Whether a board makes these calls with the same answers.
-fn answers_so(
-    board: &mut Board<NoTracker, InMemoryTerm>,
-    alloc: Global,
-    entries: &[Entry<NoTracker>],
-) -> Result<bool, Refusal> {
-    for entry in entries {
-        let call = entry.call.try_clone(alloc)?;
-        if board.call(call, entry.now) != entry.answer {
-            return Ok(false);
-        }
-    }
-    Ok(true)
-}
-
-fn rows_of(term: Option<&InMemoryTerm>) -> Result<Vec<String>, Refusal> {
-    match term {
-        Some(term) => term.picture(),
-        None => Err(Refusal::NotMember),
-    }
-}
-
 /// Reads a history in which this many lines were logged.
 #[derive(Drop)]
 struct RunsAgain {
@@ -84,12 +62,11 @@ impl RecordReader<InMemoryTerm, NoTracker> for RunsAgain {
         let Some(recorded) = record else {
             return Err(Law::Replay);
         };
-        let board = Board::new(alloc, target(alloc)?, recorded.opening().mark);
-        let mut fresh = Box::new(alloc, board)?;
-        Law::Replay.holds(answers_so(&mut fresh, alloc, recorded.entries())?)?;
-        let rows = rows_of(recorded.board().term())?;
-        Law::Replay.holds(rows_of(fresh.term())? == rows)?;
-        Law::Logged.holds(logged_in(&rows) == logged)
+        Law::Replay.holds(is_one_run(alloc, recorded, target(alloc)?)?)?;
+        match rows_of(recorded.board().term())? {
+            Some(rows) => Law::Logged.holds(logged_in(&rows) == logged),
+            None => Err(Law::Logged),
+        }
     }
 }
 

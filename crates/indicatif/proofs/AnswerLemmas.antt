@@ -22,7 +22,7 @@ use Rattle.indicatif_bar.specs.LoneBars.{lone_bar}
 use Rattle.indicatif_bar.specs.declared.ask.Ask.{Ask}
 use Rattle.indicatif_bar.specs.declared.ask.Ask.TheVariants.{No, Unforced, Forced}
 use Rattle.indicatif_board.specs.BoardBars.{board_bars}
-use Rattle.indicatif_board.specs.Boards.{BoardState, Id, Location, Before, After, Entrant, New, Old, Insert, Remove, Drop, Log as LogAbove, BarLog, Clear as ClearBoard, Redraw, Align, Tell, Answer, Given, Done, Drew, Refused, drawn_of, or_refused, turned_away, anchor_turned_away, inserted, taken_in, taken_out, draws, draw_of_command, last_draw, log_of, draw_of, laid_out, layout_takes, left_on, ownerless_on, deed_of, board}
+use Rattle.indicatif_board.specs.Boards.{BoardState, Id, Location, Before, After, Entrant, New, Old, Insert, Remove, Drop, Log as LogAbove, BarLog, Clear as ClearBoard, Redraw, Align, Tell, Answer, Given, Accepted, Drew, Refused, drawn_of, or_refused, turned_away, anchor_turned_away, inserted, taken_in, taken_out, draws, draw_of_command, last_draw, log_of, draw_of, laid_out, layout_takes, left_on, ownerless_on, deed_of, board}
 use Rattle.indicatif_board.specs.Members.{Member, is_member, said_of}
 use Rattle.indicatif.specs.Fronts.{of_no_draw, of_a_draw, of_a_clear, of_draw, asked_by, is_late, has_no_bar, bar_answers, CanAnswer, IsMissing, MemoryOrForeign}
 use Rattle.indicatif.specs.Inside.SharedBoards.{SharedCall, SharedDraws, SharedAnswers, on_board, given_by, is_foreign, names_bar, board_answers}
@@ -282,8 +282,8 @@ module _ {K : Type 0} (m : Tracking K) (mark : ℕ) (target : Target) (now : ℕ
   board_call (Insert at entrant) led = anchored at entrant (inserted mark at entrant s) (entered at entrant) led
   board_call (Remove id) led =
       let P = λ (r : Result Drawn Refusal). (of_no_draw r || is_foreign r) ≡ true in
-      cond_both (not (id.mark == mark)) (AtOnce false (Refused ForeignBar) s) (AtOnce false Done (taken_out id.number s)) (λ deed. Led deed → P (drawn_of answer))
-      (λ other. said_at_once P (Refused ForeignBar) s refl) (λ ours. said_at_once P Done (taken_out id.number s) refl) led
+      cond_both (not (id.mark == mark)) (AtOnce false (Refused ForeignBar) s) (AtOnce false Accepted (taken_out id.number s)) (λ deed. Led deed → P (drawn_of answer))
+      (λ other. said_at_once P (Refused ForeignBar) s refl) (λ ours. said_at_once P Accepted (taken_out id.number s) refl) led
   board_call (Drop id) led =
       named_answers (λ r. (of_no_draw r || (of_a_draw r || has_no_bar r)) ≡ true) id (Draws (last_draw (board_bars m) target id.number now s)
       (left_on target id.number) (ownerless_on id.number)) refl refl
@@ -297,7 +297,7 @@ module _ {K : Type 0} (m : Tracking K) (mark : ℕ) (target : Target) (now : ℕ
   board_call ClearBoard led =
       clear_leads (board (board_bars m) mark) target s (draw_of target false Forced now NoFrame s s false) (λ x. x) (λ x. x) answer next refl refl refl led
   board_call Redraw led = drew_as (draw_of target false Forced now Frame s s false) (λ x. x) (λ x. x) Forced (refl, refl) led
-  board_call (Align bottom) led = said_at_once (λ r. of_no_draw r ≡ true) Done (record s { bottom = bottom }) refl led
+  board_call (Align bottom) led = said_at_once (λ r. of_no_draw r ≡ true) Accepted (record s { bottom = bottom }) refl led
   board_call (Tell id command) led =
       named_answers (λ r. bar_answers (Obey command) r ≡ true) id
       (or_refused (said_of None (λ bar. if is_beyond_clock command now then Some ElapsedBeyondClock else None) id.number s.members)
@@ -335,7 +335,7 @@ given_so : {K : Type 0} (at : Location) (entrant : Entrant (BarRecord K)) (told 
     SharedAnswers K (Insert at entrant) (Refused e)
 given_so {K = K} at entrant (Refused refusal) e can given = subst (λ taken. IfErr taken (λ r. SharedAnswers K (Insert at entrant) (Refused r))) given can
 given_so {K = K} at entrant (Given id) e can given = subst (λ taken. IfErr taken (λ r. SharedAnswers K (Insert at entrant) (Refused r))) given tt
-given_so {K = K} at entrant Done e can given = subst (λ taken. IfErr taken (λ r. SharedAnswers K (Insert at entrant) (Refused r))) given (no_memory (Insert at entrant))
+given_so {K = K} at entrant Accepted e can given = subst (λ taken. IfErr taken (λ r. SharedAnswers K (Insert at entrant) (Refused r))) given (no_memory (Insert at entrant))
 given_so {K = K} at entrant (Drew drawn) e can given = subst (λ taken. IfErr taken (λ r. SharedAnswers K (Insert at entrant) (Refused r))) given (no_memory (Insert at entrant))
 
 pub turned_so : {K I : Type 0} (at : Location) (entrant : Entrant (BarRecord K)) (told : Answer) (taken : Result I Refusal) → IfErr taken (λ e. given_by told ≡ Err e) →

@@ -7,7 +7,7 @@ use Rattle.indicatif_text.specs.declared.refusal.Drawn.{Drawn}
 use Rattle.indicatif_term.specs.Calls.{TermView}
 use Rattle.indicatif_bar.specs.Trackers.{Tracking}
 use Rattle.indicatif_bar.specs.Commands.{BarRecord}
-use Rattle.indicatif_board.specs.Boards.{Id, Remove, Answer, Done, Refused, says, drawn_of, drawn_of_said}
+use Rattle.indicatif_board.specs.Boards.{Id, Remove, Answer, Accepted, Refused, says, drawn_of, drawn_of_said}
 use Rattle.indicatif_board.specs.Calls.{answer_of, removal}
 use Rattle.indicatif_board.specs.declared.calls.Answer.{Answer as AnswerValue}
 use Rattle.indicatif_board.specs.declared.calls.Answer.TheVariants as answer
@@ -82,7 +82,7 @@ module _ {K T : Type 0} (m : Tracking K) (view : T → TermView) where
   pub removed_open : (old new : Board K T) (id : Id) (now : ℕ) (r : Result (Option (BarRecord K)) Refusal) →
       LeadsBy m view old new (Remove id) now (removal r) →
       MatchResult r (λ bar. BoardRemoves m view (kind.Open old) id now None (kind.Open new)) (λ e. BoardRemoves m view (kind.Open old) id now (Some e) (kind.Open new))
-  removed_open old new id now (Ok bar) led = (Done, refl, (new, refl, led))
+  removed_open old new id now (Ok bar) led = (Accepted, refl, (new, refl, led))
   removed_open old new id now (Err e) led = (Refused e, refl, (new, refl, led))
 
   pub removed_recorded : (old new : Record K T) (id : Id) (now : ℕ) (r : Result (Option (BarRecord K)) Refusal) (told : AnswerValue) →

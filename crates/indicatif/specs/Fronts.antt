@@ -102,8 +102,8 @@ bar_answers Clear answer = of_a_clear answer
 unfoldable pub CanAnswer : (K : Type 0) → LoneCall (Command K) → Result Drawn Refusal → Type 0
 CanAnswer K call answer = IsTrue (bar_answers call answer)
 
--- an answer that an update can give: its closure was shown a state and returned a change by `R`, and the answer is one of a command that makes this change; or the
--- closure wasn't called, since the board hasn't the bar
+-- an answer that an update can give: its closure was shown some state and returned a change by `R`, and the answer is one of a command that makes a change, whichever it is; or the closure wasn't
+-- called, since the board hasn't the bar
 abbrev pub CanUpdate : (K : Type 0) → (Progress → Change → Type 0) → Result Drawn Refusal → Type 0
 CanUpdate K R answer =
     ((shown : Progress) × (change : Change) × R shown change × CanAnswer K (Obey (Update change.pos change.len)) answer) ⊎ IsTrue (has_no_bar answer)

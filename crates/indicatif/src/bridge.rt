@@ -123,7 +123,7 @@ impl<
     K: Tracks,
     L: Log + Drop,
 > LogBridge<T, C, R, LevelOnce, K, L> {
-    /// As `new`, but where the board is hidden `inner` gets the records: none is lost.
+    /// A sink as `new` makes it, but where the board is hidden `inner` gets the records: none is lost.
     ///
     /// ```
     /// let bridge = LogBridge::over(board.clone()?, Console(*host)); // where bars are hidden, `[WARN  app] low disk` on standard error
@@ -250,7 +250,7 @@ fn plain_line<D: Display, V: Source, S: Spans>(
     Ok(String::format(alloc, Line::new(&plain))?)
 }
 
-/// What follows the level in a line.
+/// What follows the level in a log line.
 fn behind_level(line: &str) -> &str {
     match line.split_once("] ") {
         Some((_, text)) => text,

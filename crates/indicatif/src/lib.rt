@@ -15,15 +15,21 @@
 //!   a `ProgressDrawTarget` over a `Term` behind any writer, over an `InMemoryTerm` in tests, or over your own `TermLike`.
 //! - Numbers as texts: `HumanBytes`, `DecimalBytes`, `BinaryBytes`, `HumanDuration`, `FormattedDuration`, `HumanCount`, `HumanFloatCount`.
 //! - Logs: `bridge::logger_above`, a logger of the crate `log` that writes above the bars; `bridge::LogBridge`, its sink.
-//! - Where no terminal shows bars: `ProgressBar::println_or` and `MultiProgress::println_or` for lines, `PlainLines` for bars as plain lines.
+//! - Where no terminal shows bars: `ProgressBar::println_or` and `MultiProgress::println_or` for lines, `PlainLines` for bars as plain
+//!   lines.
 //! - `laws`: what follows from the definitions, each as a function whose contract is the law.
 //!
 //! # Where it stands
 //!
-//! - `shared`: `ProgressBar`, and in its folder `MultiProgress`, what their locks keep, weak owners, tickers and counting threads.
-//! - `machine`: targets and clocks of the machine; `style`: the names of the crate's own module `style`.
-//! - `wrappers`: iterators, readers, writers and streams that move a bar; `parallel`: slices and pieces of work in threads.
-//! - `plain_lines`: bars as plain lines; `bridge`: lines of a log; `laws`: the laws.
+//! - `shared`: `ProgressBar`, a bar with several owners, and in its folder `MultiProgress`, what their locks keep, weak owners, tickers and
+//!   counting threads.
+//! - `machine`: what bars need from the machine: the clock, facts about streams, targets and setups on them. `style`: the names of the
+//!   crate's own module `style`.
+//! - `wrappers`: iterators, readers, writers and streams that move a bar, with or without its own.
+//! - `parallel`: slices and pieces of work in threads.
+//! - `plain_lines`: `PlainLines`, when a bar that no terminal shows is due as a plain line, and that line.
+//! - `bridge`: `LogBridge`, a sink of the crate `log`: the form of a record's lines, a filter, and `logger_above`.
+//! - `laws`: the laws.
 //!
 //! # A first bar
 //!

@@ -1,5 +1,12 @@
 //! What bars need from the machine: the time, and whether a stream is a terminal and how wide. Nothing else in this library uses the
 //! machine, so a program that finds these itself needs nothing from this module.
+//!
+//! Here are the clock, the facts about a stream, which variables tell (size, colours), terminals and writers behind streams, and setups and
+//! targets on these, with short names for their types. The modules below are private:
+//!
+//! - `stderr_term`: `StderrTerm`, the terminal behind standard error.
+//! - `until_gone`: `UntilGone`, a writer whose reader may go away before the program ends.
+//! - `made`: shared bars on standard error, in a style or hidden.
 ghost use Rattle.std.specs.Prelude.{◌≡◌, ◌⊎◌, ◌↔◌, ◌≤◌, ◌<◌, ℕ, Bool, chars, IfOk, IfErr, IfSome};
 ghost use Rattle.indicatif_text.specs.declared.template.TemplateError.{TemplateError};
 ghost use Rattle.indicatif_text.specs.Template.{Parses, IsRefused, refusal_of};
@@ -382,14 +389,13 @@ pub fn sized_stderr(
     Ok(StderrTerm::target(target))
 }
 
-/// A target on any stream, as `own_stderr`.
+/// A target on any stream, of a terminal with this size, as `sized_stderr`.
 ///
 /// ```
 /// let target = sized_target(&rt, rt.stdout(), 50, 132)?;
 /// ```
 ///
-/// A target as that of `sized_stderr`, on any stream. Bars that `on_stderr` made take a target of `sized_stderr`: what this call makes on
-/// standard error has another type.
+/// Bars that `on_stderr` made take a target of `sized_stderr`: what this call makes on standard error has another type.
 ///
 /// Refused: `ZeroSize` if `rows` or `cols` is 0; `Memory`. The stream is dropped.
 pub fn sized_target<R: Env + AllocGlobal + time::Clock + Copy, W: Write + IsTerminal + Drop>(

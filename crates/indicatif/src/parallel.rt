@@ -1,9 +1,13 @@
 //! Lists that threads work on, with a bar.
 //!
-//! - `claims`: the parts of a list that threads take, and their progress; `course`: how far the bar is.
-//! - `part_answers`: answers at a part of a list; `answers`: the answers of threads at all its items; `visits`: items visited without
-//!   answers.
-//! - `workers`: pieces of work that threads do.
+//! `ParallelProgressIterator` wraps a slice here; `map_collect` and `for_each` call a function with each of its items. The modules below:
+//!
+//! - `claims`: `Claims`, a list of which each thread takes the next part, and how many of its items were met.
+//! - `course`: `Course`, a bar on its way along a list: it is advanced to an item or a part, block by block.
+//! - `answers`: the answers of threads at all items.
+//! - `part_answers`: `PartAnswers`, the answers at a part, and how parts are put in order.
+//! - `visits`: items visited without answers.
+//! - `workers`: pieces of work that threads do, `run_workers` and `Gate`.
 ghost use Rattle.std.specs.Prelude.{◌≡◌, ◌==◌, ◌<◌, ◌≤◌, ℕ, Some, Ok, Err, IfOk, IfErr, OnOk, IsFalse, length};
 ghost use Rattle.std.specs.List.{AllZip};
 ghost use Rattle.std.specs.Fn.{FnReturnsAt};
@@ -41,12 +45,12 @@ pub trait ParallelProgressIterator: Sized {
     /// The number of items.
     ghost count: { Self → ℕ };
 
-    /// Wraps it with this bar.
+    /// Wraps the slice with this bar.
     fn progress_with<P: Moves>(self, progress: P) -> ProgressBarIter<Self, P>
         ensures wraps { Wraps result self }
         ensures bar { result.progress ≡ progress };
 
-    /// Wraps it with a bar of this length.
+    /// Wraps the slice with a bar of this length.
     ///
     /// Refused: `Memory`; nothing is made, and the arguments are dropped.
     fn progress_count<W: TermLike + Drop, C: Clock + Drop>(
@@ -59,7 +63,7 @@ pub trait ParallelProgressIterator: Sized {
         ensures bar { IfOk result (λ w. BeginsPlain w.progress TICKS.now (Some len) setup.target) }
         ensures memory { IfErr result (λ e. e ≡ Refusal.Memory) };
 
-    /// Wraps it with a bar whose length is the number of items.
+    /// Wraps the slice with a bar whose length is the number of items.
     ///
     /// Refused: `Memory`; nothing is made, and the arguments are dropped.
     fn progress<W: TermLike + Drop, C: Clock + Drop>(
@@ -71,7 +75,7 @@ pub trait ParallelProgressIterator: Sized {
         ensures bar { IfOk result (λ w. BeginsPlain w.progress TICKS.now (Some (count self)) setup.target) }
         ensures memory { IfErr result (λ e. e ≡ Refusal.Memory) };
 
-    /// Wraps it with a bar whose length is the number of items, in this style.
+    /// Wraps the slice with a bar whose length is the number of items, in this style.
     ///
     /// Refused: `Memory`, only if the style has a tab width other than 8; nothing is made, and the arguments are dropped.
     fn progress_with_style<K: Tracks, W: TermLike + Drop, C: Clock + Drop>(

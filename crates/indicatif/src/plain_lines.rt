@@ -131,7 +131,7 @@ fn push_plain(line: &str, out: &mut String) -> Result<(), Refusal>
     Ok(())
 }
 
-/// Appends a text without its control characters.
+/// Appends a text to a plain line, without its control characters.
 fn push_shown(text: &str, out: &mut String) -> Result<(), Refusal>
     ensures { IfErr result (λ e. e ≡ Refusal.Memory) }
 {

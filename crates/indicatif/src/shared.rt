@@ -1,16 +1,40 @@
 //! A bar with several owners.
 //!
-//! Its calls that change the bar are here. The modules below are private:
+//! `ProgressBar` is here: the calls that change it (position, length, texts, style, times), finish it, draw it, log above it, set its
+//! target or tell its owners. The modules below are private. What a program calls:
 //!
-//! - `constructors` make bars; `builders` set up a bar before it moves; `readings` read its state.
-//! - `beside`: lines above bars, and beside hidden ones. `told`: hidden bars as plain lines. `weak`: a bar without an owner; `wrapped`: wrappers that move it.
-//! - `unlocked`: bars and boards that leave their locks.
-//! - `shared_bar`: its lock, its pauses, and what waits for them; `request`: the result of a call, which is made or has to be tried again.
-//! - `locked_bar`: what its lock protects; `any_bar`: the bar there, alone or on a board; `member_bar`: a bar on a board.
-//! - `board_cell`: a board's lock, and its pauses (`pause`).
-//! - `locked_board`: what a board's lock protects; `any_board`: the board there, with its history or without.
-//! - `position_change`: what moves its position.
-//! - `ticker`: its steady ticker; `steady`: the thread that ticks. `counting`: threads that count for it without its lock.
+//! - `constructors`: bars are made: in the style of a bar, of a spinner or another, on a target or hidden.
+//! - `builders`: `with_style`, `with_position` and the like set up a shared bar before it moves.
+//! - `readings`: a bar's position, length, texts, style, rate and times; whether it is finished or hidden; its terminal is lent.
+//! - `beside`: `println_or`, lines above bars, or to a writer where these are hidden.
+//! - `told`: `tell_line`, a hidden bar as a plain line.
+//! - `wrapped`: `wrap_iter`, `wrap_read` and the like, wrappers that move a shared bar; `with_style` and the like of these.
+//! - `steady`: the thread that ticks a bar is started and stopped.
+//! - `counting`: `worker` and `absorb`, for threads that count without the lock.
+//! - `weak`: `WeakProgressBar`, a reference that doesn't own its bar, and may give another owner.
+//! - `multi`: `MultiProgress`, several bars on one target: a board is made; bars are made on it, inserted, removed; texts above them,
+//!   clears, alignment, target; its terminal is lent, and its history to a `RecordReader`.
+//! - `unlocked`: `into_inner` takes a bar or a board out of its lock (`UnlockedBar`, `UnlockedBoard`).
+//!
+//! What is under the lock of a bar:
+//!
+//! - `shared_bar`: `SharedBar`, the lock: calls wait there for their turn, until no pause is on; `suspend` with its closure.
+//! - `request`: `Tried`, a call that was made, or has to be tried again.
+//! - `locked_bar`: `LockedBar`, what the lock protects: the bar, its clock, ticker and owners, and a pause, which begins and ends there.
+//!   What each call does, also another target or board; rate and times at the moment of the clock. In its folder `told`: its plain line.
+//! - `any_bar`: `AnyBar`, the bar there, alone or on a board: its state, texts, style and terminal, as readings find them, and what a board
+//!   may insert of it.
+//! - `member_bar`: `MemberBar`, a board's bar: its changes and draws are made by the board, which it may leave.
+//! - `position_change`: `PositionChange`, how the position moves: as a command of a board's bar, or as a call of a bar that stands alone.
+//! - `ticker`: `Ticker`, whether a steady ticker is installed, and its number.
+//!
+//! What is under the lock of a board:
+//!
+//! - `board_cell`: `BoardCell`, the lock: calls wait there for their turn, until no pause is on; `suspend` with its closure.
+//! - `pause`: `Pause`, one that has begun.
+//! - `locked_board`: `LockedBoard`, what the lock protects: the board, its clock, and a pause, which begins and ends there.
+//! - `any_board`: `AnyBoard`, the board there, with its history or without: each call for either, such as a bar that is inserted or
+//!   removed, and what its answer says.
 ghost use Rattle.std.specs.Prelude.{ℕ, IfErr};
 ghost use Rattle.std.specs.Fn.{FnOnceReturnsAt};
 ghost use Rattle.indicatif_bar.specs.Commands as Command;
@@ -136,7 +160,7 @@ impl<T: TermLike + Drop, C: Clock + Drop, R: Wait + Clone + Drop, K: Tracks> Pro
         self.move_in_turn(change)
     }
 
-    /// The same, once the lock is free and no pause is on.
+    /// Changes the bar's position once the lock is free and no pause is on.
     #[inline(never)]
     fn move_in_turn(&self, change: PositionChange) -> Result<Drawn, Refusal>
         ensures { CanAnswer K (Lone.Obey (position_command change)) result }
@@ -275,7 +299,7 @@ impl<T: TermLike + Drop, C: Clock + Drop, R: Wait + Clone + Drop, K: Tracks> Pro
         self.tell(LoneCall::Bar(BarCommand::Finish(ProgressFinish::AndLeave)))
     }
 
-    /// As `finish`, with this message, which shows only where the template has `{msg}` or `{wide_msg}`.
+    /// Finishes the bar as `finish`, with this message, which shows only where the template has `{msg}` or `{wide_msg}`.
     pub fn finish_with_message(&self, text: &str) -> Result<Drawn, Refusal>
         ensures { CanAnswer K (Lone.Obey (Command.Finish (Finish.WithMessage text.now))) result }
     {
@@ -296,7 +320,7 @@ impl<T: TermLike + Drop, C: Clock + Drop, R: Wait + Clone + Drop, K: Tracks> Pro
         self.tell(LoneCall::Bar(BarCommand::Finish(ProgressFinish::Abandon)))
     }
 
-    /// As `abandon`, with this message.
+    /// Finishes the bar as `abandon`, with this message.
     pub fn abandon_with_message(&self, text: &str) -> Result<Drawn, Refusal>
         ensures { CanAnswer K (Lone.Obey (Command.Finish (Finish.AbandonWithMessage text.now))) result }
     {
@@ -318,7 +342,8 @@ impl<T: TermLike + Drop, C: Clock + Drop, R: Wait + Clone + Drop, K: Tracks> Pro
     }
 
     /// Makes the changes that the closure returns for the bar's state; then as `tick`. The closure is called under the lock, and not at all
-    /// if the board hasn't the bar: that is refused, and no history keeps it. A call of this bar inside it, or of any bar of its board, deadlocks.
+    /// if the board hasn't the bar: that is refused, and no history keeps it. A call of this bar inside it, or of any bar of its board,
+    /// deadlocks.
     pub fn update<F: FnOnce(&ProgressState) -> Change>(&self, f: F) -> Result<Drawn, Refusal>
         requires { F.IsAlwaysCallable f }
         ensures { CanUpdate K (FnOnceReturnsAt F.FnOnce f) result }
@@ -408,7 +433,7 @@ impl<T: TermLike + Drop, C: Clock + Drop, R: Wait + Clone + Drop, K: Tracks> Pro
         self.state.turn(&self.rt).take_out(&self.rt, board)
     }
 
-    /// Counts one more owner.
+    /// Counts one more owner of this bar, under its lock.
     fn counted(&self) -> bool
         ensures { (before : ℕ) × (now : ℕ) × OwnerJoins result before now }
     {
@@ -475,7 +500,7 @@ impl<T: TermLike + Drop, C: Clock + Drop, R: Wait + Clone + Drop, K: Tracks> Mov
         Some(self.state.place_after(&self.rt, seeks, n))
     }
 
-    /// Yes, since its position can't be read in contracts.
+    /// Yes: a shared bar may stop within a block, since its position can't be read in contracts.
     fn stops_within_blocks(&self) -> bool {
         true
     }

@@ -1,10 +1,17 @@
 //! Iterators, readers, writers and streams that move a bar.
 //!
-//! - `moves`: the trait of a wrapper's bar; `owned`: a bar with its clock, which needn't be shared.
-//! - `wrap`: the wrapper. It wraps `items` from either end, `bytes` that are read and written, `seeking`, `polled` readers and writers, and
-//!   `streams`.
-//! - `progress_iterator`: an iterator makes its own bar; `builders`: sets up that bar before it moves.
-//! - `seek`: the position that is shown after moves and seeks, over `ring`, the greatest of the last places.
+//! - `progress_iterator`: `ProgressIterator`, an iterator wrapped with a bar that you pass, or with its own.
+//! - `builders`: `with_style` and the like set up a wrapper's own bar before it moves.
+//! - `moves`: `Moves`, what a wrapper's bar has to do: advance, go to a place, finish.
+//! - `owned`: `OwnedBar`, a bar with its clock, which needn't be shared.
+//! - `wrap`: `ProgressBarIter`, the wrapper: made, taken apart, and what its last draw answered.
+//! - `items`: an iterator's items from either end.
+//! - `bytes`: bytes that are read and written.
+//! - `seeking`: readers and writers that seek.
+//! - `polled`: polled readers and writers.
+//! - `streams`: polled items.
+//! - `seek`: `SeekMax`, the position that is shown after moves and seeks.
+//! - `ring`: `MaxRingBuf`, the greatest of the last places, for `seek`.
 
 mod builders;
 mod bytes;

@@ -98,9 +98,8 @@ module _ {State Call Answer : Type 0} (m : Machine State Call Answer) where
   done_by target (AtOnce takes answer next) = (answer, next)
   done_by target (Draws d ends breaks) = let o = drawn_by target d in (m.says o.0, ends o.1)
 
-  -- a call has this answer and leads to the next state. A call that answers at once does so, or is refused memory. A call that draws gets as far as its steps let it; or memory is refused at a step
-  -- that takes some, before the record changes, as lines are laid out, or, once the limiter allowed it, as rows are planned, and the next state is that before the step; or the terminal fails while it
-  -- is written
+  -- a call's answer, and the next state. One that answers at once does so, or is refused memory. One that draws gets as far as its steps let it. Or memory is refused before the record changes, as
+  -- lines are laid out, or, once the limiter allowed it, as rows are planned, if that step takes some, and the state is the one before it. Or the terminal fails while it is written
   abbrev pub Leads : Target → State → Deed State Answer → Answer → State → Type 0
   Leads target s (AtOnce takes said after) answer next =
       let ended : Answer × State = (said, after) in

@@ -25,8 +25,8 @@ impl<K: Tracks> BarState<K> {
         self.lines_in(&mut spare, now, width)
     }
 
-    /// As `lines`, in the memory of `spare`, whatever that holds. A bar that is laid out repeatedly, each time with the old lines stored
-    /// there, takes no memory once `spare` has enough.
+    /// The lines of the bar as `lines`, in the memory of `spare`, whatever that holds. A bar that is laid out repeatedly, each time with
+    /// the old lines stored there, takes no memory once `spare` has enough.
     ///
     /// Refused: as `lines`.
     ///

@@ -29,7 +29,7 @@ pub enum ProgressFinish<S = String> {
 }
 
 impl<S: Text> ProgressFinish<S> {
-    /// A copy, with its own message.
+    /// A copy of the finish, with its own message.
     ///
     /// Refused: `Memory`, only if it has a message that isn't empty.
     pub fn try_clone(&self, alloc: Global) -> Result<ProgressFinish, Refusal>

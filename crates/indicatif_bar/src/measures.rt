@@ -47,7 +47,7 @@ pub struct Rate {
 }
 
 impl Rate {
-    /// `steps` in `nanos` nanoseconds; no steps if `nanos` is 0.
+    /// The rate of `steps` in `nanos` nanoseconds; no steps if `nanos` is 0.
     pub(crate) fn over(steps: u64, nanos: u64) -> Rate
         ensures { result ≡ rate_over steps nanos }
     {
@@ -113,7 +113,7 @@ pub struct Samples {
 }
 
 impl Samples {
-    /// No steps at this moment.
+    /// The two samples of no steps at this moment.
     pub(crate) fn new(now: Moment) -> Samples
         ensures { result ≡ first_samples now }
     {
@@ -123,7 +123,7 @@ impl Samples {
         })
     }
 
-    /// A count that begins at this sample.
+    /// The two samples of a count that begins at this one.
     fn at(sample: Sample) -> Samples
         ensures { result ≡ record { base = sample; last = sample } }
     {
@@ -151,7 +151,7 @@ impl Samples {
         self
     }
 
-    /// Restarts the count at this moment.
+    /// Restarts the count of the two samples at this moment.
     pub(crate) fn restart(self, now: Moment) -> Samples
         ensures { result ≡ restarted self now }
     {

@@ -46,7 +46,7 @@ impl PositionLimiter {
     /// How many looks may be in hand.
     const MOST: u64 = 10;
 
-    /// A limiter made at this moment.
+    /// A limiter of positions, made at this moment.
     pub(crate) fn new(now: Moment) -> PositionLimiter
         ensures { result ≡ position_limiter now }
     {
@@ -81,7 +81,7 @@ impl PositionLimiter {
         }
     }
 
-    /// Whether a look at this moment comes too early, by one comparison.
+    /// Whether a look at the position comes too early at this moment, by one comparison.
     #[inline(always)]
     pub(crate) fn is_early(&self, now: Moment) -> bool
         ensures { IsTrue result → allow_position self.now now ≡ (false, self.now) }
@@ -109,7 +109,7 @@ impl PositionLimiter {
         true
     }
 
-    /// Restarts the time at this moment.
+    /// Restarts the limiter's time at this moment.
     pub(crate) fn reset(&mut self, now: Moment)
         ensures { self.new ≡ position_reset self.old now }
     {
@@ -120,7 +120,7 @@ impl PositionLimiter {
         *self = PositionLimiter::counting(self.making, looks);
     }
 
-    /// A copy of the limiter.
+    /// A copy of the limiter of positions.
     pub(crate) fn same(&self) -> PositionLimiter
         ensures { result ≡ self.now }
     {

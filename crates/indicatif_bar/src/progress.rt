@@ -128,7 +128,7 @@ impl ProgressState {
         }
     }
 
-    /// The allocator of the texts.
+    /// The allocator of the progress's texts.
     pub(crate) fn alloc(&self) -> Global {
         self.alloc
     }
@@ -197,7 +197,7 @@ impl ProgressState {
         }
     }
 
-    /// The position.
+    /// The bar's position.
     pub fn pos(&self) -> u64
         ensures { result ≡ self.now.position }
     {
@@ -211,7 +211,7 @@ impl ProgressState {
         self.position = position;
     }
 
-    /// The length, if there is one.
+    /// The bar's length, if there is one.
     pub fn len(&self) -> Option<u64>
         ensures { result ≡ self.now.len }
     {
@@ -232,7 +232,7 @@ impl ProgressState {
         self.ticks
     }
 
-    /// Whether the bar was finished and left the screen: then it has no lines.
+    /// Whether the status is that of a bar that was finished and left the screen: then it has no lines.
     pub(crate) fn is_hidden(&self) -> bool
         ensures { result ≡ is_hidden self.now }
     {
@@ -242,7 +242,7 @@ impl ProgressState {
         }
     }
 
-    /// A copy of the limiter.
+    /// A copy of the progress.
     ///
     /// Refused: `Memory`.
     pub(crate) fn try_clone(&self) -> Result<ProgressState, Refusal>
@@ -265,28 +265,28 @@ impl ProgressState {
         })
     }
 
-    /// The message, with its tabs expanded.
+    /// The message of the progress, with its tabs expanded.
     pub(crate) fn message(&self) -> &str
         ensures { result.now ≡ shown_message self.now }
     {
         self.message.shown()
     }
 
-    /// The prefix, with its tabs expanded.
+    /// The prefix of the progress, with its tabs expanded.
     pub(crate) fn prefix(&self) -> &str
         ensures { result.now ≡ shown_prefix self.now }
     {
         self.prefix.shown()
     }
 
-    /// The tab width.
+    /// The tab width of the progress.
     pub(crate) fn tab_width(&self) -> usize
         ensures { result ≡ self.now.tab }
     {
         self.tab
     }
 
-    /// Sets or removes the length.
+    /// Sets or removes the length of the progress.
     pub(crate) fn put_len(&mut self, len: Option<u64>)
         ensures { self.new ≡ record self.old { len = len } }
     {
@@ -300,28 +300,28 @@ impl ProgressState {
         self.ticks = self.ticks.saturating_add(1);
     }
 
-    /// Records the position with the rate.
+    /// Records the position of the progress with its rate.
     pub(crate) fn record_position(&mut self, now: Moment)
         ensures { self.new ≡ record self.old { samples = recorded self.old.samples self.old.position now } }
     {
         self.samples = self.samples.record(self.position, now);
     }
 
-    /// Counts the rate from this moment on.
+    /// Counts the rate of the progress from this moment on.
     pub(crate) fn reset_rate(&mut self, now: Moment)
         ensures { self.new ≡ rate_reset self.old now }
     {
         self.samples = self.samples.restart(now);
     }
 
-    /// Counts the time from this moment on.
+    /// Counts the time of the progress from this moment on.
     pub(crate) fn put_start(&mut self, start: Moment)
         ensures { self.new ≡ record self.old { start = start } }
     {
         self.start = start;
     }
 
-    /// Counts everything from this moment on, and sets the position to 0.
+    /// Counts the whole progress from this moment on, and sets the position to 0.
     pub(crate) fn reset(&mut self, now: Moment)
         ensures { self.new ≡ progress_reset self.old now }
     {
@@ -331,7 +331,7 @@ impl ProgressState {
         self.status = Status::InProgress;
     }
 
-    /// Finishes it at this moment, at the length if there is one.
+    /// Finishes the progress at this moment, at the length if there is one.
     pub(crate) fn finish(&mut self, status: Status, now: Moment)
         ensures { self.new ≡ record (at_end self.old) { took = elapsed self.old now; status = status } }
     {
@@ -342,7 +342,7 @@ impl ProgressState {
         self.status = status;
     }
 
-    /// Finishes it at this moment, where it stands.
+    /// Finishes the progress at this moment, where it stands.
     pub(crate) fn abandon(&mut self, now: Moment)
         ensures { self.new ≡ record self.old { took = elapsed self.old now; status = DoneVisible } }
     {
@@ -350,7 +350,7 @@ impl ProgressState {
         self.status = Status::DoneVisible;
     }
 
-    /// Finishes it by this finish at this moment.
+    /// Finishes the progress by this finish at this moment.
     ///
     /// Refused: `Memory`, if the finish has a message; then nothing has changed.
     pub(crate) fn finish_by<S: Text>(
@@ -378,7 +378,7 @@ impl ProgressState {
         Ok(())
     }
 
-    /// Sets the message.
+    /// Sets the message of the progress.
     ///
     /// Refused: `Memory`, if the text isn't empty; then nothing has changed.
     pub(crate) fn set_message(&mut self, text: &str) -> Result<(), Refusal>
@@ -391,7 +391,7 @@ impl ProgressState {
         Ok(())
     }
 
-    /// Sets the prefix.
+    /// Sets the prefix of the progress.
     ///
     /// Refused: `Memory`, if the text isn't empty; then nothing has changed.
     pub(crate) fn set_prefix(&mut self, text: &str) -> Result<(), Refusal>
@@ -404,14 +404,14 @@ impl ProgressState {
         Ok(())
     }
 
-    /// The memory for the next text.
+    /// The memory for the next text of the progress.
     fn room(&mut self) -> TabbedText
         ensures { self.new ≡ self.old }
     {
         replace(&mut self.spare, TabbedText::new(self.alloc, self.tab))
     }
 
-    /// The texts with another tab width, in memory of their own.
+    /// The texts of the progress with another tab width, in memory of their own.
     ///
     /// Refused: `Memory`.
     pub(crate) fn widened(&self, tab: usize) -> Result<Widened, Refusal>
@@ -427,7 +427,7 @@ impl ProgressState {
         })
     }
 
-    /// Takes the texts with another tab width.
+    /// Takes the texts of the progress with another tab width.
     pub(crate) fn put_tab_width(&mut self, widened: Widened)
         requires { IsWidened widened self.old }
         ensures { self.new ≡ record self.old { tab = widened.tab } }

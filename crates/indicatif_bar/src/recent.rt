@@ -30,7 +30,7 @@ pub struct LastSeconds {
 const SPAN: u64 = 1_500_000_000;
 
 impl LastSeconds {
-    /// A count that begins at this sample.
+    /// The last seconds of a count that begins at this sample.
     pub fn starting(now: Sample) -> LastSeconds
         ensures { result ≡ from_sample now }
     {
@@ -40,7 +40,7 @@ impl LastSeconds {
         }
     }
 
-    /// Adds a sample. Steps that went back restart the count.
+    /// Adds a sample to the last seconds. Steps that went back restart the count.
     pub fn go_on(self, now: Sample) -> LastSeconds
         ensures { result ≡ after_sample self now }
     {
@@ -56,7 +56,7 @@ impl LastSeconds {
         self
     }
 
-    /// The rate up to this sample; no steps if no time has passed.
+    /// The rate of the last seconds up to this sample; no steps if no time has passed.
     pub fn rate(&self, now: Sample) -> Rate
         ensures { result ≡ recent_rate self.now now }
     {
@@ -108,7 +108,7 @@ impl Recent {
         Recent { key, seen: None }
     }
 
-    /// The rate.
+    /// The rate that a `Recent` shows.
     fn rate(&self, state: &ProgressState, now: Moment) -> Rate
         ensures rate { result ≡ rate_lately self.now state.now now }
         ensures some { 0 < result.nanos }
@@ -122,7 +122,7 @@ impl Recent {
         }
     }
 
-    /// The nanoseconds that are left at that rate.
+    /// The nanoseconds that are left at the rate of the last seconds.
     fn eta(&self, state: &ProgressState, now: Moment) -> u64
         ensures { result ≡ eta_lately self.now state.now now }
     {
@@ -136,7 +136,7 @@ impl Recent {
         self.rate(state, now).time_for(left)
     }
 
-    /// Appends its text.
+    /// Appends the text of a `Recent`.
     fn push(&self, state: &ProgressState, now: Moment, out: &mut String) -> Result<(), Refusal>
         ensures text { OnOk result (string_bytes out.new ≡ string_bytes out.old ++ text_lately self.now.key self.now state.now now) }
         ensures memory { IfErr result (λ e. e ≡ Refusal.Memory) }
@@ -157,7 +157,7 @@ impl Recent {
     }
 }
 
-/// The sample of a bar's state.
+/// The sample that a bar's state gives for the last seconds.
 fn sample_of(state: &ProgressState, now: Moment) -> Sample
     ensures { result ≡ stands state.now now }
 {

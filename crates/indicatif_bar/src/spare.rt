@@ -38,7 +38,7 @@ impl Model for SpareLines {
 }
 
 impl SpareLines {
-    /// No memory yet. It takes none.
+    /// Spare lines without memory yet. It takes none.
     pub fn new(alloc: Global) -> SpareLines {
         SpareLines {
             alloc,
@@ -47,7 +47,7 @@ impl SpareLines {
         }
     }
 
-    /// An empty list of lines.
+    /// An empty list of lines, in spare memory.
     pub(crate) fn lines(&mut self) -> Vec<LineType>
         ensures { result.items ≡ [] }
     {
@@ -56,7 +56,7 @@ impl SpareLines {
         lines
     }
 
-    /// An empty text for one line.
+    /// An empty text for one line, in spare memory.
     pub(crate) fn text(&mut self) -> String
         ensures { string_bytes result ≡ [] }
     {

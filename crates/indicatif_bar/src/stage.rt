@@ -51,7 +51,7 @@ impl<T: TermLike + Drop> Stage<T> {
         Stage { engine, limiter }
     }
 
-    /// The terminal; `None` if the target is hidden.
+    /// The stage's terminal; `None` if the target is hidden.
     pub fn term(&self) -> Option<&T>
         ensures { option_map (λ t. t.now) result ≡ stage_terminal self.now }
     {
@@ -61,7 +61,7 @@ impl<T: TermLike + Drop> Stage<T> {
         }
     }
 
-    /// The terminal, with what stands on it; `None` if the target is hidden. Nothing is written.
+    /// The stage's terminal, with what stands on it; `None` if the target is hidden. Nothing is written.
     pub fn into_term(mut self) -> Option<T>
         ensures { result ≡ stage_terminal self }
     {
@@ -71,15 +71,15 @@ impl<T: TermLike + Drop> Stage<T> {
         }
     }
 
-    /// Whether the target is hidden.
+    /// Whether the stage's target is hidden.
     pub fn is_hidden(&self) -> bool
         ensures { IsTrue result ↔ (stage_terminal self.now ≡ None) }
     {
         self.engine.is_none()
     }
 
-    /// Sets the target, on which nothing is drawn, and returns the old one, with its limiter as the draws left it. Nothing is written to
-    /// either.
+    /// Sets the stage's target, on which nothing is drawn, and returns the old one, with its limiter as the draws left it. Nothing is
+    /// written to either.
     pub fn set_draw_target(
         &mut self,
         alloc: Global,
@@ -99,7 +99,8 @@ impl<T: TermLike + Drop> Stage<T> {
         }
     }
 
-    /// Sets whether draws write their lines over the old ones: `Engine::set_move_cursor`. On a hidden target this does nothing.
+    /// Sets whether draws on the stage write their lines over the old ones: `Engine::set_move_cursor`. On a hidden target this does
+    /// nothing.
     pub fn set_move_cursor(&mut self, on: bool)
         ensures terminal { stage_terminal self.new ≡ stage_terminal self.old }
         ensures moves { IfSome (stage_moves self.new) (λ moves. moves ≡ on) }

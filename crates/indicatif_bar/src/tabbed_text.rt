@@ -31,7 +31,7 @@ impl Model for TabbedText {
 }
 
 impl TabbedText {
-    /// An empty text. Takes no memory.
+    /// An empty text, with this tab width. Takes no memory.
     pub(crate) fn new(alloc: Global, tab: usize) -> TabbedText
         ensures { result ≡ record { text = []; tab = tab } }
     {
@@ -43,7 +43,7 @@ impl TabbedText {
         }
     }
 
-    /// Another text, in the memory of this one. An empty one is never refused.
+    /// Another text with its tabs expanded, in the memory of this one. An empty one is never refused.
     pub(crate) fn refilled(self, text: &str, tab: usize) -> Result<TabbedText, AllocError>
         ensures text { IfOk result (λ t. t ≡ record { text = text.now; tab = tab }) }
         ensures needed { OnErr result (IsTrue (is_some_text text.now)) }
@@ -98,7 +98,7 @@ impl TabbedText {
         self.tab = tab;
     }
 
-    /// A copy of the limiter.
+    /// A copy of the text, and of the one with its tabs expanded.
     pub(crate) fn try_clone(&self, alloc: Global) -> Result<TabbedText, AllocError>
         ensures { IfOk result (λ other. other ≡ self.now) }
     {

@@ -6,7 +6,7 @@ use crate::scan::has_byte;
 use indicatif_text::columns::Refusal;
 use std::alloc::AllocError;
 
-/// Appends `count` spaces. A count for which there is no memory is refused at once.
+/// Appends `count` spaces, as those of a tab. A count for which there is no memory is refused at once.
 pub(crate) fn push_spaces(count: usize, out: &mut String) -> Result<(), AllocError>
     ensures { OnOk result (string_bytes out.new ≡ string_bytes out.old ++ replicate count 0x20) }
 {

@@ -14,7 +14,7 @@ pub trait Text: Drop {
     /// Its bytes, in UTF-8.
     ghost bytes: { Self → List ℕ };
 
-    /// The text.
+    /// The text of the command, owned or borrowed.
     fn as_text(&self) -> &str
         ensures { result.now ≡ bytes self.now };
 }

@@ -31,7 +31,7 @@ pub trait ProgressTracker: Sized + Send + Sync + Drop {
     fn reset(&mut self, state: &ProgressState, now: Moment)
         ensures { self.new ≡ means.was_reset self.old state.now now };
 
-    /// Appends the text. A tab in it is shown as the bar's other tabs are.
+    /// Appends the tracker's text. A tab in it is shown as the bar's other tabs are.
     ///
     /// Refused: `Memory`; then `out` is unchanged.
     fn write(&self, state: &ProgressState, now: Moment, out: &mut String) -> Result<(), Refusal>
@@ -60,15 +60,15 @@ pub trait Tracks: Sized + Drop {
     /// The text, and how a tick and a reset change the tracker.
     ghost means: { Tracking Self };
 
-    /// As `ProgressTracker::tick`.
+    /// Ticks the tracker, as `ProgressTracker::tick`.
     fn track_tick(&mut self, state: &ProgressState, now: Moment)
         ensures { self.new ≡ means.ticked self.old state.now now };
 
-    /// As `ProgressTracker::reset`.
+    /// Resets the tracker, as `ProgressTracker::reset`.
     fn track_reset(&mut self, state: &ProgressState, now: Moment)
         ensures { self.new ≡ means.was_reset self.old state.now now };
 
-    /// As `ProgressTracker::write`.
+    /// Appends the tracker's text, as `ProgressTracker::write`.
     ///
     /// Refused: `Memory`; then `out` is unchanged.
     fn track_text(
@@ -82,7 +82,7 @@ pub trait Tracks: Sized + Drop {
         ensures unchanged { OnErr result (string_bytes out.new ≡ string_bytes out.old) }
         ensures memory { IfErr result (λ e. e ≡ Refusal.Memory) };
 
-    /// As `ProgressTracker::try_clone`.
+    /// A copy of the tracker, as `ProgressTracker::try_clone`.
     ///
     /// Refused: `Memory`.
     fn track_clone(&self) -> Result<Self, Refusal>
@@ -165,7 +165,7 @@ pub trait TellsText: Sized + Send + Sync + Drop {
     /// The text at a state and a moment, in bytes of UTF-8.
     ghost told_text: { Self → Progress → ℕ → List ℕ };
 
-    /// Returns that text.
+    /// Returns the tracker's text in this state at this moment.
     ///
     /// Refused: `Memory`.
     fn tell(&self, state: &ProgressState, now: Moment) -> Result<String, Refusal>

@@ -16,7 +16,7 @@ use Rattle.indicatif_bar.specs.Runs.{CallMade, lines_by, wrote}
 use Rattle.indicatif_bar.specs.Shown.{DrewOn, WritesLinesOn}
 use Rattle.indicatif_bar.proofs.OutcomeLemmas.{writes_nothing}
 use Rattle.indicatif_board.specs.BoardBars.{board_bars}
-use Rattle.indicatif_board.specs.Boards.{BoardState, Call, Id, Location, Entrant, removed, Done, New, Insert, Given, inserted, taken_in, anchor_turned_away, Answer, Refused, Tell, says, drawn_of, drawn_of_said, turned_away, or_refused, draws, draw_of_command, deed_of, board}
+use Rattle.indicatif_board.specs.Boards.{BoardState, Call, Id, Location, Entrant, removed, Accepted, New, Insert, Given, inserted, taken_in, anchor_turned_away, Answer, Refused, Tell, says, drawn_of, drawn_of_said, turned_away, or_refused, draws, draw_of_command, deed_of, board}
 use Rattle.indicatif_board.specs.Members.{place_of, is_member, without, said_of}
 use Rattle.indicatif_board.proofs.MemberLemmas.{said_none, said_there}
 
@@ -138,7 +138,7 @@ absent_is_none mark id s e own same = absence_of (not (id.mark == mark)) (is_mem
 
 -- what a removal is about to do
 pub removed_deed : {K : Type 0} → (mark : ℕ) (id : Id) (s : BoardState (BarRecord K)) (b : Bool) → id.mark ≡ mark → is_member id.number s.members ≡ b →
-    removed mark id s ≡ AtOnce false Done (if b then record s { members = without id.number s.members } else s)
+    removed mark id s ≡ AtOnce false Accepted (if b then record s { members = without id.number s.members } else s)
 removed_deed mark id s b own e = rw (eq-eqb id.mark mark own, e) refl
 
 pub removed_foreign : {K : Type 0} → (mark : ℕ) (id : Id) (s : BoardState (BarRecord K)) → id.mark ≢ mark → removed mark id s ≡ AtOnce false (Refused ForeignBar) s

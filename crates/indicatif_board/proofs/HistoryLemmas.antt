@@ -26,7 +26,7 @@ use Rattle.indicatif_bar.proofs.BoundLemmas.{runs_bounded}
 use Rattle.indicatif_bar.proofs.RunLemmas.{one_outcome}
 use Rattle.indicatif_bar.proofs.SoundRunLemmas.{drawn_keeps}
 use Rattle.indicatif_board.specs.BoardBars.{board_bars}
-use Rattle.indicatif_board.specs.Boards.{BoardState, BoardKind, Call, Insert, Remove, Drop, Log, BarLog, Clear, Redraw, Align, Tell, Answer, Drew, says, Location, Entrant, New, Old, turned_away, anchor_turned_away, or_refused, inserted, taken_out, draws, draw_of, log_of, laid_out, layout_takes, bar_changed, left_by, left_on, ownerless_on, opening_board, board}
+use Rattle.indicatif_board.specs.Boards.{BoardState, BoardKind, Call, Insert, Remove, Drop, Log, BarLog, Clear, Redraw, Align, Tell, Answer, Drew, drawn_of, says, Location, Entrant, New, Old, turned_away, anchor_turned_away, or_refused, inserted, taken_out, draws, draw_of, log_of, laid_out, layout_takes, bar_changed, left_by, left_on, ownerless_on, opening_board, board}
 use Rattle.indicatif_board.specs.HistoryLaws.{AboveOnlyGrows, text_of, AreUnbroken, FollowsFromItsCalls, HasBoundedDraws, LoggedRowsStand, IsReadAsItsRun}
 use Rattle.indicatif_board.specs.Members.{is_member, is_head, without, said_of, leaders, frame_of}
 use Rattle.indicatif_board.specs.Recorded.{BoardStep, calls_of, answers_of}
@@ -253,23 +253,76 @@ module _ {K : Type 0} (m : Tracking K) (mark : ℕ) where
   abbrev Rows : Target → List ℕ → List (List Cell) → Type 0
   Rows target text above = (front : List (List Cell)) × (rest : List (List Cell)) × (above ≡ front ++ flat_map (rows_of target.columns) (text_lines (logged_lines text)) ++ rest)
 
+  -- the first call logs the text
+  logged_first : (target : Target) (after : List (BoardStep K)) (call : Call (BarRecord K) (Command K)) (now : ℕ) (text : List ℕ) (old : Option TermView) (s : BoardState (BarRecord K))
+      (new : Option TermView) (next : BoardState (BarRecord K)) → text_of call ≡ Some text → target_of old ≡ target → AreUnbroken after →
+      (let steps = record { call = call; now = now; answer = Drew Yes } ∷ after in Runs (board (board_bars m) mark) (calls_of steps) (answers_of steps) old s new next) →
+      Begin (s.lists.above ++ flat_map (rows_of target.columns) (text_lines (logged_lines text))) next.lists.above
+  logged_first target after call now text old s new next is size fine run =
+      let x = run.1 in
+      let rows = flat_map (rows_of target.columns) (text_lines (logged_lines text)) in
+      let here = subst (λ t. Begin (s.lists.above ++ flat_map (rows_of t.columns) (text_lines (logged_lines text))) x.lists.above) size
+      (logged_now (board_bars m) mark (target_of old) call now text s x is run.2.leads) in
+      let later = above_only_grows (board_bars m) mark (calls_of after) (answers_of after) run.0 x new next run.3 fine in
+      (here.0 ++ later.0, later.1 ∙ ap (λ a. a ++ later.0) here.1 ∙ append_assoc (s.lists.above ++ rows) here.0 later.0)
+
   logged_then : (target : Target) (before after : List (BoardStep K)) (call : Call (BarRecord K) (Command K)) (now : ℕ) (text : List ℕ) (old : Option TermView) (s : BoardState (BarRecord K))
       (new : Option TermView) (next : BoardState (BarRecord K)) → text_of call ≡ Some text → target_of old ≡ target → AreUnbroken after →
       (let steps = before ++ record { call = call; now = now; answer = Drew Yes } ∷ after in Runs (board (board_bars m) mark) (calls_of steps) (answers_of steps) old s new next) →
       Rows target text next.lists.above
   logged_then target [] after call now text old s new next is size fine run =
-      let x = run.1 in
-      let rows = flat_map (rows_of target.columns) (text_lines (logged_lines text)) in
-      let here = subst (λ t. Begin (s.lists.above ++ flat_map (rows_of t.columns) (text_lines (logged_lines text))) x.lists.above) size
-      (logged_now (board_bars m) mark (target_of old) call now text s x is run.2.leads) in
-      let later = above_only_grows (board_bars m) mark (calls_of after) (answers_of after) run.0 x new next run.3 fine in (
-        s.lists.above,
-        here.0 ++ later.0,
-        later.1 ∙ ap (λ a. a ++ later.0) here.1 ∙ append_assoc (s.lists.above ++ rows) here.0 later.0,
-      )
+      let first = logged_first target after call now text old s new next is size fine run in
+      (s.lists.above, first.0, first.1)
   logged_then target (e ∷ before) after call now text old s new next is size fine run =
       let machine = board (board_bars m) mark in
       logged_then target before after call now text run.0 run.1 new next is (size_stays machine old run.0 (e.call, e.now) s run.1 e.answer run.2 ∙ size) fine run.3
+
+  -- what is above stays there, and a text that is logged later comes below it
+  logged_behind : (target : Target) (between after : List (BoardStep K)) (call : Call (BarRecord K) (Command K)) (now : ℕ) (text : List ℕ) (old : Option TermView) (s : BoardState (BarRecord K))
+      (new : Option TermView) (next : BoardState (BarRecord K)) → text_of call ≡ Some text → target_of old ≡ target → AreUnbroken between → AreUnbroken after →
+      (let steps = between ++ record { call = call; now = now; answer = Drew Yes } ∷ after in Runs (board (board_bars m) mark) (calls_of steps) (answers_of steps) old s new next) →
+      (more : List (List Cell)) × (rest : List (List Cell)) × (next.lists.above ≡ s.lists.above ++ more ++ flat_map (rows_of target.columns) (text_lines (logged_lines text)) ++ rest)
+  logged_behind target [] after call now text old s new next is size whole fine run =
+      let rows = flat_map (rows_of target.columns) (text_lines (logged_lines text)) in
+      let first = logged_first target after call now text old s new next is size fine run in
+      ([], first.0, first.1 ∙ ap (λ a. (a ++ rows) ++ first.0) (sym (append-nil s.lists.above)))
+  logged_behind target (e ∷ between) after call now text old s new next is size whole fine run =
+      let machine = board (board_bars m) mark in
+      let rows = flat_map (rows_of target.columns) (text_lines (logged_lines text)) in
+      let p = or_parts (is_failure (drawn_of e.answer)) (list_any (λ answer. is_failure (drawn_of answer)) (answers_of between)) whole in
+      let x = run.1 in
+      let grown = above_only_grows (board_bars m) mark ((e.call, e.now) ∷ []) (e.answer ∷ []) old s run.0 x (run.0, x, run.2, (refl, refl)) (rw p.0 refl) in
+      let later = logged_behind target between after call now text run.0 x new next is (size_stays machine old run.0 (e.call, e.now) s x e.answer run.2 ∙ size) p.1 fine run.3 in (
+        grown.0 ++ later.0,
+        later.1,
+        later.2 ∙ ap (λ a. ((a ++ later.0) ++ rows) ++ later.1) grown.1 ∙ ap (λ a. (a ++ rows) ++ later.1) (append_assoc s.lists.above grown.0 later.0),
+      )
+
+  -- two texts, one after the other
+  pub logged_in_order : (target : Target) (before between after : List (BoardStep K)) (one other : Call (BarRecord K) (Command K)) (now later : ℕ) (text below : List ℕ) (old : Option TermView)
+      (s : BoardState (BarRecord K)) (new : Option TermView) (next : BoardState (BarRecord K)) → text_of one ≡ Some text → text_of other ≡ Some below → target_of old ≡ target →
+      AreUnbroken between → AreUnbroken after →
+      (let steps = before ++ record { call = one; now = now; answer = Drew Yes } ∷ (between ++ record { call = other; now = later; answer = Drew Yes } ∷ after) in
+      Runs (board (board_bars m) mark) (calls_of steps) (answers_of steps) old s new next) →
+      (front : List (List Cell)) × (middle : List (List Cell)) × (rest : List (List Cell))
+      × (next.lists.above ≡ front ++ flat_map (rows_of target.columns) (text_lines (logged_lines text)) ++ middle ++ flat_map (rows_of target.columns) (text_lines (logged_lines below)) ++ rest)
+  logged_in_order target [] between after one other now later text below old s new next is is' size whole fine run =
+      let machine = board (board_bars m) mark in
+      let x = run.1 in
+      let rows = flat_map (rows_of target.columns) (text_lines (logged_lines text)) in
+      let rows' = flat_map (rows_of target.columns) (text_lines (logged_lines below)) in
+      let here = subst (λ t. Begin (s.lists.above ++ flat_map (rows_of t.columns) (text_lines (logged_lines text))) x.lists.above) size
+      (logged_now (board_bars m) mark (target_of old) one now text s x is run.2.leads) in
+      let behind = logged_behind target between after other later below run.0 x new next is' (size_stays machine old run.0 (one, now) s x (Drew Yes) run.2 ∙ size) whole fine run.3 in (
+        s.lists.above,
+        here.0 ++ behind.0,
+        behind.1,
+        behind.2 ∙ ap (λ a. ((a ++ behind.0) ++ rows') ++ behind.1) here.1 ∙ ap (λ a. (a ++ rows') ++ behind.1) (append_assoc (s.lists.above ++ rows) here.0 behind.0),
+      )
+  logged_in_order target (e ∷ before) between after one other now later text below old s new next is is' size whole fine run =
+      let machine = board (board_bars m) mark in
+      logged_in_order target before between after one other now later text below run.0 run.1 new next is is'
+      (size_stays machine old run.0 (e.call, e.now) s run.1 e.answer run.2 ∙ size) whole fine run.3
 
 -- ---- the laws
 

@@ -7,7 +7,7 @@ use Rattle.indicatif_text.specs.declared.refusal.Refusal.TheVariants.{ForeignBar
 use Rattle.indicatif_bar.specs.Trackers.{Tracking}
 use Rattle.indicatif_bar.specs.Commands.{BarRecord, Command}
 use Rattle.indicatif_bar.proofs.LoneRunLemmas.{any-push}
-use Rattle.indicatif_board.specs.Boards.{Id, Location, Entrant, New, Old, Call, Insert, Remove, Drop, Log, BarLog, Clear, Redraw, Align, Tell, Answer, Given, Done, Drew, Refused}
+use Rattle.indicatif_board.specs.Boards.{Id, Location, Entrant, New, Old, Call, Insert, Remove, Drop, Log, BarLog, Clear, Redraw, Align, Tell, Answer, Given, Accepted, Drew, Refused}
 use Rattle.indicatif_board.specs.Calls.{NamesForeign, AreTurnedAway, answer_of, is_bar, acts_on, gives}
 use Rattle.indicatif_board.specs.Multi.{record_at, mark_of, seat_in, slots_of, NamedGoes, RecordsTake, RecordsChange, SlotsTake, SlotsLeft, SlotsChange, StaysInSlot, StaysOrComes}
 use Rattle.indicatif_board.specs.Slots.{SlotTable, IsSeated, LeavesHead, LeavesFrom, seated, slot_of}
@@ -46,7 +46,7 @@ taken_keeps number (New bar) (Given id) old new took = elim (cases_Bool (id.numb
   | inl here ↦ inr (subst (λ n. record_at n old ≡ None) (eqb-true id.number number here) took.1, here)
   | inr apart ↦ inl (took.3 number (λ e. false≢true (sym apart ∙ eq-eqb id.number number (sym e))))
 ]
-taken_keeps number (New bar) Done old new took = inl (took number)
+taken_keeps number (New bar) Accepted old new took = inl (took number)
 taken_keeps number (New bar) (Drew drawn) old new took = inl (took number)
 taken_keeps number (New bar) (Refused e) old new took = inl (took number)
 taken_keeps number (Old id) answer old new took = inl (took number)
@@ -108,7 +108,7 @@ new_one number at t t' seats made e =
 module _ {K T : Type 0} (b c : Board K T) (number : ℕ) (seats : IsSeated (slots_of b)) (made : number < (slots_of b).made) where
   taken_one : (at : Location) (entrant : Entrant (BarRecord K)) (answer : Answer) → SlotsTake at entrant answer b c → KeepsOne number (slots_of b) (slots_of c)
   taken_one at (New bar) (Given id) took = new_one number (seat_in at (slots_of b).order) (slots_of b) (slots_of c) seats made took.1
-  taken_one at (New bar) Done took = same_one number (slots_of b) (slots_of c) made took
+  taken_one at (New bar) Accepted took = same_one number (slots_of b) (slots_of c) made took
   taken_one at (New bar) (Drew drawn) took = same_one number (slots_of b) (slots_of c) made took
   taken_one at (New bar) (Refused e) took = same_one number (slots_of b) (slots_of c) made took
   taken_one at (Old id) answer took = same_one number (slots_of b) (slots_of c) made took

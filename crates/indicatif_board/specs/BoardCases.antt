@@ -14,7 +14,7 @@ use Rattle.indicatif_bar.specs.declared.ask.Ask.{Ask}
 use Rattle.indicatif_bar.specs.declared.ask.Ask.TheVariants.{No, Unforced, Forced}
 use Rattle.indicatif_board.specs.BoardBars.{board_bars}
 use Rattle.indicatif_board.specs.Members.{order_of, Member}
-use Rattle.indicatif_board.specs.Boards.{BoardKind, BoardState, opening_board, Id, End, Index, FromBack, Before, After, New, Old, Call, Insert, Remove, Drop, Log, BarLog, Clear, Redraw, Align, Tell, Answer, Given, Done, Drew, Refused, board}
+use Rattle.indicatif_board.specs.Boards.{BoardKind, BoardState, opening_board, Id, End, Index, FromBack, Before, After, New, Old, Call, Insert, Remove, Drop, Log, BarLog, Clear, Redraw, Align, Tell, Answer, Given, Accepted, Drew, Refused, board}
 
 -- ---- a plain bar
 
@@ -173,7 +173,7 @@ Ordered =
     ∷ Insert (Before (id 4)) p ∷ Insert (After (id 3)) (Old foreign) ∷ remove_it 4 ∷ []) in
     (order_of (ran_in 5 9 calls).1.members ≡ 3 ∷ 5 ∷ 4 ∷ 0 ∷ 6 ∷ 1 ∷ 2 ∷ [])
     × (again.0 ≡ map (λ n. Given (id n)) (0 ∷ 1 ∷ 2 ∷ 3 ∷ 4 ∷ 5 ∷ 6 ∷ [])
-    ++ Given (id 4) ∷ Refused ForeignBar ∷ Drew Yes ∷ Refused NotMember ∷ Refused NotMember ∷ Refused NotMember ∷ Refused ForeignBar ∷ Done ∷ [])
+    ++ Given (id 4) ∷ Refused ForeignBar ∷ Drew Yes ∷ Refused NotMember ∷ Refused NotMember ∷ Refused NotMember ∷ Refused ForeignBar ∷ Accepted ∷ [])
     × (order_of again.1.members ≡ 3 ∷ 5 ∷ 4 ∷ 0 ∷ 6 ∷ 1 ∷ 2 ∷ [])
     × (order_of (ran_in 5 9 (add [] ∷ add [] ∷ Insert (Index 1) p ∷ Insert (Index 9) p ∷ Insert (FromBack 1) p ∷ Insert (FromBack 9) p ∷ [])).1.members ≡ 5 ∷ 0 ∷ 2 ∷ 1 ∷ 4 ∷ 3 ∷ [])
 
@@ -199,12 +199,12 @@ LongLog =
 
 -- a bar removed twice is no refusal; a command of it finds no bar
 abbrev pub RemovedTwice : Type 0
-RemovedTwice = (ran_in 4 10 (add (codes "a") ∷ remove_it 0 ∷ remove_it 0 ∷ touch 0 ∷ [])).0 ≡ Given (id 0) ∷ Done ∷ Done ∷ Refused NotMember ∷ []
+RemovedTwice = (ran_in 4 10 (add (codes "a") ∷ remove_it 0 ∷ remove_it 0 ∷ touch 0 ∷ [])).0 ≡ Given (id 0) ∷ Accepted ∷ Accepted ∷ Refused NotMember ∷ []
 
 -- a line that is too wide for the terminal: no bar is drawn until its bar is removed
 abbrev pub TooWideForAll : Type 0
 TooWideForAll = (ran_in 1 1 (add (codes "a") ∷ touch 0 ∷ add (0xE5 ∷ 0x9B ∷ 0xBD ∷ []) ∷ touch 1 ∷ touch 0 ∷ remove_it 1 ∷ touch 0 ∷ [])).0
-    ≡ Given (id 0) ∷ Drew Yes ∷ Given (id 1) ∷ Refused TooWide ∷ Refused TooWide ∷ Done ∷ Drew Yes ∷ []
+    ≡ Given (id 0) ∷ Drew Yes ∷ Given (id 1) ∷ Refused TooWide ∷ Refused TooWide ∷ Accepted ∷ Drew Yes ∷ []
 
 -- 20 draws a second: the 21st at once is limited, a forced one isn't
 abbrev pub TwentyDrawsAtOnce : Type 0
@@ -220,7 +220,7 @@ OwnText =
     × LeavesRows 4 10 (both ++ BarLog (id 1) (codes "l") ∷ []) (codes "l" ∷ codes "a" ∷ codes "b" ∷ [])
     × LeavesRows 4 10 (both ++ touch 1 ∷ finish_it 0 ∷ drop_it 0 ∷ BarLog (id 1) (codes "l") ∷ []) (codes "l" ∷ codes "b" ∷ [])
     × ((ran_in 4 10 (both ++ BarLog (id 1) [] ∷ remove_it 1 ∷ BarLog (id 1) [] ∷ BarLog foreign [] ∷ [])).0
-    ≡ Given (id 0) ∷ Given (id 1) ∷ Drew Yes ∷ Drew Yes ∷ Done ∷ Refused NotMember ∷ Refused ForeignBar ∷ [])
+    ≡ Given (id 0) ∷ Given (id 1) ∷ Drew Yes ∷ Drew Yes ∷ Accepted ∷ Refused NotMember ∷ Refused ForeignBar ∷ [])
 
 -- a clear erases the bars' rows, and those of bars that are gone; texts stay, and the next draw shows the bars again
 abbrev pub ClearedRows : Type 0

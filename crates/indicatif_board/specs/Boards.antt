@@ -83,7 +83,7 @@ pub data Call (B C : Type 0) : Type 0 where
 -- the answer of a call
 pub data Answer : Type 0 where
   Given : (id : Id) → Answer
-  Done : Answer
+  Accepted : Answer
   Drew : (drawn : Drawn) → Answer
   Refused : (refusal : Refusal) → Answer
 
@@ -95,7 +95,7 @@ says (Err e) = Refused e
 -- what an answer says of a draw; `Limited` if it says nothing of one
 abbrev pub drawn_of : Answer → Result Drawn Refusal
 drawn_of (Given id) = Ok Limited
-drawn_of Done = Ok Limited
+drawn_of Accepted = Ok Limited
 drawn_of (Drew d) = Ok d
 drawn_of (Refused e) = Err e
 
@@ -151,7 +151,7 @@ taken_out number s = if is_member number s.members then record s { members = wit
 
 -- a bar that isn't there is no refusal
 abbrev pub removed : {B : Type 0} → ℕ → Id → BoardState B → Deed (BoardState B) Answer
-removed mark id s = if not (id.mark == mark) then AtOnce false (Refused ForeignBar) s else AtOnce false Done (taken_out id.number s)
+removed mark id s = if not (id.mark == mark) then AtOnce false (Refused ForeignBar) s else AtOnce false Accepted (taken_out id.number s)
 
 -- ---- the steps of a draw
 
@@ -245,7 +245,7 @@ module _ {B C : Type 0} (kind : BoardKind B C) where
   deed_of mark target (BarLog id text) now s = or_refused (turned_away mark id s) (draws (log_of target text now s (laid_out target now id.number s) (layout_takes id.number s))) s
   deed_of mark target Clear now s = draws (draw_of target false Forced now NoFrame s s false)
   deed_of mark target Redraw now s = draws (draw_of target false Forced now Frame s s false)
-  deed_of mark target (Align bottom) now s = AtOnce false Done (record s { bottom = bottom })
+  deed_of mark target (Align bottom) now s = AtOnce false Accepted (record s { bottom = bottom })
   deed_of mark target (Tell id command) now s =
       or_refused (turned_away mark id s) (or_refused (said_of None (λ bar. kind.bars.refused command bar now) id.number s.members) (draws (draw_of_command target id.number command now s)) s) s
 

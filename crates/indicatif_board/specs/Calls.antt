@@ -5,7 +5,7 @@ use Rattle.indicatif_text.specs.declared.refusal.Refusal.TheVariants.{ForeignBar
 use Rattle.indicatif_bar.specs.Tabs.{is_some_text}
 use Rattle.indicatif_bar.specs.Commands.{BarRecord, Command, command_as, copy_takes_memory}
 use Rattle.indicatif_term.specs.DrawTargets.{is_bottom}
-use Rattle.indicatif_board.specs.Boards.{Entrant, New, Old, Location, End, Index, FromBack, Before, After, Id, Call, Insert, Remove, Drop, Log, BarLog, Clear, Redraw, Align, Tell, Answer, Given, Done, Drew, Refused}
+use Rattle.indicatif_board.specs.Boards.{Entrant, New, Old, Location, End, Index, FromBack, Before, After, Id, Call, Insert, Remove, Drop, Log, BarLog, Clear, Redraw, Align, Tell, Answer, Given, Accepted, Drew, Refused}
 use Rattle.indicatif_board.specs.BoardValues.{id_of}
 use Rattle.indicatif_board.specs.declared.bar_id.BarId.{BarId}
 use Rattle.indicatif_board.specs.declared.calls.Candidate.{Candidate}
@@ -30,7 +30,7 @@ given (Err turned) = Refused turned.refusal
 
 -- the answer of a removal
 abbrev pub removal : {K : Type 0} → Result (Option (BarRecord K)) Refusal → Answer
-removal (Ok bar) = Done
+removal (Ok bar) = Accepted
 removal (Err e) = Refused e
 
 -- ---- values
@@ -75,7 +75,7 @@ call_copy_takes _ = false
 -- an answer that is a value, as its definition
 abbrev pub answer_of : AnswerValue → Answer
 answer_of (answer.Id id) = Given (id_of id)
-answer_of answer.Done = Done
+answer_of answer.Accepted = Accepted
 answer_of (answer.Drawn drawn) = Drew drawn
 answer_of (answer.Refused refusal) = Refused refusal
 

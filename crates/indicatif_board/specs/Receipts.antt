@@ -1,5 +1,5 @@
 -- Receipts: what is claimed of an entry of a history, and what follows where the history holds it.
-use Rattle.std.specs.Prelude.{◌≡◌, ℕ, suc, List, ◌++◌, drop, flat_map, Option, Some, slice_get, string_bytes}
+use Rattle.std.specs.Prelude.{◌≡◌, ℕ, suc, ◌<◌, List, ◌++◌, drop, flat_map, Option, Some, slice_get, string_bytes}
 use Rattle.indicatif_text.specs.Columns.{Cell, rows_of}
 use Rattle.indicatif_text.specs.declared.refusal.Drawn.TheVariants.{Yes}
 use Rattle.indicatif_term.specs.Calls.{TermView}
@@ -20,6 +20,10 @@ step_claimed receipt = record { call = Log (string_bytes receipt.text); now = re
 abbrev pub Holds : {K T : Type 0} → Record K T → Receipt → Type 0
 Holds r receipt = (r.mark ≡ receipt.mark) × (slice_get r.steps receipt.number ≡ Some (step_claimed receipt))
 
+-- the rows of its text on a terminal of w columns
+abbrev pub claimed_rows : ℕ → Receipt → List (List Cell)
+claimed_rows w receipt = flat_map (rows_of w) (text_lines (logged_lines (string_bytes receipt.text)))
+
 module _ {K : Type 0} (T : Type 0) (m : Tracking K) where
   -- what a history holds, it holds after one call more
   abbrev pub HeldStays : Type 0
@@ -32,4 +36,12 @@ module _ {K : Type 0} (T : Type 0) (m : Tracking K) where
   HeldRowsStand =
       (opened : Option TermView) (r : Record K T) (last : Option TermView) (run : IsRun m opened r last) (receipt : Receipt) →
       Holds r receipt → answer_of receipt.answer ≡ Drew Yes → AreUnbroken (drop (suc receipt.number) r.steps) →
-      (front : List (List Cell)) × (rest : List (List Cell)) × (run.state.lists.above ≡ front ++ flat_map (rows_of r.target.columns) (text_lines (logged_lines (string_bytes receipt.text))) ++ rest)
+      (front : List (List Cell)) × (rest : List (List Cell)) × (run.state.lists.above ≡ front ++ claimed_rows r.target.columns receipt ++ rest)
+
+  -- of two such texts the rows of the later entry are below those of the earlier one
+  abbrev pub HeldRowsStandInOrder : Type 0
+  HeldRowsStandInOrder =
+      (opened : Option TermView) (r : Record K T) (last : Option TermView) (run : IsRun m opened r last) (one other : Receipt) → Holds r one → Holds r other → one.number < other.number →
+      answer_of one.answer ≡ Drew Yes → answer_of other.answer ≡ Drew Yes → AreUnbroken (drop (suc one.number) r.steps) →
+      (front : List (List Cell)) × (between : List (List Cell)) × (rest : List (List Cell))
+      × (run.state.lists.above ≡ front ++ claimed_rows r.target.columns one ++ between ++ claimed_rows r.target.columns other ++ rest)

@@ -9,7 +9,7 @@ use Rattle.indicatif_bar.specs.Commands.{BarRecord, Command}
 use Rattle.indicatif_bar.specs.Machines.{Target, target_of}
 use Rattle.indicatif_bar.specs.Runs.{Runs}
 use Rattle.indicatif_board.specs.BoardBars.{board_bars}
-use Rattle.indicatif_board.specs.Boards.{BoardState, Call, Insert, Remove, New, Answer, Done, Refused, opening_board, board}
+use Rattle.indicatif_board.specs.Boards.{BoardState, Call, Insert, Remove, New, Answer, Accepted, Refused, opening_board, board}
 use Rattle.indicatif_board.specs.Members.{Member, is_member, said_of}
 use Rattle.indicatif_board.specs.Calls.{call_of, answer_of}
 use Rattle.indicatif_board.specs.Multi.{IsIn, LeadsBy, SlotsChange, RecordsChange, known}
@@ -88,5 +88,5 @@ module _ {K T : Type 0} where
 -- the bar that a call with this answer hands back: a new one that was refused, or one that was removed
 abbrev pub handed_back : {K : Type 0} → Call (BarRecord K) (Command K) → Answer → BarRecord K → List (Member (BarRecord K)) → Option (BarRecord K)
 handed_back (Insert at (New bar)) (Refused e) other members = Some bar
-handed_back (Remove id) Done other members = if is_member id.number members then Some (said_of other (λ b. b) id.number members) else None
+handed_back (Remove id) Accepted other members = if is_member id.number members then Some (said_of other (λ b. b) id.number members) else None
 handed_back _ _ other members = None

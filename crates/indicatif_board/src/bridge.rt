@@ -61,7 +61,7 @@ pub fn emit<K: Tracks, T: TermLike + Drop>(
     board.println(line.as_str(), now)
 }
 
-/// A level as the start of a line.
+/// A level as the start of a log line.
 fn front_of(level: Level) -> &'static str
     ensures { result.now ≡ level_column level ++ 0x20 ∷ [] }
 {
@@ -74,7 +74,7 @@ fn front_of(level: Level) -> &'static str
     }
 }
 
-/// Appends a text, in memory that was taken before.
+/// Appends a text to a log line, in memory that was taken before.
 fn append(out: &mut String, text: &str)
     requires { string_len out.old + length text.now ≤ string_capacity out.old }
     ensures bytes { string_bytes out.new ≡ string_bytes out.old ++ text.now }

@@ -67,7 +67,7 @@ impl Answer {
     {
         match self {
             Answer::Id(id) => Answer::Id(*id),
-            Answer::Done => Answer::Done,
+            Answer::Accepted => Answer::Accepted,
             Answer::Drawn(drawn) => Answer::Drawn(*drawn),
             Answer::Refused(refusal) => Answer::Refused(*refusal),
         }

@@ -97,14 +97,14 @@ pub enum Call<K> {
 ///
 /// ```
 /// board.call(Call::Clear, now) // Answer::Drawn(Drawn::Yes)
-/// board.call(Call::Remove(id), now) // Answer::Done; of another board's bar Answer::Refused(Refusal::ForeignBar)
+/// board.call(Call::Remove(id), now) // Answer::Accepted; of another board's bar Answer::Refused(Refusal::ForeignBar)
 /// ```
 #[derive(Debug, Drop, PartialEq, Eq)]
 pub enum Answer {
     /// The bar that was inserted, or was there already.
     Id(BarId),
     /// It was done, and has no other result.
-    Done,
+    Accepted,
     /// Whether the call drew.
     Drawn(Drawn),
     /// It was refused.
@@ -150,7 +150,7 @@ pub fn removal_answer<K: Tracks>(
     ensures back { result.1 ≡ removed_back removed }
 {
     match removed {
-        Ok(bar) => (Answer::Done, bar),
+        Ok(bar) => (Answer::Accepted, bar),
         Err(refusal) => (Answer::Refused(refusal), None),
     }
 }

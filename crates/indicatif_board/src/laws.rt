@@ -15,7 +15,7 @@ ghost use Rattle.indicatif_board.specs.Done.{account_of_both, own_half, given_ha
 ghost use Rattle.indicatif_board.specs.declared.done.Account.{Account};
 ghost use Rattle.indicatif_board.specs.HistoryLaws.{AboveOnlyGrows, FollowsFromItsCalls, HasBoundedDraws, LoggedRowsStand, IsReadAsItsRun};
 ghost use Rattle.indicatif_board.specs.LimitLaws.{IsAllowed};
-ghost use Rattle.indicatif_board.specs.Receipts.{HeldStays, HeldRowsStand};
+ghost use Rattle.indicatif_board.specs.Receipts.{HeldStays, HeldRowsStand, HeldRowsStandInOrder};
 ghost use Rattle.indicatif_board.specs.LoneLaws.{OneIsTakenIn, LoneRunsAreBoardRuns};
 ghost use Rattle.indicatif_board.specs.PlainBoardLaws.{BoardRunsArePlain};
 ghost use Rattle.indicatif_board.specs.OrderLaws.{RunsPreserve, StandsOnce, IsGone, NumbersCount, NumbersAreNew};
@@ -37,27 +37,28 @@ pub fn what_a_run_leaves<B, C>()
     ensures { (kind : BoardKind B C) (mark : ℕ) → RunsPaint (board kind mark) }
 {}
 
-/// Rows that any call of a board's run logged or drew above the bars stand from the end of that call to the end of the run, after each
-/// byte, whichever calls of the run the terminal breaks off.
+/// Rows that any call of a board's run of plain lines logged or drew above the bars stand from the end of that call to the end of the run,
+/// after each byte, whichever calls of the run the terminal breaks off. Lines are plain as for `what_a_run_leaves`, here and in the laws
+/// below.
 pub fn what_lasts_throughout<B, C>()
     ensures { (kind : BoardKind B C) (mark : ℕ) → RowsAboveLast (board kind mark) }
 {}
 
-/// A terminal that shows the lists at the start of a board's run gets the run's bytes. After each byte, whatever fails in the run, the
+/// A terminal that shows the lists at the start of a board's run of plain lines gets the run's bytes. After each byte, whatever fails in the run, the
 /// picture begins with the texts of the untouched rows and of the rows above at the start. If nothing failed, the terminal shows the lists
 /// at the end, so the next run can start there.
 pub fn what_is_read_throughout<B, C>()
     ensures { (kind : BoardKind B C) (mark : ℕ) → RunsReadFromBytes (board kind mark) }
 {}
 
-/// What can be read after a run that the terminal did not break off, on a terminal whose state can be read and which shows the lists of the
-/// start: the picture is the texts of the untouched rows, then those of the lists' rows, then empty ones.
+/// What can be read after a run of plain lines that the terminal did not break off, on a terminal whose state can be read and which shows
+/// the lists of the start: the picture is the texts of the untouched rows, then those of the lists' rows, then empty ones.
 pub fn what_a_run_reads<B, C>()
     ensures { (kind : BoardKind B C) (mark : ℕ) → RunsAreRead (board kind mark) }
 {}
 
-/// What can be read after any calls, from a terminal that shows the lists of the start: a board's rows are forgotten only if the terminal
-/// failed.
+/// What can be read after any calls of plain lines, from a terminal that shows the lists of the start: a board's rows are forgotten only if
+/// the terminal failed.
 pub fn what_a_board_run_reads<K: Tracks>()
     ensures { (mark : ℕ) (calls : List (Call (BarRecord K) (Command K) × ℕ)) (answers : List Answer) (v : TermView)
         (s : BoardState (BarRecord K)) (new : Option TermView) (next : BoardState (BarRecord K)) →
@@ -83,8 +84,9 @@ pub fn rows_above_are_only_added<B, C>()
 
 /// What follows from a board's history (`Recorded`), also if threads share the board. It is one run from the opening on, so if nothing
 /// failed and no memory was refused, the answers follow from the calls alone. A board that began with a new rate limiter made at most 20
-/// unforced draws, and one more for each interval. The rows of a text that an entry logged, answered `Yes`, are above, unless the terminal
-/// broke a later call off. And on a terminal whose state can be read the picture is that of the run.
+/// unforced draws, and one more for each interval from its making to the last of them. The rows of a text that an entry logged, answered
+/// `Yes`, are above, unless the terminal broke a later call off. And the picture is that of the run, if it is a run on a terminal whose state
+/// can be read and which showed an opening, no call was broken off, and all texts are plain: so it is of a board that nobody shares.
 pub fn what_a_history_says<K: Tracks, T>()
     ensures answers { FollowsFromItsCalls T K.means }
     ensures bounded { HasBoundedDraws T K.means }
@@ -93,10 +95,12 @@ pub fn what_a_history_says<K: Tracks, T>()
 {}
 
 /// What a receipt says of a history that holds it (`Recorded::holds`): the history holds it after each further call. And where its
-/// text was answered `Yes`, and the terminal broke no later call off, the text's rows are above.
+/// text was answered `Yes`, and the terminal broke no later call off, the text's rows are above; of two such texts the rows of the later
+/// entry are below those of the earlier one.
 pub fn what_a_receipt_says<K: Tracks, T>()
     ensures stays { HeldStays T K.means }
     ensures rows { HeldRowsStand T K.means }
+    ensures in_order { HeldRowsStandInOrder T K.means }
 {}
 
 /// When a call of a board gives which answer.

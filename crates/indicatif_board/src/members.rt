@@ -37,7 +37,7 @@ impl<K> Model for Seated<K> {
 }
 
 impl<K: Tracks> Seated<K> {
-    /// A bar with its owner. It comes back if there is no memory for it.
+    /// A member of a board: a bar with its owner. It comes back if there is no memory for it.
     pub fn new(alloc: Global, bar: BarState<K>) -> Result<Seated<K>, BarState<K>>
         ensures { MatchResult result (λ m. m ≡ record { bar = bar; dropped = false }) (λ b. b ≡ bar) }
     {
@@ -48,28 +48,28 @@ impl<K: Tracks> Seated<K> {
         }
     }
 
-    /// Its bar's record.
+    /// The record of the member's bar.
     pub fn bar(&self) -> &BarState<K>
         ensures { result.now ≡ self.now.bar }
     {
         &self.member.bar
     }
 
-    /// Takes its bar out.
+    /// Takes the member's bar out.
     pub fn into_bar(self) -> BarState<K>
         ensures { result ≡ self.bar }
     {
         Box::into_inner(self.member).bar
     }
 
-    /// Whether its owner is gone.
+    /// Whether the member's owner is gone.
     pub fn is_dropped(&self) -> bool
         ensures { result ≡ self.now.dropped }
     {
         self.member.dropped
     }
 
-    /// Makes a command of its bar, as `BarState::tell`.
+    /// Makes a command of the member's bar, as `BarState::tell`.
     pub fn obey<S: Text>(&mut self, command: BarCommand<K, S>, now: Moment) -> Result<Ask, Refusal>
         ensures done { IfOk result (λ ask. (self.new.bar, ask) ≡ obeyed K.means (command_as S.bytes command) self.old.bar now) }
         ensures unchanged { OnErr result (self.new.bar ≡ self.old.bar) }
@@ -81,7 +81,7 @@ impl<K: Tracks> Seated<K> {
         self.member.bar.tell(command, now)
     }
 
-    /// Finishes its bar as `BarState::dropped`; the member isn't marked as ownerless yet.
+    /// Finishes the member's bar as `BarState::dropped`; the member isn't marked as ownerless yet.
     pub fn lose_owner(&mut self, now: Moment) -> Result<Ask, Refusal>
         ensures done { IfOk result (λ ask. (self.new.bar, ask) ≡ after_drop self.old.bar now) }
         ensures unchanged { OnErr result (self.new.bar ≡ self.old.bar) }
@@ -92,7 +92,7 @@ impl<K: Tracks> Seated<K> {
         self.member.bar.dropped(now)
     }
 
-    /// Marks it as ownerless.
+    /// Marks the member as ownerless.
     pub fn set_ownerless(&mut self)
         ensures { self.new ≡ record self.old { dropped = true } }
     {
@@ -124,7 +124,7 @@ pub fn place_of_bar(order: &[u64], bar: u64) -> usize
     order.len()
 }
 
-/// Removes the first `count` items. Takes no memory.
+/// Removes the first `count` items of a list. Takes no memory.
 pub fn drop_front<X: Drop>(items: &mut Vec<X>, count: usize)
     requires { count ≤ vec_len items.old }
     ensures { items.new.items ≡ drop count items.old.items }
@@ -135,7 +135,7 @@ pub fn drop_front<X: Drop>(items: &mut Vec<X>, count: usize)
     items.drain(..count);
 }
 
-/// Inserts an item, in memory that was taken before.
+/// Inserts an item into a list, in memory that was taken before.
 pub fn put_at<X: Drop>(items: &mut Vec<X>, at: usize, item: X)
     requires within { at ≤ vec_len items.old }
     requires room { vec_len items.old < vec_capacity items.old }
@@ -146,7 +146,7 @@ pub fn put_at<X: Drop>(items: &mut Vec<X>, at: usize, item: X)
     }
 }
 
-/// Appends items, in memory that was taken before.
+/// Appends items to a list, in memory that was taken before.
 fn put_behind(items: &mut Vec<usize>, more: &[usize])
     requires room { vec_len items.old + length more.now ≤ vec_capacity items.old }
     ensures items { items.new.items ≡ items.old.items ++ more.now }
@@ -159,7 +159,7 @@ fn put_behind(items: &mut Vec<usize>, more: &[usize])
 
 // ---- queues, whose shorter side moves where one is put in or taken out
 
-/// Inserts an item, in memory that was taken before.
+/// Inserts an item into a list, in memory that was taken before.
 pub fn queue_at<X: Drop>(items: &mut VecDeque<X>, at: usize, item: X)
     requires within { at ≤ deque_len items.old }
     requires room { deque_len items.old < deque_capacity items.old }
@@ -174,7 +174,7 @@ pub fn queue_at<X: Drop>(items: &mut VecDeque<X>, at: usize, item: X)
     }
 }
 
-/// Removes the item at a place.
+/// Removes the item at a place of a list.
 pub fn take_at<X: Drop>(items: &mut VecDeque<X>, at: usize) -> X
     requires within { at < deque_len items.old }
     ensures value { result ≡ slice_index_or items.old.items at result }
@@ -186,7 +186,7 @@ pub fn take_at<X: Drop>(items: &mut VecDeque<X>, at: usize) -> X
     items.remove(at).unwrap()
 }
 
-/// Removes the first `count` items. Takes no memory.
+/// Removes the first `count` items of a list. Takes no memory.
 pub fn take_front<X: Drop>(items: &mut VecDeque<X>, count: usize)
     requires { count ≤ deque_len items.old }
     ensures { items.new.items ≡ drop count items.old.items }
@@ -197,7 +197,7 @@ pub fn take_front<X: Drop>(items: &mut VecDeque<X>, count: usize)
     items.drain(..count);
 }
 
-/// Moves the first `count` items to the end of `others`, in memory that was taken before.
+/// Moves the first `count` items of a list to the end of `others`, in memory that was taken before.
 pub fn move_front(items: &mut VecDeque<usize>, count: usize, others: &mut Vec<usize>)
     requires within { count ≤ deque_len items.old }
     requires room { vec_len others.old + count ≤ vec_capacity others.old }

@@ -1,9 +1,11 @@
 //! A board: several bars on one target, in an order.
 //!
-//! The board and its draws are here. The modules below are private:
+//! `Board` is here: its making, its bars and their order, its target, commands of a bar, texts above the bars, clears and draws. The
+//! modules below are private:
 //!
-//! - `insertions`: how bars enter the order; `leaving`: how they leave it.
-//! - `runs`: its calls as values, one or a list.
+//! - `insertions`: how bars enter the order: at an index, before or after another.
+//! - `leaving`: how bars leave it: removed, or dropped by their owner; whether their rows are kept.
+//! - `runs`: its calls as values, one (`apply`, `call`) or a list (`run`).
 ghost use Rattle.std.specs.Prelude.{◌≡◌, ◌≢◌, ◌==◌, ◌↔◌, ◌⊎◌, ◌<◌, ◌∷◌, [], ℕ, Bool, Option, Some, None, Ok, Err, is_some, false, option_map, IsTrue, IsFalse, IfOk, IfErr, IfSome, MatchResult, OnErr, if◌then◌else◌};
 ghost use Rattle.std.specs.VecDeque.{deque_len};
 ghost use Rattle.indicatif_term.specs.Lists.{opening_lists};
@@ -14,7 +16,7 @@ ghost use Rattle.indicatif_bar.specs.Runs.{wrote};
 ghost use Rattle.indicatif_bar.specs.Shown.{DrewOn};
 ghost use Rattle.indicatif_bar.specs.Stages.{writing_as};
 ghost use Rattle.indicatif_board.specs.BoardBars.{board_bars};
-ghost use Rattle.indicatif_board.specs.Boards.{BoardState, Tell, Log, BarLog, Clear, Redraw, Align, Done, opening_board, says, turned_away, draw_of, board};
+ghost use Rattle.indicatif_board.specs.Boards.{BoardState, Tell, Log, BarLog, Clear, Redraw, Align, Accepted, opening_board, says, turned_away, draw_of, board};
 ghost use Rattle.indicatif_board.specs.BoardValues.{id_of};
 ghost use Rattle.indicatif_board.specs.Members.{order_of, said_of};
 ghost use Rattle.indicatif_board.specs.Slots.{slot_of, occurrences, IsSeated};
@@ -94,21 +96,21 @@ impl<K: Tracks, T: TermLike + Drop> Board<K, T> {
         }
     }
 
-    /// The terminal; `None` if the target is hidden.
+    /// The board's terminal; `None` if the target is hidden.
     pub fn term(&self) -> Option<&T>
         ensures { option_map (λ t. t.now) result ≡ terminal_of self.now }
     {
         self.stage.term()
     }
 
-    /// Whether the target is hidden: nothing is drawn until another is set.
+    /// Whether the board's target is hidden: nothing is drawn until another is set.
     pub fn is_hidden(&self) -> bool
         ensures { IsTrue result ↔ (terminal_of self.now ≡ None) }
     {
         self.stage.is_hidden()
     }
 
-    /// A bar's record.
+    /// The record of a bar of the board.
     ///
     /// Refused: `ForeignBar` or `NotMember`, as `Board` says.
     pub fn bar(&self, id: BarId) -> Result<&BarState<K>, Refusal>
@@ -148,8 +150,8 @@ impl<K: Tracks, T: TermLike + Drop> Board<K, T> {
         self.shown.table.slot(id.number)
     }
 
-    /// Sets the target, and returns the old one. Nothing is written to either: the rows on the old one stay, and on the new one the bars
-    /// begin with their next draw.
+    /// Sets the board's target, and returns the old one. Nothing is written to either: the rows on the old one stay, and on the new one the
+    /// bars begin with their next draw.
     pub fn set_draw_target(&mut self, target: ProgressDrawTarget<T>) -> ProgressDrawTarget<T>
         ensures old { term_of result ≡ terminal_of self.old }
         ensures old_limiter { (mark : ℕ) (s : BoardState (BarRecord K)) → IsIn mark self.old s → IfSome result (λ t. t.1 ≡ s.limiter) }
@@ -185,7 +187,7 @@ impl<K: Tracks, T: TermLike + Drop> Board<K, T> {
     /// Sets whether the next draws put the bars at the top or at the bottom of the rows that they clear.
     pub fn set_alignment(&mut self, alignment: MultiProgressAlignment)
         ensures keeps { Keeps T.view false self.old self.new }
-        ensures leads { (now : ℕ) → LeadsBy K.means T.view self.old self.new (Align (is_bottom alignment)) now Done }
+        ensures leads { (now : ℕ) → LeadsBy K.means T.view self.old self.new (Align (is_bottom alignment)) now Accepted }
         ensures slots { slots_of self.new ≡ slots_of self.old }
         ensures records { RecordsStay self.old self.new }
     {
@@ -226,7 +228,7 @@ impl<K: Tracks, T: TermLike + Drop> Board<K, T> {
         self.draw(ask, Some(at), Writing::Frame, now)
     }
 
-    /// As `tell`, for a command with its own text.
+    /// Makes a command of a bar, as `tell`, with its own text.
     ///
     /// Refused: as `tell`.
     pub fn command(
@@ -338,7 +340,7 @@ impl<K: Tracks, T: TermLike + Drop> Board<K, T> {
         }
     }
 
-    /// A bar's place in the order.
+    /// A bar's place in the board's order.
     fn find(&self, id: BarId) -> Result<usize, Refusal>
         ensures foreign { id.mark ≢ mark_of self.now → result ≡ Err Refusal.ForeignBar }
         ensures found { (mark : ℕ) (s : BoardState (BarRecord K)) → IsIn mark self.now s →
@@ -384,10 +386,10 @@ impl<K: Tracks, T: TermLike + Drop> Board<K, T> {
             (draw_of (target_of old) takes ask now (writing_as writing.entry) s (named_laid_out K.means (target_of old) now number s)
             (named_layout_takes K.means number s)) s.lists result next }
     {
-        self.shown.note_place(bar);
         if ask.is_no() {
             return Ok(Drawn::Limited);
         }
+        self.shown.note_place(bar);
         let Some(engine) = &mut self.stage.engine else {
             return Ok(Drawn::Hidden);
         };

@@ -14,7 +14,7 @@ pub struct Places {
 }
 
 impl Places {
-    /// No places. Takes no memory.
+    /// No place is kept yet. Takes no memory.
     pub fn new(alloc: Global) -> Places {
         Places {
             places: Vec::new(alloc),
@@ -30,7 +30,7 @@ impl Places {
         }
     }
 
-    /// Keeps a bar's place, if there is room for it.
+    /// Keeps the place where a bar was found, if there is room for it.
     pub fn note(&mut self, number: u64, at: usize) {
         let key = self.key(number);
         if let Some(noted) = self.places.get_mut(key) {
@@ -48,7 +48,7 @@ impl Places {
         }
     }
 
-    /// A bar was inserted at a place, which is kept.
+    /// Adjusts the kept places: a bar was inserted at a place, which is kept.
     pub fn inserted(&mut self, number: u64, at: usize) {
         if at == 0 {
             self.gone = self.gone.wrapping_sub(1);
@@ -56,14 +56,14 @@ impl Places {
         self.note(number, at);
     }
 
-    /// The bar at a place was removed.
+    /// Adjusts the kept places: the bar at a place was removed.
     pub fn removed(&mut self, at: usize) {
         if at == 0 {
             self.gone = self.gone.wrapping_add(1);
         }
     }
 
-    /// The first `count` bars were removed.
+    /// Adjusts the kept places: the first `count` bars were removed.
     pub fn removed_first(&mut self, count: usize) {
         self.gone = self.gone.wrapping_add(count);
     }

@@ -164,7 +164,7 @@ impl<K: Tracks, T: TermLike + Drop> Recorded<K, T> {
         (answer, bar)
     }
 
-    /// What it began with.
+    /// What the board with its history began with.
     pub fn opening(&self) -> &Opening
         ensures began { (result.now.mark ≡ self.now.mark) × (result.now.limiter ≡ self.now.limiter) }
         ensures target { target_by result.now.size ≡ self.now.target }
@@ -172,14 +172,14 @@ impl<K: Tracks, T: TermLike + Drop> Recorded<K, T> {
         &self.opening
     }
 
-    /// The calls that it has made, with their moments and answers, in order.
+    /// The history: the calls that were made, with their moments and answers, in order.
     pub fn entries(&self) -> &[Entry<K>]
         ensures { map step_of result.now ≡ self.now.steps }
     {
         self.entries.as_slice()
     }
 
-    /// The board as it stands.
+    /// The board as it stands after its history.
     pub fn board(&self) -> &Board<K, T>
         ensures { result.now ≡ self.now.board }
     {
@@ -194,7 +194,7 @@ impl<K: Tracks, T: TermLike + Drop> Recorded<K, T> {
     }
 }
 
-/// A target, and a copy of its limiter.
+/// A target, and a copy of its limiter for the opening.
 fn with_limiter<T: Drop>(
     target: ProgressDrawTarget<T>,
 ) -> (ProgressDrawTarget<T>, Option<RateLimiter>)
@@ -234,7 +234,7 @@ fn is_as_large(one: Option<Size>, other: Option<Size>) -> bool
     }
 }
 
-/// The new bar of a call that isn't made.
+/// The new bar of a call that the board with its history doesn't make.
 fn returned_bar<K: Tracks>(call: Call<K>) -> Option<BarState<K>>
     ensures { (s : BoardState (BarRecord K)) (other : BarRecord K) → result ≡ handed_back (call_of call) (Refused Refusal.Memory) other s.members }
 {

@@ -54,7 +54,7 @@ impl<K: Tracks> ShownBars<K> {
     ghost use Rattle.indicatif_board.specs.ShownBars.{AreShownAs, record_on};
     ghost use Rattle.indicatif_board.specs.Inside.Standing.{seat_of, StandsAt, AllStay, AllOthersStay};
 
-    /// No bars, at the top. Takes no memory.
+    /// No shown bars, at the top. Takes no memory.
     pub fn new(alloc: Global) -> Self
         ensures state { (limiter : Option Limiter) → AreShownAs result (opening_board limiter) }
         ensures records { (number : ℕ) → record_on number result ≡ None }
@@ -69,8 +69,8 @@ impl<K: Tracks> ShownBars<K> {
         }
     }
 
-    /// Inserts a bar after the first `at` bars, and returns its number. The bar comes back if there is no memory or no number left; then
-    /// the others are unchanged.
+    /// Inserts a shown bar after the first `at` bars, and returns its number. The bar comes back if there is no memory or no number left;
+    /// then the others are unchanged.
     pub fn take_in(&mut self, at: usize, bar: BarState<K>) -> Result<u64, BarState<K>>
         requires within { at ≤ deque_len self.old.members }
         ensures taken { (s : BoardState (BarRecord K)) (spot : Location) → AreShownAs self.old s → at ≡ index_of spot s.members →
@@ -100,7 +100,7 @@ impl<K: Tracks> ShownBars<K> {
         Ok(number)
     }
 
-    /// Removes the bar at a place.
+    /// Removes the shown bar at a place.
     pub fn take_out(&mut self, at: usize) -> BarState<K>
         requires within { at < deque_len self.old.members }
         ensures out { (s : BoardState (BarRecord K)) (number : ℕ) → AreShownAs self.old s → at ≡ place_of number s.members →
@@ -118,7 +118,7 @@ impl<K: Tracks> ShownBars<K> {
         member.into_bar()
     }
 
-    /// Whether a bar is the first.
+    /// Whether a bar is the first that is shown.
     pub fn is_first(&self, number: u64) -> bool
         ensures first { (s : BoardState (BarRecord K)) → AreShownAs self.now s → result ≡ is_head number s.members }
         ensures some { IsTrue result → 0 < deque_len self.now.members }
@@ -130,7 +130,7 @@ impl<K: Tracks> ShownBars<K> {
         }
     }
 
-    /// A bar's place; past the last one if it isn't there.
+    /// A bar's place among the shown ones; past the last one if it isn't there.
     pub fn place(&self, number: u64) -> usize
         ensures seat { result ≡ seat_of number self.now.table.order }
         ensures most { result ≤ deque_len self.now.members }
@@ -138,7 +138,7 @@ impl<K: Tracks> ShownBars<K> {
         self.table.place(number)
     }
 
-    /// Keeps the place of this bar, if one is named: it is looked for there first.
+    /// Keeps the place of this shown bar, if one is named: it is looked for there first.
     pub fn note_place(&mut self, bar: Option<usize>)
         requires placed { IfSome bar (λ at. at < deque_len self.old.members) }
         ensures { self.new ≡ self.old }
@@ -148,7 +148,7 @@ impl<K: Tracks> ShownBars<K> {
         }
     }
 
-    /// Marks a bar as ownerless, if it is there.
+    /// Marks a shown bar as ownerless, if it is there.
     pub fn set_ownerless(&mut self, number: u64)
         ensures ownerless { (s : BoardState (BarRecord K)) → AreShownAs self.old s → AreShownAs self.new (ownerless_on number s) }
         ensures slots { self.new.table ≡ self.old.table }

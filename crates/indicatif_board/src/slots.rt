@@ -76,7 +76,7 @@ impl MultiState {
         }
     }
 
-    /// The bars' numbers, from the top.
+    /// The numbers in the order, from the top.
     pub fn order(&self) -> &[u64]
         ensures order { result.now ≡ self.now.order }
         ensures seated { IsSeated self.now }
@@ -95,14 +95,14 @@ impl MultiState {
         place_of_bar(&self.order, number)
     }
 
-    /// Keeps a bar's place, where it is looked for first.
+    /// Keeps a bar's place in the order, where it is looked for first.
     pub(crate) fn note_place(&mut self, number: u64, at: usize)
         ensures { self.new ≡ self.old }
     {
         self.places.note(number, at);
     }
 
-    /// A bar's slot; `None` if it isn't in the order.
+    /// The slot of a bar's number; `None` if it isn't in the order.
     pub fn slot(&self, number: u64) -> Option<usize>
         ensures { result ≡ slot_of number self.now }
     {

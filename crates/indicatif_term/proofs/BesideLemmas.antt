@@ -1,4 +1,6 @@
 -- The lines of a plan, and which of them stand there already.
+use Rattle.indicatif_term.specs.Counts.{line_count, line_counts}
+use Rattle.indicatif_term.specs.Inside.Owned.{blank_count}
 use Rattle.std.proofs.Common.{◌≡◌, ℕ, zero, suc, ◌+◌, ◌-◌, ◌<◌, ◌≤◌, ◌^◌, min, Bool, true, false, List, [], ◌∷◌, ◌++◌, length, take, drop, map, replicate, get_or, refl, sym, ◌∙◌, ap, subst, arith, length-append, chars, Some, None}
 use Rattle.std.specs.Prelude.{IsTrue, IsFalse, string_bytes, slice_set}
 use Rattle.std.specs.List.{AllByRecursion}
@@ -19,7 +21,7 @@ use Rattle.indicatif_term.specs.Frames.{line_text}
 use Rattle.indicatif_term.specs.declared.engine.lines.LineType.{LineType}
 use Rattle.indicatif_term.specs.declared.engine.layout.Plan.{Plan}
 use Rattle.indicatif_term.specs.declared.engine.remembered.StandingLine.{StandingLine}
-use Rattle.indicatif_term.specs.declared.engine.beside.Place.{Place}
+use Rattle.indicatif_term.specs.declared.engine.beside.LineAt.{LineAt}
 use Rattle.indicatif_term.specs.declared.engine.beside.SizedLine.{SizedLine}
 use Rattle.indicatif_term.proofs.MeasureLemmas.{empty_narrow}
 use Rattle.indicatif_term.proofs.LineEndLemmas.{one_row, nothing_ends_at}
@@ -76,7 +78,7 @@ some_at (x ∷ on) zero h = (x, refl)
 some_at (x ∷ on) (suc i) h = some_at on i (omega arith)
 
 -- the line at a place is the same
-pub there_by_index : (w : ℕ) (ls : List StandingLine) (at : Place) (start : ℕ) (y : StandingLine) → at.index < length ls → start ≤ 65535 → at.row ≡ start →
+pub there_by_index : (w : ℕ) (ls : List StandingLine) (at : LineAt) (start : ℕ) (y : StandingLine) → at.index < length ls → start ≤ 65535 → at.row ≡ start →
     y.like ≡ Some at.index → IsLike ls (string_bytes y.text) y.like → IsLine w y → IsAt w ls at → IsThere w ls start y
 there_by_index w ls at start y h small r n like line is =
     let x = some_at ls at.index h in
@@ -168,21 +170,23 @@ pub record AreBlanks (k : ℕ) (blanks : List StandingLine) : Type 0 where
   pub empty : texts blanks ≡ replicate k []
   pub lines : (w : ℕ) → AreLines w blanks
   pub alike : (on : List StandingLine) → AreLike on blanks
+  pub counts : line_counts blanks ≡ replicate k blank_count
 
 pub no_blanks_yet : AreBlanks 0 []
-no_blanks_yet = record { count = refl; empty = refl; lines = λ w. tt; alike = λ on. tt }
+no_blanks_yet = record { count = refl; empty = refl; lines = λ w. tt; alike = λ on. tt; counts = refl }
 
-replicate_push : (k : ℕ) (x : List ℕ) → replicate k x ++ x ∷ [] ≡ replicate (k + 1) x
+replicate_push : {A : Type 0} (k : ℕ) (x : A) → replicate k x ++ x ∷ [] ≡ replicate (k + 1) x
 replicate_push zero x = refl
 replicate_push (suc k) x = ap (λ ys. x ∷ ys) (replicate_push k x) ∙ ap (λ n. replicate n x) (let e : suc (k + 1) ≡ suc k + 1 = omega arith in e)
 
-pub one_blank_more : (k : ℕ) (blanks : List StandingLine) (x : StandingLine) → AreBlanks k blanks → string_bytes x.text ≡ [] → x.rows ≡ 1 → x.last ≡ 0 → x.like ≡ None →
+pub one_blank_more : (k : ℕ) (blanks : List StandingLine) (x : StandingLine) → AreBlanks k blanks → string_bytes x.text ≡ [] → x.rows ≡ 1 → x.last ≡ 0 → x.like ≡ None → line_count x ≡ blank_count →
     AreBlanks (k + 1) (blanks ++ x ∷ [])
-one_blank_more k blanks x b t r l n = record {
+one_blank_more k blanks x b t r l n m = record {
   count = omega (arith, length-append blanks (x ∷ []), b.count);
   empty = map-append (λ (l : StandingLine). string_bytes l.text) blanks (x ∷ []) ∙ ap (λ ys. ys ++ string_bytes x.text ∷ []) b.empty ∙ ap (λ y. replicate k [] ++ y ∷ []) t ∙ replicate_push k [];
   lines = λ w. all_append (IsLine w) blanks (x ∷ []) (b.lines w) (blank_is_line w x t r l, tt);
   alike = λ on. all_append (λ l. IsLike on (string_bytes l.text) l.like) blanks (x ∷ []) (b.alike on) (subst (IsLike on (string_bytes x.text)) (sym n) tt, tt);
+  counts = map-append line_count blanks (x ∷ []) ∙ ap (λ ys. ys ++ line_count x ∷ []) b.counts ∙ ap (λ y. replicate k blank_count ++ y ∷ []) m ∙ replicate_push k blank_count;
 }
 
 -- the blanks turned to the front
@@ -217,7 +221,7 @@ one_ready ys i x b h r =
     subst AreReady (sym (take_more_set ys i y h))
     (all_append (λ l. IsReady l.step (string_bytes l.before) (string_bytes l.text)) (take i ys) (y ∷ []) r (noted_ready b (string_bytes x.before) (string_bytes x.text), tt))
 
-module _ (w : ℕ) (on : List StandingLine) (ys : List StandingLine) (i start : ℕ) (x : StandingLine) (b : Bool) (before at : Place)
+module _ (w : ℕ) (on : List StandingLine) (ys : List StandingLine) (i start : ℕ) (x : StandingLine) (b : Bool) (before at : LineAt)
     (h : i < length ys) (e : get_or ys i x ≡ x) (m : AreNoted w on (take i ys) start before) (is : IsAt w on at) (line : IsLine w x)
     (there : IsTrue b → IsThere w on start x) where
   abbrev y : StandingLine
@@ -266,6 +270,9 @@ none_noted w on = record { sits = tt; is_at = λ small. refl; start_is = λ smal
 -- the texts, and what follows, stay
 pub texts_noted : (ys : List StandingLine) (i : ℕ) (x : StandingLine) (s : Step) → get_or ys i x ≡ x → texts (slice_set ys i (record x { step = s })) ≡ texts ys
 texts_noted ys i x s e = map-set_same (λ (l : StandingLine). string_bytes l.text) ys i (record x { step = s }) x (ap (λ (l : StandingLine). string_bytes l.text) (sym e))
+
+pub counts_set : (ys : List StandingLine) (i : ℕ) (x y : StandingLine) → get_or ys i x ≡ x → line_count y ≡ line_count x → line_counts (slice_set ys i y) ≡ line_counts ys
+counts_set ys i x y e m = map-set_same line_count ys i y x (m ∙ ap line_count (sym e))
 
 -- what follows a line is not noted yet
 pub rest_noted : (ys xs : List StandingLine) (i : ℕ) (y : StandingLine) → i < length ys → drop i ys ≡ drop i xs → drop (i + 1) (slice_set ys i y) ≡ drop (i + 1) xs

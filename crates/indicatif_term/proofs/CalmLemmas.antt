@@ -1,13 +1,13 @@
 -- The bytes of each drawing are a calm text, where its lines are plain.
 use Rattle.std.proofs.Common.{◌≡◌, ℕ, zero, suc, ◌+◌, ◌-◌, Bool, true, false, List, [], ◌∷◌, ◌++◌, length, take, drop, replicate, refl, sym, ◌∙◌, ap, subst, arith, append-nil, chars, not, if◌then◌else◌, None, inl, inr}
-use Rattle.std.specs.Prelude.{◌&&◌, ◌||◌, ◌==◌, nat_le, nat_lt, is_some, slice_index, flat_map}
+use Rattle.std.specs.Prelude.{IsFalse, ◌&&◌, ◌||◌, ◌==◌, nat_le, nat_lt, is_some, slice_index, flat_map, decimal}
 use Rattle.std.specs.List.{AllByRecursion, list_all, list_any}
 use Rattle.std.specs.Int.{is_in_range}
 use Rattle.std.proofs.Math.Utf8.{encode, encodes, scalar, scalars}
 use Rattle.std.proofs.lemmas.Bool.{cases_Bool, and_parts, eqb-true, leb-true}
 use Rattle.std.proofs.lemmas.Grind.{flat_map-append}
 use Rattle.std.proofs.lemmas.List.{take-append-drop}
-use Rattle.std.proofs.lemmas.List.Folds.{list_all-append}
+use Rattle.std.specs.Str.{all_scalars}
 use Rattle.std.proofs.lemmas.Str.{encodes-append, encodes-chars, encodes-IsAscii, scalars-chars, chars-IsAscii, IsUtf8-from_ascii}
 use Rattle.unicode_width.specs.Width.{char_width}
 use Rattle.indicatif_text.specs.Columns.{Cell, width_of, is_parameter, colour_length, visible, is_plain}
@@ -16,7 +16,7 @@ use Rattle.indicatif_text.proofs.ColourSequenceLemmas.{hidden, visible_none}
 use Rattle.indicatif_text.proofs.PieceLawLemmas.{Parameters, Ended, Further, Sequence, Opened, sequence_is, sequence_length, visible_past, by_pieces}
 use Rattle.indicatif_text.proofs.WidthLemmas.{plain_width}
 use Rattle.indicatif_term.specs.Calls.{UP, DOWN, RIGHT, move_bytes, clear_bytes, anew_bytes}
-use Rattle.indicatif_term.specs.Calm.{Stroke, Character, Colours, Return, Feed, Move, Empty, stroke_bytes, is_calm, IsCalm, AreCalm, Calmly}
+use Rattle.indicatif_term.specs.Calm.{Stroke, Character, Colours, Move, Empty, stroke_bytes, IsCalm, AreCalm, Calmly}
 use Rattle.indicatif_term.specs.Inside.Inks.{RESET, AreColours}
 use Rattle.indicatif_term.specs.Inside.Edits.{Edit, Stay, Write, Close, Open, IsNarrowChar, IsWritable, edit_bytes, row_bytes}
 use Rattle.indicatif_term.specs.Inside.Bytes.{next_row, rows_down, back_bytes, reach_bytes, lines_bytes, paint_bytes}
@@ -32,23 +32,24 @@ use Rattle.indicatif_term.proofs.PartingLemmas.{space_one}
 -- ---- strokes
 
 pub calm_none : IsCalm []
-calm_none = record { strokes = []; calm = refl; text_is = refl }
+calm_none = ([], refl)
 
 pub calm_append : (a b : List ℕ) → IsCalm a → IsCalm b → IsCalm (a ++ b)
-calm_append a b p q = record {
-  strokes = p.strokes ++ q.strokes;
-  calm = list_all-append is_calm p.strokes q.strokes ∙ rw (p.calm, q.calm) refl;
-  text_is = ap (λ x. x ++ b) p.text_is ∙ ap (λ x. flat_map stroke_bytes p.strokes ++ x) q.text_is ∙ sym (flat_map-append stroke_bytes p.strokes q.strokes);
-}
+calm_append a b p q = (
+  p.0 ++ q.0,
+  ap (λ x. x ++ b) p.1 ∙ ap (λ x. flat_map stroke_bytes p.0 ++ x) q.1 ∙ sym (flat_map-append stroke_bytes p.0 q.0),
+)
 
-pub calm_stroke : (s : Stroke) → is_calm s ≡ true → IsCalm (stroke_bytes s)
-calm_stroke s e = record { strokes = s ∷ []; calm = rw e refl; text_is = sym (append-nil (stroke_bytes s)) }
+calm_stroke : (s : Stroke) (bytes : List ℕ) → stroke_bytes s ≡ bytes → IsCalm bytes
+calm_stroke s bytes e = (s ∷ [], sym (append-nil bytes) ∙ ap (λ x. x ++ []) (sym e))
 
-calm_move : (letter n : ℕ) → is_calm (Move letter n) ≡ true → IsCalm (move_bytes letter n)
-calm_move letter n e = elim (cases_Bool (n == 0)) [
-  | inl none ↦ subst (λ b. IsCalm (if b then [] else stroke_bytes (Move letter n))) (sym none) calm_none
-  | inr some ↦ subst (λ b. IsCalm (if b then [] else stroke_bytes (Move letter n))) (sym some) (calm_stroke (Move letter n) e)
-]
+calm_move : (letter n : ℕ) → is_in_range 0x41 0x44 letter ≡ true → IsCalm (move_bytes letter n)
+calm_move letter n e =
+    let bytes : List ℕ = 0x1B ∷ 0x5B ∷ (decimal n ++ letter ∷ []) in
+    elim (cases_Bool (n == 0)) [
+      | inl none ↦ subst (λ b. IsCalm (if b then [] else bytes)) (sym none) calm_none
+      | inr some ↦ subst (λ b. IsCalm (if b then [] else bytes)) (sym some) (calm_stroke (Move letter n) bytes (ap (λ b. if b then bytes else []) e))
+    ]
 
 pub up_calm : (n : ℕ) → IsCalm (move_bytes UP n)
 up_calm n = calm_move UP n refl
@@ -60,21 +61,34 @@ right_calm : (n : ℕ) → IsCalm (move_bytes RIGHT n)
 right_calm n = calm_move RIGHT n refl
 
 pub clear_calm : IsCalm clear_bytes
-clear_calm = record { strokes = Return ∷ Empty ∷ []; calm = refl; text_is = refl }
+unfolding encode
+clear_calm = (Character 0x0D ∷ Empty ∷ [], refl)
 
 row_calm : IsCalm next_row
-row_calm = record { strokes = Return ∷ Feed ∷ []; calm = refl; text_is = refl }
+unfolding encode
+row_calm = (Character 0x0D ∷ Character 0x0A ∷ [], refl)
 
 pub return_calm : IsCalm (0x0D ∷ [])
-return_calm = calm_stroke Return refl
+unfolding encode
+return_calm = (Character 0x0D ∷ [], refl)
 
 -- ---- texts
 
 one_shown : (c : ℕ) → width_of c ≡ 1 → is_some (char_width false c) ≡ true
 one_shown c e = ap is_some (some_width (char_width false c) (omega (arith, e)))
 
+or_last : (a b x : Bool) → x ≡ true → (a || b || x) ≡ true
+or_last true b x e = refl
+or_last false true x e = refl
+or_last false false x e = e
+
+-- a character with a width
+width_calm : (c : ℕ) → (all_scalars (c ∷ []) && is_some (char_width false c)) ≡ true → IsCalm (encode c)
+width_calm c shown =
+    calm_stroke (Character c) (encode c) (ap (λ b. if b then encode c else []) (or_last (c == 0x0D) (c == 0x0A) (all_scalars (c ∷ []) && is_some (char_width false c)) shown))
+
 char_calm : (c : ℕ) → IsNarrowChar c → IsCalm (encode c)
-char_calm c n = calm_stroke (Character c) (rw (n.scalar, one_shown c n.narrow) refl)
+char_calm c n = width_calm c (rw (n.scalar, one_shown c n.narrow) refl)
 
 space_narrow : IsNarrowChar 0x20
 space_narrow = narrow_char 0x20 space_one (omega arith)
@@ -94,7 +108,8 @@ sequence_calm (Opened c d n cs opened rest) =
     let r = parameters_end rest in
     let is : 0x1B ∷ 0x5B ∷ (r.0 ++ 0x6D ∷ []) ≡ c ∷ d ∷ take n cs =
     ap (λ x. 0x1B ∷ 0x5B ∷ x) (sym r.2) ∙ ap (λ x. x ∷ 0x5B ∷ take n cs) (sym (eqb-true c 0x1B p.0)) ∙ ap (λ x. c ∷ x ∷ take n cs) (sym (eqb-true d 0x5B p.1)) in
-    subst IsCalm is (calm_stroke (Colours r.0) r.1)
+    let bytes : List ℕ = 0x1B ∷ 0x5B ∷ (r.0 ++ 0x6D ∷ []) in
+    subst IsCalm is (calm_stroke (Colours r.0) bytes (ap (λ b. if b then bytes else []) r.1))
 
 scalars_drop : (n : ℕ) (cs : List ℕ) → scalars cs ≡ true → scalars (drop n cs) ≡ true
 scalars_drop zero cs s = s
@@ -111,7 +126,7 @@ shown_calm c cs ps none rest scalars_are plain =
     let both : (is_some (char_width false c) && list_all (λ d. is_some (char_width false d)) (visible cs)) ≡ true =
     ap (list_all (λ d. is_some (char_width false d))) (visible_past c cs none) ∙ plain in
     let p = and_parts (is_some (char_width false c)) (list_all (λ d. is_some (char_width false d)) (visible cs)) both in
-    calm_append (encode c) (encodes cs) (calm_stroke (Character c) (rw (s.0, p.0) refl)) (rest s.1 p.1)
+    calm_append (encode c) (encodes cs) (width_calm c (rw (s.0, p.0) refl)) (rest s.1 p.1)
 
 coloured_calm : (n : ℕ) (cs : List ℕ) (ps : List TextPiece) → Sequence cs n → IsCalmText (drop n cs) ps → IsCalmText cs ps
 unfolding is_plain
@@ -284,16 +299,30 @@ led_calm b bytes c = calm_append (if b then anew_bytes else []) bytes (anew_calm
 
 -- ---- drawings one behind another
 
+-- what one drawing wrote: a calm text, after CR LF where the terminal had failed before; or a beginning of that
+pub record DrawsCalmly (failed : Bool) (bytes : List ℕ) (fails : Bool) : Type 0 where
+  pub text : List ℕ
+  pub calm : IsCalm text
+  pub rest : List ℕ
+  pub whole : bytes ++ rest ≡ (if failed then 0x0D ∷ 0x0A ∷ [] else []) ++ text
+  pub all : IsFalse fails → rest ≡ []
+
+pub first_drawing : (failed : Bool) (bytes : List ℕ) (drawings : List (List ℕ)) (fails : Bool) (p : AreCalm failed (bytes ∷ drawings) fails) → DrawsCalmly failed bytes p.2
+first_drawing failed bytes drawings fails p = record { text = p.0; calm = p.3; rest = p.1; whole = p.4; all = p.5 }
+
+pub one_drawing : (failed fails ends : Bool) (bytes : List ℕ) → DrawsCalmly failed bytes fails → ends ≡ fails → Calmly failed bytes ends
+one_drawing failed fails ends bytes drew e = (bytes ∷ [], (drew.text, drew.rest, fails, drew.calm, drew.whole, drew.all, e), sym (append-nil bytes))
+
 each_append : (failed : Bool) (a : List (List ℕ)) (between : Bool) (b : List (List ℕ)) (fails : Bool) → AreCalm failed a between → AreCalm between b fails → AreCalm failed (a ++ b) fails
 each_append failed [] between b fails e q = subst (λ x. AreCalm x b fails) e q
-each_append failed (drawing ∷ a) between b fails p q = (p.0, p.1, each_append p.0 a between b fails p.2 q)
+each_append failed (drawing ∷ a) between b fails p q = (p.0, p.1, p.2, p.3, p.4, p.5, each_append p.2 a between b fails p.6 q)
 
 pub no_drawings : (failed : Bool) → Calmly failed [] failed
-no_drawings failed = record { drawings = []; each = refl; bytes_are = refl }
+no_drawings failed = ([], refl, refl)
 
 pub drawings_append : (failed : Bool) (a : List ℕ) (between : Bool) (b : List ℕ) (fails : Bool) → Calmly failed a between → Calmly between b fails → Calmly failed (a ++ b) fails
-drawings_append failed a between b fails p q = record {
-  drawings = p.drawings ++ q.drawings;
-  each = each_append failed p.drawings between q.drawings fails p.each q.each;
-  bytes_are = ap (λ x. x ++ b) p.bytes_are ∙ ap (λ x. flat_map (λ d. d) p.drawings ++ x) q.bytes_are ∙ sym (flat_map-append (λ d. d) p.drawings q.drawings);
-}
+drawings_append failed a between b fails p q = (
+  p.0 ++ q.0,
+  each_append failed p.0 between q.0 fails p.1 q.1,
+  ap (λ x. x ++ b) p.2 ∙ ap (λ x. flat_map (λ d. d) p.0 ++ x) q.2 ∙ sym (flat_map-append (λ d. d) p.0 q.0),
+)

@@ -51,7 +51,7 @@ narrow_written c front x rest e own =
     ap (λ xs. drop (length front + 1) xs) (sym (append_assoc front (x ∷ []) rest)) ∙ drop_at (front ++ x ∷ []) rest (length front + 1) (length-append front (x ∷ [])) in
     rw (here, e, take_at front (x ∷ rest) (length front) refl, behind, own_front rest own) refl
 
-pub narrow_cells : (c : ℕ) → width_of c ≡ 1 → glyph_cells (record { base = c; marks = [] }) ≡ narrow c ∷ []
+pub narrow_cells : (c : ℕ) → width_of c ≡ 1 → glyph_cells (record { base = c; joiners = [] }) ≡ narrow c ∷ []
 narrow_cells c e = ap (λ n. narrow c ∷ replicate (n - 1) Continued) e
 
 abbrev set_row : List (List Cell) → List Cell → List (List Cell) → List Cell → List (List Cell)

@@ -1,18 +1,18 @@
 -- The counts that an engine keeps go on as the lists do.
-use Rattle.std.proofs.Common.{◌≡◌, ℕ, zero, suc, ◌+◌, ◌-◌, ◌<◌, ◌≤◌, min, max, Bool, true, false, ◌&&◌, List, [], ◌∷◌, ◌++◌, length, map, take, drop, replicate, refl, sym, ◌∙◌, ap, arith, append_assoc, append-nil, length-append, length-take, length-drop, ⊎_elim, if◌then◌else◌}
-use Rattle.std.specs.Prelude.{flat_map, sum_by, nat_lt, ◌==◌, ◌^◌}
+use Rattle.std.proofs.Common.{◌≡◌, ℕ, zero, suc, ◌+◌, ◌-◌, ◌<◌, ◌≤◌, min, max, Bool, true, false, ◌&&◌, List, [], ◌∷◌, ◌++◌, length, take, drop, replicate, refl, sym, ◌∙◌, ap, arith, append_assoc, append-nil, length-append, length-take, length-drop, ⊎_elim, if◌then◌else◌}
+use Rattle.std.specs.Prelude.{flat_map, nat_lt, ◌==◌, ◌^◌}
 use Rattle.std.proofs.lemmas.Bool.Decides.{nat_tests}
 use Rattle.std.proofs.lemmas.Bool.{cases_lt, lt-ltb, le-ltb}
-use Rattle.std.proofs.lemmas.List.{length-replicate, take-append-drop, take-map}
+use Rattle.std.proofs.lemmas.List.{length-replicate, take-append-drop}
 use Rattle.std.proofs.lemmas.List.Concat.{length-flat_map}
-use Rattle.std.proofs.lemmas.List.Sums.{sum_by-take-drop, sum_by-cons}
+use Rattle.std.proofs.lemmas.List.Sums.{sum_by-take-drop}
 use Rattle.indicatif_text.specs.Columns.{blank_row, rows_of}
-use Rattle.indicatif_term.specs.declared.engine.layout.RowCount.{RowCount}
 use Rattle.indicatif_term.specs.declared.engine.layout.Plan.{Plan}
 use Rattle.indicatif_term.specs.declared.engine.counts.Counts.{Counts}
-use Rattle.indicatif_term.specs.Counts.{CountsOf, row_count}
+use Rattle.indicatif_term.specs.Counts.{CountsOf}
 use Rattle.indicatif_term.specs.Inside.Counted.{SettledCounts}
 use Rattle.indicatif_term.specs.Inside.Plans.{IsPlan, text_height}
+use Rattle.indicatif_term.proofs.OwnedLemmas.{passing_none, passing_some, passing_height}
 use Rattle.indicatif_term.specs.Lists.{Lists, Live, BarRows, BarLines, settled, rested, passed, cleared, drawn, logged, lists_height, live_height, segments_height, live_rows, all_rows, live_of_frame, shown_rows, blanks_for}
 
 -- settling moves no row
@@ -71,38 +71,32 @@ under_same h low reach above more height e f = ⊎_elim
     (cases_lt (max low more) h)
 
 -- the counts of lists after settling are those that the code settles
-pub settled_counts_of : (h low kept blanks live : ℕ) (segments : List RowCount) (l : Lists) (c : Counts) → SettledCounts low h kept blanks segments live l.under c →
-    kept ≡ length l.kept → blanks ≡ l.live.blanks → segments ≡ map row_count l.live.segments → live ≡ live_height l.live → low ≡ l.reach - length l.above →
-    CountsOf c (rested (settled h l))
-settled_counts_of h low kept blanks live segments l c s a b d e f =
+pub settled_counts_of : (h low kept blanks live : ℕ) (l : Lists) (c : Counts) → SettledCounts low h kept blanks live l.under c →
+    kept ≡ length l.kept → blanks ≡ l.live.blanks → live ≡ live_height l.live → low ≡ l.reach - length l.above → CountsOf c (rested (settled h l))
+settled_counts_of h low kept blanks live l c s a b e f =
     let k : c.kept ≡ length (settled h l).kept = s.kept_is ∙ simp (a, e) (sym (settled-kept h low l f)) in
     let m : c.reached + length (settled h l).above ≡ (settled h l).reach = rw (s.reached_is, a, e) (settled-low h low l f) in
     record {
       kept_is = k;
       blanks_are = s.blanks_are ∙ b;
-      segments_are = s.segments_are ∙ d;
+      live_is = s.live_is ∙ e;
       reached_is = m;
       below_is = s.below_is ∙ rw e (below_same (live_height l.live) c.kept c.reached (length (settled h l).above) (settled h l).reach (lists_height (settled h l)) m (rw k refl));
       under_is = s.under_is ∙ ap (λ b. l.under && b) (rw (a, e) (under_same h low l.reach (length l.above) (length l.kept + live_height l.live) (lists_height l) f (omega arith)));
     }
 
-pub cleared_counts_of : (l : Lists) (c c' : Counts) → CountsOf c l → c'.kept ≡ 0 → c'.blanks ≡ 0 → drop c'.passed c'.segments.items ≡ [] → c'.reached ≡ c.reached → c'.below ≡ nat_lt 0 c.reached →
+pub cleared_counts_of : (l : Lists) (c c' : Counts) → CountsOf c l → c'.kept ≡ 0 → c'.blanks ≡ 0 → c'.live ≡ 0 → c'.reached ≡ c.reached → c'.below ≡ nat_lt 0 c.reached →
     c'.under ≡ c.under →
     CountsOf c' (cleared l)
 unfolding cleared
 cleared_counts_of l c c' o a b d e f u = record {
   kept_is = a;
   blanks_are = b;
-  segments_are = d;
+  live_is = d;
   reached_is = rw e o.reached_is;
   below_is = f ∙ below_clear c.reached (length l.above) l.reach o.reached_is;
   under_is = u ∙ o.under_is;
 }
-
-pub segments_height-map : (segments : List BarRows) → sum_by (λ (s : RowCount). s.rows) (map row_count segments) ≡ segments_height segments
-segments_height-map [] = refl
-segments_height-map (s ∷ segments) = sum_by-cons (λ (s : RowCount). s.rows) (row_count s) (map row_count segments) ∙ ap (λ n. length s.rows + n) (segments_height-map segments)
-    ∙ sym (sum_by-cons (λ (s : BarRows). length s.rows) s segments)
 
 pub length-flat : (segments : List BarRows) → length (flat_map (λ (s : BarRows). s.rows) segments) ≡ segments_height segments
 length-flat segments = length-flat_map (λ (s : BarRows). s.rows) segments
@@ -110,49 +104,41 @@ length-flat segments = length-flat_map (λ (s : BarRows). s.rows) segments
 pub length-live : (w : ℕ) (live : Live) → length (live_rows w live) ≡ live_height live
 length-live w live = simp (length-append, length-replicate, length-flat)
 
-pub drop-held : (n : ℕ) (segments : List BarRows) → drop n (map row_count segments) ≡ map row_count (drop n segments)
-drop-held zero segments = refl
-drop-held (suc n) [] = refl
-drop-held (suc n) (s ∷ segments) = drop-held n segments
-
 -- the counts of live
 pub live_of : (c : Counts) (l : Lists) → CountsOf c l → c.live ≡ live_height l.live
-live_of c l o = c.live_is ∙ rw (o.blanks_are, o.segments_are) (ap (λ n. l.live.blanks + n) (segments_height-map l.live.segments))
+live_of c l o = o.live_is
 
 -- a draw's counts
 module _ (w h pass : ℕ) (bottom : Bool) (frame : List BarLines) (l : Lists) (c c' : Counts) (p : Plan) (o : CountsOf c l) (q : IsPlan w h pass frame p)
-    (s1 : 0 < p.passing → let rows = sum_by (λ (s : RowCount). s.rows) (take p.passing p.segments.items) in
-    SettledCounts c.reached h (c.kept + (blanks_for bottom c.live 0 p.rows + rows)) 0 (drop p.passing p.segments.items) (p.rows - rows) c.under c')
-    (s2 : p.passing ≡ 0 → SettledCounts c.reached h c.kept (blanks_for bottom c.live 0 p.rows) p.segments.items (blanks_for bottom c.live 0 p.rows + p.rows) c.under c') where
+    (s1 : 0 < p.passing → SettledCounts c.reached h (c.kept + (blanks_for bottom c.live 0 p.rows + p.passing_rows)) 0 (p.rows - p.passing_rows) c.under c')
+    (s2 : p.passing ≡ 0 → SettledCounts c.reached h c.kept (blanks_for bottom c.live 0 p.rows) (blanks_for bottom c.live 0 p.rows + p.rows) c.under c') where
   abbrev next_live : Live
   next_live = live_of_frame w h bottom (live_height l.live) 0 frame
 
   same_blanks : blanks_for bottom c.live 0 p.rows ≡ next_live.blanks
   same_blanks = rw (live_of c l o, q.rows_are) refl
 
-  go : (n : ℕ) → p.passing ≡ n → CountsOf c' (rested (settled h (passed w n (record l { live = next_live }))))
-  go zero e = settled_counts_of h c.reached c.kept (blanks_for bottom c.live 0 p.rows) (blanks_for bottom c.live 0 p.rows + p.rows) p.segments.items (record l { live = next_live }) c'
-      (rw o.under_is at (s2 e))
-      o.kept_is same_blanks q.segments_are (rw (same_blanks, q.rows_are) refl) (let m : c.reached + length l.above ≡ l.reach = o.reached_is in omega arith)
+  go : (n : ℕ) → length (shown_rows w h (take pass frame)) ≡ n → CountsOf c' (rested (settled h (passed w n (record l { live = next_live }))))
+  go zero e = settled_counts_of h c.reached c.kept (blanks_for bottom c.live 0 p.rows) (blanks_for bottom c.live 0 p.rows + p.rows) (record l { live = next_live }) c'
+      (rw o.under_is at (s2 (passing_none w h pass frame p q e)))
+      o.kept_is same_blanks (rw (same_blanks, q.rows_are) refl) (let m : c.reached + length l.above ≡ l.reach = o.reached_is in omega arith)
   go (suc n) e =
       let first = take (suc n) next_live.segments in
       let sum : segments_height first + segments_height (drop (suc n) next_live.segments) ≡ segments_height next_live.segments =
       sum_by-take-drop (λ (s : BarRows). length s.rows) next_live.segments (suc n) in
-      let passing_rows = sum_by (λ (s : RowCount). s.rows) (take p.passing p.segments.items) in
-      let pr : passing_rows ≡ segments_height first = rw (e, q.segments_are) (ap (sum_by (λ (s : RowCount). s.rows)) (take-map row_count (suc n) next_live.segments) ∙ segments_height-map first) in
+      let pr : segments_height first ≡ p.passing_rows = ap (λ k. segments_height (take k next_live.segments)) (sym e) ∙ passing_height w h pass frame p q in
       let rs : p.rows ≡ segments_height next_live.segments = q.rows_are in
-      settled_counts_of h c.reached (c.kept + (blanks_for bottom c.live 0 p.rows + passing_rows)) 0 (p.rows - passing_rows) (drop p.passing p.segments.items)
-      (passed w (suc n) (record l { live = next_live })) c' (rw o.under_is at (s1 (omega arith)))
-      (rw (o.kept_is, same_blanks, pr) (sym (length-append l.kept (live_rows w (record { blanks = next_live.blanks; segments = first }))
+      settled_counts_of h c.reached (c.kept + (blanks_for bottom c.live 0 p.rows + p.passing_rows)) 0 (p.rows - p.passing_rows)
+      (passed w (suc n) (record l { live = next_live })) c' (rw o.under_is at (s1 (passing_some w h pass frame p q (omega (arith, e)))))
+      (rw (o.kept_is, same_blanks, ← pr) (sym (length-append l.kept (live_rows w (record { blanks = next_live.blanks; segments = first }))
       ∙ ap (λ x. length l.kept + x) (length-live w (record { blanks = next_live.blanks; segments = first })))))
       refl
-      (rw (e, q.segments_are) (drop-held (suc n) next_live.segments))
-      (rw (rs, pr) (omega (arith, sum)))
+      (omega (arith, sum, pr, rs))
       (let m : c.reached + length l.above ≡ l.reach = o.reached_is in omega arith)
 
   pub drawn_counts_of : CountsOf c' (drawn w h bottom pass frame l)
   unfolding drawn
-  drawn_counts_of = go (length (shown_rows w h (take pass frame))) q.passing_is
+  drawn_counts_of = go (length (shown_rows w h (take pass frame))) refl
 
 capped : (test : Bool) (a text t r : ℕ) → a ≤ 65535 → text ≡ min t (2 ^ 64 - 1) → (if test then (a - (text + r)) else 0) ≡ (if test then (a - (t + r)) else 0)
 capped true a text t r h e = omega arith
@@ -173,16 +159,16 @@ module _ (w h text : ℕ) (bottom : Bool) (lines : List (List ℕ)) (frame : Lis
 -- a log's counts
 module _ (w h text : ℕ) (bottom : Bool) (lines : List (List ℕ)) (frame : List BarLines) (l : Lists) (c c' : Counts) (p : Plan) (o : CountsOf c l) (q : IsPlan w h 0 frame p)
     (e : text ≡ min (text_height w lines) (2 ^ 64 - 1)) (fits : p.rows ≤ 65535)
-    (s : SettledCounts (c.reached - text) h 0 (blanks_for bottom (c.kept + c.live) text p.rows) p.segments.items (blanks_for bottom (c.kept + c.live) text p.rows + p.rows) c.under c') where
+    (s : SettledCounts (c.reached - text) h 0 (blanks_for bottom (c.kept + c.live) text p.rows) (blanks_for bottom (c.kept + c.live) text p.rows + p.rows) c.under c') where
   pub logged_counts_of : CountsOf c' (logged w h bottom lines frame l)
   unfolding logged
   logged_counts_of =
       let same : blanks_for bottom (c.kept + c.live) text p.rows ≡ blanks_for bottom (length l.kept + live_height l.live) (length (flat_map (rows_of w) lines))
       (segments_height (shown_rows w h frame)) =
       same_blanks_log w h text bottom lines frame l c p o q e in
-      settled_counts_of h (c.reached - text) 0 (blanks_for bottom (c.kept + c.live) text p.rows) (blanks_for bottom (c.kept + c.live) text p.rows + p.rows) p.segments.items
+      settled_counts_of h (c.reached - text) 0 (blanks_for bottom (c.kept + c.live) text p.rows) (blanks_for bottom (c.kept + c.live) text p.rows + p.rows)
       (record l { above = l.above ++ flat_map (rows_of w) lines; kept = []; live = live_of_frame w h bottom (length l.kept + live_height l.live) (length (flat_map (rows_of w) lines)) frame }) c'
       (rw o.under_is at s)
-      refl same q.segments_are (rw (same, q.rows_are) refl)
+      refl same (rw (same, q.rows_are) refl)
       (let m : c.reached + length l.above ≡ l.reach = o.reached_is in let k : c.reached ≤ 65535 = c.small in
       let r : length (flat_map (rows_of w) lines) ≡ text_height w lines = rows_written w h text bottom lines frame l c p o q e in simp length-append (rw r (omega arith)))

@@ -34,13 +34,13 @@ resting_below w h above n = resting (screen_at w h above (blank_row w) n 0)
 
 -- what writes a glyph
 abbrev pub glyph_ops : Glyph → List Op
-glyph_ops g = Put g.base ∷ map (λ c. Put c) g.marks
+glyph_ops g = Put g.base ∷ map (λ c. Put c) g.joiners
 
 -- a glyph of at most w columns
 pub record IsSized (w : ℕ) (g : Glyph) : Type 0 where
   pub columns : 0 < glyph_width g
   pub fits : glyph_width g ≤ w
-  pub marks : All (λ c. char_width false c ≡ Some 0) g.marks
+  pub joiners : All (λ c. char_width false c ≡ Some 0) g.joiners
 
 -- a character that a terminal of w columns can show
 pub record IsShowable (w c : ℕ) : Type 0 where

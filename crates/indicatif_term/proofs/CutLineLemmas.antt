@@ -1,5 +1,10 @@
 -- The lines that lines become where their rows are cut anew: their rows are those that the rows of the lines become.
 use Rattle.std.proofs.Common.{◌≡◌, ℕ, ◌+◌, ◌<◌, ◌≤◌, true, IsFalse, List, [], ◌∷◌, ◌++◌, map, filter, length, take, drop, refl, sym, ◌∙◌, ap, subst, arith, append_assoc, append-nil, chars}
+use Rattle.std.proofs.Common.{replicate, get_or, length-append}
+use Rattle.std.specs.Prelude.{sum}
+use Rattle.std.proofs.lemmas.List.{length-replicate, take_more, replicate-append-replicate}
+use Rattle.std.proofs.lemmas.List.Sums.{sum-map, sum_by-cons}
+use Rattle.std.proofs.lemmas.List.Concat.{length-flat_map}
 use Rattle.std.specs.Prelude.{IsTrue, flat_map, string_bytes}
 use Rattle.std.specs.List.{AllByRecursion, list_all}
 use Rattle.std.proofs.lemmas.List.{map-append, length-map, drop-drop, length-drop, nil_from_length}
@@ -8,7 +13,7 @@ use Rattle.indicatif_text.specs.Columns.{Cell, Glyph, columns_in, glyphs_of, pie
 use Rattle.indicatif_term.specs.Resizes.{has_place, recut, recut_all}
 use Rattle.indicatif_term.specs.Standing.{texts, standing_rows, AreLines}
 use Rattle.indicatif_term.specs.Inside.Edits.{AreSingle}
-use Rattle.indicatif_term.specs.Inside.Recutting.{piece_text, without_spaces, fitting_count, new_pieces, cut_pieces, cut_line, cut_lines, LineShown, shown_lines, row_line, HasMore}
+use Rattle.indicatif_term.specs.Inside.Recutting.{piece_text, without_spaces, fitting_count, new_pieces, cut_pieces, cut_line, cut_lines, LineShown, shown_line, shown_lines, row_line, line_bars, cut_bars, Gains, HasMore}
 use Rattle.indicatif_term.specs.declared.engine.remembered.StandingLine.{StandingLine}
 use Rattle.indicatif_term.specs.declared.engine.recutting.CutLines.{CutLines}
 use Rattle.indicatif_term.proofs.CutPieceLemmas.{more_pieces, more_some, first_piece, all_filtered, all_unspaced, all_in_pieces, IsNarrow, narrow_pieces, only_piece, all_placed, placed_taken, placed_dropped}
@@ -224,3 +229,94 @@ no_piece_left w at gs now all h e = sym (append-nil now) ∙ ap (λ rest. now ++
 
 pub no_row_left : (w w' at : ℕ) (gs : List Glyph) (done all : List (List (List Glyph))) → length gs ≤ at → done ++ rows_left w w' (drop at gs) ≡ all → done ≡ all
 no_row_left w w' at gs done all h e = sym (append-nil done) ∙ ap (λ rest. done ++ rows_left w w' rest) (sym (none_behind at gs h)) ∙ e
+
+-- ---- the bars of the lines
+
+pub gains_one : (bar : ℕ) (old new : List StandingLine) (l : StandingLine) → new ≡ old ++ l ∷ [] → l.bar ≡ bar → Gains bar old new
+gains_one bar old new l e b = (1, ap line_bars e ∙ map-append (λ (l : StandingLine). l.bar) old (l ∷ []) ∙ ap (λ x. line_bars old ++ x ∷ []) b)
+
+pub gains_more : (bar : ℕ) (a b c : List StandingLine) → Gains bar a b → Gains bar b c → Gains bar a c
+gains_more bar a b c x y = (
+  x.0 + y.0,
+  y.1 ∙ ap (λ xs. xs ++ replicate y.0 bar) x.1 ∙ append_assoc (line_bars a) (replicate x.0 bar) (replicate y.0 bar) ∙ ap (λ xs. line_bars a ++ xs) (replicate-append-replicate x.0 y.0 bar),
+)
+
+pub lines_count : (groups : List (List (List Glyph))) → length (lines_of_pieces groups) ≡ sum (map length groups)
+lines_count [] = refl
+lines_count (g ∷ groups) =
+    let rest : length (lines_of_pieces groups) ≡ sum (map length groups) = lines_count groups in
+    omega (arith, rest, length-append (map row_line g) (lines_of_pieces groups), length-map g row_line, sum_by-cons (λ x. x) (length g) (map length groups))
+
+-- the bars of the lines that a line becomes
+pub bars_gained : (w w' : ℕ) (a b : CutLines) (l : StandingLine) → HasMore a b (cut_line w w' (string_bytes l.text)) → Gains l.bar a.lines.items b.lines.items →
+    line_bars b.lines.items ≡ line_bars a.lines.items ++ cut_bars w w' (l ∷ [])
+bars_gained w w' a b l m g =
+    let groups = cut_line w w' (string_bytes l.text) in
+    let bar = λ (l : StandingLine). l.bar in
+    let n : g.0 ≡ sum (map length groups) = omega (
+      arith,
+      ap length g.1,
+      length-map b.lines.items bar,
+      length-append (line_bars a.lines.items) (replicate g.0 l.bar),
+      length-map a.lines.items bar,
+      length-replicate g.0 l.bar,
+      ap length m.lines_are,
+      length-map b.lines.items shown_line,
+      length-append (shown_lines a.lines.items) (lines_of_pieces groups),
+      length-map a.lines.items shown_line,
+      lines_count groups,
+    ) in
+    g.1 ∙ ap (λ k. line_bars a.lines.items ++ replicate k l.bar) n ∙ ap (λ xs. line_bars a.lines.items ++ xs) (sym (append-nil (replicate (sum (map length groups)) l.bar)))
+
+taken_next : (i : ℕ) (ls : List StandingLine) (x : StandingLine) → i < length ls → get_or ls i x ≡ x → take (i + 1) ls ≡ take i ls ++ x ∷ []
+taken_next i ls x h e = take_more ls i x h ∙ ap (λ y. take i ls ++ y ∷ []) e
+
+pub lines_more : (w w' i : ℕ) (ls : List StandingLine) (x : StandingLine) → i < length ls → get_or ls i x ≡ x →
+    cut_lines w w' (texts (take i ls)) ++ cut_line w w' (string_bytes x.text) ≡ cut_lines w w' (texts (take (i + 1) ls))
+lines_more w w' i ls x h e =
+    sym (ap (λ ys. cut_lines w w' (texts ys)) (taken_next i ls x h e) ∙ ap (cut_lines w w') (map-append (λ (l : StandingLine). string_bytes l.text) (take i ls) (x ∷ []))
+    ∙ flat_map-append (cut_line w w') (texts (take i ls)) (string_bytes x.text ∷ []) ∙ ap (λ ys. cut_lines w w' (texts (take i ls)) ++ ys) (append-nil (cut_line w w' (string_bytes x.text))))
+
+pub bars_more : (w w' i : ℕ) (ls : List StandingLine) (x : StandingLine) → i < length ls → get_or ls i x ≡ x →
+    cut_bars w w' (take i ls) ++ cut_bars w w' (x ∷ []) ≡ cut_bars w w' (take (i + 1) ls)
+bars_more w w' i ls x h e =
+    sym (ap (cut_bars w w') (taken_next i ls x h e) ∙ flat_map-append (λ (l : StandingLine). replicate (sum (map length (cut_line w w' (string_bytes l.text)))) l.bar) (take i ls) (x ∷ []))
+
+-- each is of one row
+pieces_ones : (ps : List (List Glyph)) (rest : List LineShown) → map (λ (s : LineShown). s.rows) rest ≡ replicate (length rest) 1 →
+    map (λ (s : LineShown). s.rows) (map row_line ps ++ rest) ≡ replicate (length (map row_line ps ++ rest)) 1
+pieces_ones [] rest e = e
+pieces_ones (p ∷ ps) rest e = ap (λ xs. 1 ∷ xs) (pieces_ones ps rest e)
+
+groups_ones : (groups : List (List (List Glyph))) → map (λ (s : LineShown). s.rows) (lines_of_pieces groups) ≡ replicate (length (lines_of_pieces groups)) 1
+groups_ones [] = refl
+groups_ones (g ∷ groups) = pieces_ones g (lines_of_pieces groups) (groups_ones groups)
+
+shown_heights : (ls : List StandingLine) → map (λ (l : StandingLine). l.rows) ls ≡ map (λ (s : LineShown). s.rows) (shown_lines ls)
+shown_heights [] = refl
+shown_heights (l ∷ ls) = ap (λ xs. l.rows ∷ xs) (shown_heights ls)
+
+pub one_row_each : (ls : List StandingLine) (groups : List (List (List Glyph))) → shown_lines ls ≡ lines_of_pieces groups → map (λ (l : StandingLine). l.rows) ls ≡ replicate (length ls) 1
+one_row_each ls groups e =
+    shown_heights ls ∙ ap (map (λ (s : LineShown). s.rows)) e ∙ groups_ones groups ∙ ap (λ n. replicate n 1) (sym (ap length e) ∙ length-map ls shown_line)
+
+pub line_becomes : (w w' : ℕ) (l : StandingLine) → sum (map length (cut_line w w' (string_bytes l.text))) ≡ length (recut_all w' (rows_of w (chars (string_bytes l.text))))
+line_becomes w w' l = ap sum (text_heights w w' (string_bytes l.text)) ∙ sum-map (λ row. length (recut w' row)) (rows_of w (chars (string_bytes l.text)))
+    ∙ sym (length-flat_map (recut w') (rows_of w (chars (string_bytes l.text))))
+
+-- how many lines these become
+pub bars_count : (w w' : ℕ) (ls : List StandingLine) → length (cut_bars w w' ls) ≡ length (recut_all w' (standing_rows w ls))
+bars_count w w' [] = refl
+bars_count w w' (l ∷ ls) =
+    let own = rows_of w (chars (string_bytes l.text)) in
+    let n = sum (map length (cut_line w w' (string_bytes l.text))) in
+    let rest : length (cut_bars w w' ls) ≡ length (recut_all w' (standing_rows w ls)) = bars_count w w' ls in
+    omega (
+      arith,
+      rest,
+      length-append (replicate n l.bar) (cut_bars w w' ls),
+      length-replicate n l.bar,
+      line_becomes w w' l,
+      ap length (flat_map-append (recut w') own (standing_rows w ls)),
+      length-append (recut_all w' own) (recut_all w' (standing_rows w ls)),
+    )

@@ -11,7 +11,7 @@ use Rattle.indicatif_term.specs.Resizes.{glyph_at, glyphs_in, has_place}
 use Rattle.indicatif_term.specs.Inside.Recutting.{glyph_text, guarded, piece_text, is_space, without_spaces}
 use Rattle.indicatif_term.specs.Inside.Rows.{whole_row}
 use Rattle.indicatif_term.proofs.KeptRowLemmas.{text_kept}
-use Rattle.indicatif_term.proofs.WrittenLineLemmas.{has_no_width, marks_before, marks_before-cons}
+use Rattle.indicatif_term.proofs.WrittenLineLemmas.{has_no_width, joiners_before, joiners_before-cons}
 
 -- ---- what is visible of a text in which no colour sequence begins
 
@@ -33,46 +33,46 @@ visible_guarded (c ∷ cs) = elim (cases_Bool (c == 0x1B)) [
 
 -- ---- glyphs
 
--- a glyph as it is read out of a text: it takes columns, and its marks take none
+-- a glyph as it is read out of a text: it takes columns, and its joiners take none
 pub record IsRead (g : Glyph) : Type 0 where
   pub wide : has_no_width g.base ≡ false
-  pub marks : AllByRecursion (λ m. has_no_width m ≡ true) g.marks
+  pub joiners : AllByRecursion (λ m. has_no_width m ≡ true) g.joiners
 
-marks_read : (cs : List ℕ) → AllByRecursion (λ m. has_no_width m ≡ true) (marks_before cs)
-marks_read [] = tt
-marks_read (c ∷ cs) = subst (AllByRecursion (λ m. has_no_width m ≡ true)) (sym (marks_before-cons c cs))
-    (cond_both (has_no_width c) (c ∷ marks_before cs) [] (AllByRecursion (λ m. has_no_width m ≡ true)) (λ e. (e, marks_read cs)) (λ e. tt))
+joiners_read : (cs : List ℕ) → AllByRecursion (λ m. has_no_width m ≡ true) (joiners_before cs)
+joiners_read [] = tt
+joiners_read (c ∷ cs) = subst (AllByRecursion (λ m. has_no_width m ≡ true)) (sym (joiners_before-cons c cs))
+    (cond_both (has_no_width c) (c ∷ joiners_before cs) [] (AllByRecursion (λ m. has_no_width m ≡ true)) (λ e. (e, joiners_read cs)) (λ e. tt))
 
 pub glyphs_read : (cs : List ℕ) → AllByRecursion IsRead (glyphs_of cs)
 glyphs_read [] = tt
 glyphs_read (c ∷ cs) =
-    let g : Glyph = record { base = c; marks = marks_before cs } in
-    cond_both (has_no_width c) (glyphs_of cs) (g ∷ glyphs_of cs) (AllByRecursion IsRead) (λ e. glyphs_read cs) (λ e. (record { wide = e; marks = marks_read cs }, glyphs_read cs))
+    let g : Glyph = record { base = c; joiners = joiners_before cs } in
+    cond_both (has_no_width c) (glyphs_of cs) (g ∷ glyphs_of cs) (AllByRecursion IsRead) (λ e. glyphs_read cs) (λ e. (record { wide = e; joiners = joiners_read cs }, glyphs_read cs))
 
-past_marks : (ms cs : List ℕ) → AllByRecursion (λ m. has_no_width m ≡ true) ms → glyphs_of (ms ++ cs) ≡ glyphs_of cs
-past_marks [] cs all = refl
-past_marks (m ∷ ms) cs all = let e : has_no_width m ≡ true = all.0 in rw e (past_marks ms cs all.1)
+past_joiners : (ms cs : List ℕ) → AllByRecursion (λ m. has_no_width m ≡ true) ms → glyphs_of (ms ++ cs) ≡ glyphs_of cs
+past_joiners [] cs all = refl
+past_joiners (m ∷ ms) cs all = let e : has_no_width m ≡ true = all.0 in rw e (past_joiners ms cs all.1)
 
-front_marks : (ms cs : List ℕ) → AllByRecursion (λ m. has_no_width m ≡ true) ms → marks_before (ms ++ cs) ≡ ms ++ marks_before cs
-front_marks [] cs all = refl
-front_marks (m ∷ ms) cs all =
+front_joiners : (ms cs : List ℕ) → AllByRecursion (λ m. has_no_width m ≡ true) ms → joiners_before (ms ++ cs) ≡ ms ++ joiners_before cs
+front_joiners [] cs all = refl
+front_joiners (m ∷ ms) cs all =
     let e : has_no_width m ≡ true = all.0 in
-    marks_before-cons m (ms ++ cs) ∙ ap (λ b. cond b (m ∷ marks_before (ms ++ cs)) []) e ∙ ap (λ xs. m ∷ xs) (front_marks ms cs all.1)
+    joiners_before-cons m (ms ++ cs) ∙ ap (λ b. cond b (m ∷ joiners_before (ms ++ cs)) []) e ∙ ap (λ xs. m ∷ xs) (front_joiners ms cs all.1)
 
-no_marks : (gs : List Glyph) → AllByRecursion IsRead gs → marks_before (flat_map glyph_text gs) ≡ []
-no_marks [] all = refl
-no_marks (g ∷ gs) all =
+no_joiners : (gs : List Glyph) → AllByRecursion IsRead gs → joiners_before (flat_map glyph_text gs) ≡ []
+no_joiners [] all = refl
+no_joiners (g ∷ gs) all =
     let e : has_no_width g.base ≡ false = all.0.wide in
-    marks_before-cons g.base (g.marks ++ flat_map glyph_text gs) ∙ ap (λ b. cond b (g.base ∷ marks_before (g.marks ++ flat_map glyph_text gs)) []) e
+    joiners_before-cons g.base (g.joiners ++ flat_map glyph_text gs) ∙ ap (λ b. cond b (g.base ∷ joiners_before (g.joiners ++ flat_map glyph_text gs)) []) e
 
 pub read_back : (gs : List Glyph) → AllByRecursion IsRead gs → glyphs_of (flat_map glyph_text gs) ≡ gs
 read_back [] all = refl
 read_back (g ∷ gs) all =
     let e : has_no_width g.base ≡ false = all.0.wide in
     let more = flat_map glyph_text gs in
-    let marks : marks_before (g.marks ++ more) ≡ g.marks = front_marks g.marks more all.0.marks ∙ ap (λ xs. g.marks ++ xs) (no_marks gs all.1) ∙ append-nil g.marks in
-    let rest : glyphs_of (g.marks ++ more) ≡ gs = past_marks g.marks more all.0.marks ∙ read_back gs all.1 in
-    rw e (ap (λ ms. let x : Glyph = record { base = g.base; marks = ms } in x ∷ glyphs_of (g.marks ++ more)) marks ∙ ap (λ xs. g ∷ xs) rest)
+    let joiners : joiners_before (g.joiners ++ more) ≡ g.joiners = front_joiners g.joiners more all.0.joiners ∙ ap (λ xs. g.joiners ++ xs) (no_joiners gs all.1) ∙ append-nil g.joiners in
+    let rest : glyphs_of (g.joiners ++ more) ≡ gs = past_joiners g.joiners more all.0.joiners ∙ read_back gs all.1 in
+    rw e (ap (λ ms. let x : Glyph = record { base = g.base; joiners = ms } in x ∷ glyphs_of (g.joiners ++ more)) joiners ∙ ap (λ xs. g ∷ xs) rest)
 
 -- the glyphs of a row's text
 pub piece_seen : (gs : List Glyph) → visible (piece_text gs) ≡ flat_map glyph_text gs
@@ -87,19 +87,19 @@ piece_glyphs gs all = ap glyphs_of (piece_seen gs) ∙ read_back gs all
 abbrev some_wider : ℕ → List ℕ → Bool
 some_wider w cs = list_any (λ c. nat_lt w (width_of c)) cs
 
-narrow_marks : (w : ℕ) (ms cs : List ℕ) → AllByRecursion (λ m. has_no_width m ≡ true) ms → some_wider w (ms ++ cs) ≡ some_wider w cs
-narrow_marks w [] cs all = refl
-narrow_marks w (m ∷ ms) cs all =
+narrow_joiners : (w : ℕ) (ms cs : List ℕ) → AllByRecursion (λ m. has_no_width m ≡ true) ms → some_wider w (ms ++ cs) ≡ some_wider w cs
+narrow_joiners w [] cs all = refl
+narrow_joiners w (m ∷ ms) cs all =
     let zero_wide : width_of m ≡ 0 = eqb-true (width_of m) 0 all.0 in
     let e : nat_lt w (width_of m) ≡ false = le-ltb w (width_of m) (omega (arith, zero_wide)) in
-    rw e (narrow_marks w ms cs all.1)
+    rw e (narrow_joiners w ms cs all.1)
 
 narrow_text : (w : ℕ) (gs : List Glyph) → AllByRecursion IsRead gs → columns_in gs ≤ w → some_wider w (flat_map glyph_text gs) ≡ false
 narrow_text w [] all h = refl
 narrow_text w (g ∷ gs) all h =
     let sum : columns_in (g ∷ gs) ≡ glyph_width g + columns_in gs = sum_by-cons glyph_width g gs in
     let e : nat_lt w (width_of g.base) ≡ false = le-ltb w (width_of g.base) (omega (arith, sum, h)) in
-    rw e (narrow_marks w g.marks (flat_map glyph_text gs) all.0.marks ∙ narrow_text w gs all.1 (omega (arith, sum, h)))
+    rw e (narrow_joiners w g.joiners (flat_map glyph_text gs) all.0.joiners ∙ narrow_text w gs all.1 (omega (arith, sum, h)))
 
 pub piece_narrow : (w : ℕ) (gs : List Glyph) → AllByRecursion IsRead gs → columns_in gs ≤ w → has_wide w (piece_text gs) ≡ false
 unfolding has_wide
@@ -115,7 +115,7 @@ pub glyphs_placed : (w : ℕ) (cs : List ℕ) → some_wider w cs ≡ false → 
 glyphs_placed w [] e = refl
 glyphs_placed w (c ∷ cs) e =
     let p = or_parts (nat_lt w (width_of c)) (some_wider w cs) e in
-    let g : Glyph = record { base = c; marks = marks_before cs } in
+    let g : Glyph = record { base = c; joiners = joiners_before cs } in
     cond_both (has_no_width c) (glyphs_of cs) (g ∷ glyphs_of cs) (λ gs. list_all (has_place w) gs ≡ true)
     (λ none. glyphs_placed w cs p.1)
     (λ some. let fits = place_from w c some p.0 in
@@ -134,7 +134,7 @@ space_width = refl
 
 space_cells : (g : Glyph) (more : List Cell) → is_space g ≡ true → glyph_cells g ++ more ≡ Written g ∷ more
 space_cells g more e =
-    let p = and_parts (g.base == 0x20) (is_empty g.marks) e in
+    let p = and_parts (g.base == 0x20) (is_empty g.joiners) e in
     let one : glyph_width g ≡ 1 = ap width_of (eqb-true g.base 0x20 p.0) ∙ space_width in
     ap (λ n. Written g ∷ replicate (n - 1) Continued ++ more) one
 

@@ -10,7 +10,7 @@ use Rattle.indicatif_text.specs.Columns.{Cell, Blank, Written, Continued, Glyph,
 use Rattle.indicatif_term.specs.Screen.{is_continued}
 use Rattle.indicatif_term.specs.Shows.{look}
 use Rattle.indicatif_term.proofs.GlyphLemmas.{length_cells, columns_push}
-use Rattle.indicatif_term.proofs.WrittenLineLemmas.{marks_before, marks_before-cons, has_no_width}
+use Rattle.indicatif_term.proofs.WrittenLineLemmas.{joiners_before, joiners_before-cons, has_no_width}
 use Rattle.indicatif_term.specs.Inside.Edits.{Edit, Stay, Write, Close, Open, IsOwn, edit_columns, narrow, edited, Renews, Lead, filled, Tails, Turns}
 use Rattle.indicatif_term.proofs.CellEditLemmas.{narrow_cells}
 
@@ -18,19 +18,19 @@ abbrev pub IsOne : ℕ → Type 0
 IsOne c = width_of c ≡ 1
 
 abbrev pub one : ℕ → Glyph
-one c = record { base = c; marks = [] }
+one c = record { base = c; joiners = [] }
 
 -- ---- glyphs
 
-marks_push : (c : ℕ) (cs : List ℕ) → width_of c ≡ 1 → marks_before (cs ++ c ∷ []) ≡ marks_before cs
-marks_push c [] e = let some : has_no_width c ≡ false = ap (λ n. n == 0) e in marks_before-cons c [] ∙ rw some refl
-marks_push c (d ∷ cs) e = marks_before-cons d (cs ++ c ∷ []) ∙ ap (λ ms. cond (has_no_width d) (d ∷ ms) []) (marks_push c cs e) ∙ sym (marks_before-cons d cs)
+joiners_push : (c : ℕ) (cs : List ℕ) → width_of c ≡ 1 → joiners_before (cs ++ c ∷ []) ≡ joiners_before cs
+joiners_push c [] e = let some : has_no_width c ≡ false = ap (λ n. n == 0) e in joiners_before-cons c [] ∙ rw some refl
+joiners_push c (d ∷ cs) e = joiners_before-cons d (cs ++ c ∷ []) ∙ ap (λ ms. cond (has_no_width d) (d ∷ ms) []) (joiners_push c cs e) ∙ sym (joiners_before-cons d cs)
 
 pub glyphs_push : (c : ℕ) (cs : List ℕ) → width_of c ≡ 1 → glyphs_of (cs ++ c ∷ []) ≡ glyphs_of cs ++ one c ∷ []
 glyphs_push c [] e = let some : eqb (width_of c) 0 ≡ false = ap (λ n. eqb n 0) e in rw some refl
 glyphs_push c (d ∷ cs) e = elim (cases_Bool (eqb (width_of d) 0)) [
   | inl none ↦ rw none (glyphs_push c cs e)
-  | inr some ↦ rw (some, marks_push c cs e, glyphs_push c cs e) refl
+  | inr some ↦ rw (some, joiners_push c cs e, glyphs_push c cs e) refl
 ]
 
 pub glyphs_on : (cs xs : List ℕ) → AllByRecursion IsOne xs → glyphs_of (cs ++ xs) ≡ glyphs_of cs ++ map one xs
@@ -54,9 +54,9 @@ some_from zero e = absurd (cc)
 some_from (suc n) e = omega arith
 
 piece_more : (c : ℕ) (cs : List ℕ) → 0 < width_of c → length (flat_map glyph_cells (glyphs_of cs)) ≡ columns_in (glyphs_of cs) →
-    length (flat_map glyph_cells (record { base = c; marks = marks_before cs } ∷ glyphs_of cs)) ≡ columns_in (record { base = c; marks = marks_before cs } ∷ glyphs_of cs)
+    length (flat_map glyph_cells (record { base = c; joiners = joiners_before cs } ∷ glyphs_of cs)) ≡ columns_in (record { base = c; joiners = joiners_before cs } ∷ glyphs_of cs)
 piece_more c cs pos e =
-    let g : Glyph = record { base = c; marks = marks_before cs } in
+    let g : Glyph = record { base = c; joiners = joiners_before cs } in
     let n : columns_in (g ∷ glyphs_of cs) ≡ width_of c + columns_in (glyphs_of cs) = sum_by-cons glyph_width g (glyphs_of cs) in
     let k : length (glyph_cells g) ≡ width_of c = length_cells g pos in
     omega (arith, length-append (glyph_cells g) (flat_map glyph_cells (glyphs_of cs)), k, e, n)
@@ -128,7 +128,7 @@ whole_cell Blank c e = refl
 whole_cell (Written g) c e = refl
 whole_cell Continued c e = elim (cases_Bool ((c == 0x20) && (0 == 0))) [
   | inl is ↦ absurd (let f : Continued ≡ Blank = e ∙ rw is refl in cc)
-  | inr other ↦ absurd (let f : Continued ≡ Written (record { base = c; marks = [] }) = e ∙ rw other refl in cc)
+  | inr other ↦ absurd (let f : Continued ≡ Written (record { base = c; joiners = [] }) = e ∙ rw other refl in cc)
 ]
 
 all_own : (cells : List Cell) (os : List ℕ) → map look cells ≡ map look (map narrow os) → AllByRecursion IsOwn cells

@@ -8,7 +8,7 @@ use Rattle.std.proofs.lemmas.List.{length-set, length-append}
 use Rattle.std.proofs.lemmas.List.Sums.{sum_by-cons}
 use Rattle.unicode_width.specs.Width.{char_width}
 use Rattle.indicatif_text.specs.Columns.{Cell, blank_row, width_of}
-use Rattle.indicatif_term.specs.Screen.{Screen, Op, Put, Right, performed, put_sized, put_mark, put_wide, put_here, with_row, line_feed}
+use Rattle.indicatif_term.specs.Screen.{Screen, Op, Put, Right, performed, put_sized, put_joiner, put_wide, put_here, with_row, line_feed}
 use Rattle.indicatif_term.specs.Terminal.{idle}
 use Rattle.indicatif_term.specs.Calls.{TermView, Writes}
 use Rattle.indicatif_term.specs.Modes.{ModeTerminal, mode_resting, mode_after, performed_with, put_over, within_row, HasNoOwn}
@@ -16,8 +16,8 @@ use Rattle.indicatif_term.specs.Inside.Reading.{all_with}
 use Rattle.indicatif_term.specs.EndedRows.{is_between, SameRows}
 use Rattle.indicatif_term.specs.Inside.Ending.{StayAlong, Meets, Held, Within, at_column, next_front, front_emptied, with_room, all_put, AreShown, WithinRoom, Falls, moved_place, opening_bytes, closing_bytes}
 use Rattle.indicatif_term.specs.declared.target.ended_rows.EndedRows.{EndedRows}
-use Rattle.indicatif_term.specs.declared.target.ended_rows.Place.{Place}
-use Rattle.indicatif_term.specs.declared.target.ended_rows.Place.TheVariants.{Drawing, Edge, Resting, Waiting}
+use Rattle.indicatif_term.specs.declared.target.ended_rows.Phase.{Phase}
+use Rattle.indicatif_term.specs.declared.target.ended_rows.Phase.TheVariants.{Drawing, Edge, Resting, Waiting}
 use Rattle.indicatif_term.specs.declared.target.ended_rows.Shown.{Shown}
 use Rattle.indicatif_term.specs.declared.target.ended_rows.Shown.TheVariants.{AtOnce, AsWritten}
 use Rattle.indicatif_term.proofs.CallLemmas.{Asks}
@@ -102,9 +102,9 @@ wide_fits c w s real h room =
     let here : nat_le (s.column + w) s.columns ≡ true = le-leb (s.column + w) s.columns room in
     rw (narrow, here) (over_fits c w s real _ h room)
 
--- a mark stays in its row
-mark_fits : (c : ℕ) (s real : Screen) → Ready s real → Fits s real (put_mark c s) (put_mark c real) (s.column + 0)
-mark_fits c s real h = record {
+-- a joiner stays in its row
+joiner_fits : (c : ℕ) (s real : Screen) → Ready s real → Fits s real (put_joiner c s) (put_joiner c real) (s.column + 0)
+joiner_fits c s real h = record {
   same = same_with_row s real _ _ h.same;
   columns = refl;
   real_columns = refl;
@@ -114,8 +114,8 @@ mark_fits c s real h = record {
 }
 
 sized_fits : (c w : ℕ) (b : Bool) (s real : Screen) → eqb w 0 ≡ b → Ready s real → s.column + w ≤ s.columns →
-    Fits s real (if b then put_mark c s else put_wide c w s) (if b then put_mark c real else put_over c w real) (s.column + w)
-sized_fits c w true s real e h room = subst (λ k. Fits s real (put_mark c s) (put_mark c real) (s.column + k)) (sym (eqb-true w 0 e)) (mark_fits c s real h)
+    Fits s real (if b then put_joiner c s else put_wide c w s) (if b then put_joiner c real else put_over c w real) (s.column + w)
+sized_fits c w true s real e h room = subst (λ k. Fits s real (put_joiner c s) (put_joiner c real) (s.column + k)) (sym (eqb-true w 0 e)) (joiner_fits c s real h)
 sized_fits c w false s real e h room = wide_fits c w s real h room
 
 pub put_fits : (c w : ℕ) (s real : Screen) → char_width false c ≡ Some w → Ready s real → s.column + w ≤ s.columns →
@@ -158,11 +158,11 @@ chars_fit (c ∷ cs) s real all h room =
 -- ---- a character that has none: it begins the next row
 
 put_there : (c w : ℕ) (s : Screen) → eqb w 0 ≡ false → nat_lt s.columns w ≡ false → nat_le (s.column + w) s.columns ≡ true →
-    put_sized c (Some w) s ≡ put_here (record { base = c; marks = [] }) w s
+    put_sized c (Some w) s ≡ put_here (record { base = c; joiners = [] }) w s
 put_there c w s some narrow room = rw (some, narrow, room) refl
 
 put_next : (c w : ℕ) (s : Screen) → eqb w 0 ≡ false → nat_lt s.columns w ≡ false → nat_le (s.column + w) s.columns ≡ false →
-    put_sized c (Some w) s ≡ put_here (record { base = c; marks = [] }) w (next_front s)
+    put_sized c (Some w) s ≡ put_here (record { base = c; joiners = [] }) w (next_front s)
 put_next c w s some narrow past = rw (some, narrow, past) refl
 
 pub with_room_put : (c w : ℕ) (s : Screen) → char_width false c ≡ Some w → w ≤ s.columns → s.column ≤ s.columns → performed (Put c) (with_room w s) ≡ performed (Put c) s
@@ -265,7 +265,7 @@ module _ {T : Type 0} (view : T → TermView) where
 
 -- ---- what moves within a row, and to the next one
 
-pub moved_drawing : (place : Place) → IsFalse (is_between place) → IsFalse (is_between (moved_place place))
+pub moved_drawing : (place : Phase) → IsFalse (is_between place) → IsFalse (is_between (moved_place place))
 moved_drawing Drawing h = refl
 moved_drawing Edge h = refl
 moved_drawing Resting h = h

@@ -15,8 +15,8 @@ use Rattle.indicatif_term.specs.OwnRows.{first_place}
 use Rattle.indicatif_term.specs.EndedRows.{is_between, SameRows, Together}
 use Rattle.indicatif_term.specs.Inside.Ending.{StayAlong, Meets, Held, Within, Between, Ended, Falls, unfailed, drawn_place, opening_bytes, closing_bytes}
 use Rattle.indicatif_term.specs.declared.target.ended_rows.EndedRows.{EndedRows}
-use Rattle.indicatif_term.specs.declared.target.ended_rows.Place.{Place}
-use Rattle.indicatif_term.specs.declared.target.ended_rows.Place.TheVariants.{Drawing, Edge, Resting, Waiting}
+use Rattle.indicatif_term.specs.declared.target.ended_rows.Phase.{Phase}
+use Rattle.indicatif_term.specs.declared.target.ended_rows.Phase.TheVariants.{Drawing, Edge, Resting, Waiting}
 use Rattle.indicatif_term.specs.declared.target.ended_rows.Shown.{Shown}
 use Rattle.indicatif_term.proofs.MoveLemmas.{right_asks, return_asks, spaces_ask}
 use Rattle.indicatif_term.proofs.ModeLemmas.{end_after, end_stays}
@@ -51,10 +51,10 @@ unfolding char_width
 blank_wide = refl
 
 blank_here : (real : Screen) → nat_lt real.columns 1 ≡ false → nat_le (real.column + 1) real.columns ≡ true →
-    put_sized 0x20 (Some 1) real ≡ put_here (record { base = 0x20; marks = [] }) 1 real
+    put_sized 0x20 (Some 1) real ≡ put_here (record { base = 0x20; joiners = [] }) 1 real
 blank_here real some room = rw (some, room) refl
 
-blank_put : (real : Screen) → real.column < real.columns → performed (Put 0x20) real ≡ put_here (record { base = 0x20; marks = [] }) 1 real
+blank_put : (real : Screen) → real.column < real.columns → performed (Put 0x20) real ≡ put_here (record { base = 0x20; joiners = [] }) 1 real
 blank_put real h = ap (λ o. put_sized 0x20 o real) blank_wide ∙ blank_here real (le-ltb real.columns 1 (omega arith)) (le-leb (real.column + 1) real.columns (omega arith))
 
 module _ {T : Type 0} (view : T → TermView) where
@@ -76,7 +76,7 @@ module _ {T : Type 0} (view : T → TermView) where
     known = known ∙ x.known ∙ ap (λ t. (view t).faults) (sym e);
   }
 
-  is_resting_between : (p : Place) → p ≡ Resting → is_between p ≡ false → ⊥
+  is_resting_between : (p : Phase) → p ≡ Resting → is_between p ≡ false → ⊥
   is_resting_between p e h = false≢true (sym h ∙ ap is_between e)
 
   -- in a drawing
@@ -285,7 +285,7 @@ module _ {T : Type 0} (view : T → TermView) where
           stays = along;
           level = λ s m x. level_asked view (0x20 ∷ []) (Put 0x20 ∷ []) (refl, tt) (spaces_ask 1) (tt, tt) s m x;
           leads = λ s m x.
-              let real' = with_row x.real (written_at x.real.column (glyph_cells (record { base = 0x20; marks = [] })) (cursor_row x.real)) in
+              let real' = with_row x.real (written_at x.real.column (glyph_cells (record { base = 0x20; joiners = [] })) (cursor_row x.real)) in
               meets_again view x (unchanged columns faults) s (record real' { column = x.real.column + 1 }) (mode_after m (0x20 ∷ []))
               (asked view (0x20 ∷ []) (Put 0x20 ∷ []) (refl, tt) (spaces_ask 1) s m x ∙ ap (mode_resting true) (blank_put x.real (x.not_waiting refl)))
               (same_real s real' (x.real.column + 1) (same_written s x.real _ x.same)) refl refl (x.column ∙ sym (ap (λ o. o.column) kept)) x.within (λ y. absurd (false≢true y));
@@ -305,7 +305,7 @@ module _ {T : Type 0} (view : T → TermView) {own mid : EndedRows T} (is : mid 
       Falls view (Together view) (Within view) (λ s. s) own own' r
   begins_anew r between p = from_weaker view r (ap (λ o. o.term) is ∙ forgotten_term view own) (λ s m x. let f = mid_forgotten s m x in (f.together, between, f.known)) p
 
-pub drawn_drawing : (p : Place) → is_between (drawn_place p) ≡ false
+pub drawn_drawing : (p : Phase) → is_between (drawn_place p) ≡ false
 drawn_drawing Drawing = refl
 drawn_drawing Edge = refl
 drawn_drawing Resting = refl
@@ -316,7 +316,7 @@ also_sent own own' e = e ∙ ap (λ n. record own { term = own'.term; sent = n }
 
 module _ {T : Type 0} (view : T → TermView) where
   -- a drawing that begins
-  pub opens_drawing : {own own' : EndedRows T} {place : Place} {bytes : List ℕ} (r : Result Unit Error) → is_between place ≡ false → bytes ≡ opening_bytes own.shown →
+  pub opens_drawing : {own own' : EndedRows T} {place : Phase} {bytes : List ℕ} (r : Result Unit Error) → is_between place ≡ false → bytes ≡ opening_bytes own.shown →
       own' ≡ record own { place = place; written = false; term = own'.term; sent = own'.sent } → Writes bytes (view own.term) (view own'.term) r →
       Falls view (Between view) (Within view) (λ s. s) own own' r
   opens_drawing {own = own} {own' = own'} {place = place} r drawing e kept w =

@@ -5,21 +5,23 @@ use Rattle.std.proofs.lemmas.Bool.{false≢true}
 use Rattle.std.proofs.lemmas.List.{length-map}
 use Rattle.std.proofs.lemmas.List.Concat.{flat_map-append}
 use Rattle.indicatif_text.specs.Columns.{Cell}
-use Rattle.indicatif_term.specs.Counts.{CountsOf}
-use Rattle.indicatif_term.specs.Lists.{Lists, all_rows, live_rows, forgotten_lists}
-use Rattle.indicatif_term.specs.Remembered.{AreStanding, Suits}
-use Rattle.indicatif_term.specs.Inside.Remembering.{IsMarked}
+use Rattle.indicatif_term.specs.Counts.{CountsOf, line_counts}
+use Rattle.indicatif_term.specs.Lists.{Lists, all_rows, live_rows, live_height, forgotten_lists}
+use Rattle.indicatif_term.specs.Remembered.{AreStanding, AreOwned, live_lines, Suits}
+use Rattle.std.proofs.Common.{replicate}
+use Rattle.indicatif_term.specs.declared.engine.remembered.StandingLine.{StandingLine}
+use Rattle.indicatif_term.proofs.CutOwnedLemmas.{cut_owned, none_cut_owned, settled_owned}
 use Rattle.indicatif_term.specs.Standing.{texts, standing_rows, AreLines}
 use Rattle.indicatif_term.specs.Resizes.{recut, recut_all, recut_lists, settled_whole, resized_lists}
-use Rattle.indicatif_term.specs.Inside.Recutting.{row_heights, IsShownCut, HasMore, cut_lines, shown_lines}
+use Rattle.indicatif_term.specs.Inside.Recutting.{row_heights, IsShownCut, HasMore, cut_lines, cut_bars, line_bars, shown_lines}
 use Rattle.indicatif_term.specs.Engines.{Fits}
 use Rattle.indicatif_term.specs.declared.engine.Engine.{Engine}
 use Rattle.indicatif_term.specs.declared.engine.counts.Counts.{Counts}
 use Rattle.indicatif_term.specs.declared.engine.remembered.Remembered.{Remembered}
 use Rattle.indicatif_term.specs.declared.engine.recutting.CutLines.{CutLines}
 use Rattle.indicatif_term.proofs.CountLemmas.{length-live, live_of}
-use Rattle.indicatif_term.proofs.CutLineLemmas.{cut_rows, cut_right, cut_heights, lines_of_pieces}
-use Rattle.indicatif_term.proofs.RememberedLemmas.{whole_shown, remembered_by}
+use Rattle.indicatif_term.proofs.CutLineLemmas.{cut_rows, cut_right, cut_heights, one_row_each, lines_of_pieces}
+use Rattle.indicatif_term.proofs.RememberedLemmas.{whole_shown, lines_right, remembered_by}
 use Rattle.indicatif_term.proofs.ResizeLemmas.{whole-rows, forgotten_stay}
 
 -- ---- what is remembered, cut anew
@@ -31,10 +33,12 @@ unknown_cut w w' old cut e z = record {
   heights_are = e;
   lines_are = ap (standing_rows w') z;
   right = subst (AreLines w') (sym z) tt;
+  single = subst (λ ls. map (λ (l : StandingLine). l.rows) ls ≡ replicate (length ls) 1) (sym z) refl;
+  owned = λ l a o none. (0, subst (λ ls. AreOwned (line_counts ls) (recut_lists w' l).live) (sym z) (none_cut_owned w' l (line_counts (live_lines old)) o (omega (arith, none))));
 }
 
 module _ (w w' : ℕ) (old : Remembered) (a d : CutLines) (known : old.width ≡ w) (some : 0 < w) (none : a.lines.items ≡ []) (flat : a.heights.items ≡ [])
-    (more : HasMore a d (cut_lines w w' (texts old.lines))) where
+    (more : HasMore a d (cut_lines w w' (texts old.lines))) (bars : line_bars d.lines.items ≡ line_bars a.lines.items ++ cut_bars w w' old.lines) where
   lines : shown_lines d.lines.items ≡ lines_of_pieces (cut_lines w w' (texts old.lines))
   lines = more.lines_are ∙ ap (λ xs. shown_lines xs ++ lines_of_pieces (cut_lines w w' (texts old.lines))) none
 
@@ -45,6 +49,9 @@ module _ (w w' : ℕ) (old : Remembered) (a d : CutLines) (known : old.width ≡
     heights_are = more.heights_are ∙ ap (λ xs. xs ++ map length (cut_lines w w' (texts old.lines))) flat ∙ cut_heights w w' old.lines;
     lines_are = cut_rows w w' old.lines d.lines.items lines;
     right = cut_right w w' old.lines d.lines.items lines;
+    single = one_row_each d.lines.items (cut_lines w w' (texts old.lines)) lines;
+    owned = λ l r o _. cut_owned w w' old l d.lines.items (bars ∙ ap (λ ls. line_bars ls ++ cut_bars w w' old.lines) none) (one_row_each d.lines.items (cut_lines w w' (texts old.lines)) lines)
+        (subst (λ n. AreLines n old.lines) known (lines_right old (omega (arith, known, some)))) (subst (λ n. 0 < n → AreStanding n old l) known r some) o;
   }
 
 -- ---- the last rows
@@ -89,18 +96,25 @@ module _ (w w' h : ℕ) (l : Lists) (counts counts' : Counts) (failed : Bool) (o
       ap (λ k. drop k heights) at ∙ ap (drop (length x.rows - length low)) x.heights_are ∙ map_drop w' (length x.rows - length low) x.rows
       ∙ ap (row_heights w') (same_behind f.0 x.rows l.above low (f.1 ∙ append_assoc l.above l.kept (live_rows w l.live)) (omega (arith, enough, n, low_height)))
 
-  pub resized_suits : CountsOf counts' (settled_whole w' h (recut_lists w' l)) → new.lines ≡ cut.lines.items → (0 < new.width → IsMarked w' counts'.live new) →
+  pub resized_suits : CountsOf counts' (settled_whole w' h (recut_lists w' l)) → new.lines ≡ cut.lines.items → new.width ≡ w' → new.kept ≡ length cut.lines.items - counts'.live →
       Suits counts' false new (settled_whole w' h (recut_lists w' l))
-  resized_suits counted lines marked =
+  resized_suits counted lines width kept =
       let f = x.known l s.remembered in
+      let size : length heights ≡ length x.rows = ap length x.heights_are ∙ length-map x.rows (λ row. length (recut w' row)) in
+      let bound : length l.kept + live_height l.live ≤ length x.rows = omega (arith, enough, size, s.counted.kept_is, live_of counts l s.counted) in
+      let c = x.owned l s.remembered s.owned bound in
+      let own : AreOwned (line_counts (live_lines new)) (settled_whole w' h (recut_lists w' l)).live =
+      subst (λ ls. AreOwned (line_counts ls) (settled_whole w' h (recut_lists w' l)).live) (sym (ap (drop new.kept) lines ∙ ap (λ n. drop n cut.lines.items) kept))
+      (settled_owned w' h counts'.live l cut.lines.items x.single c.0 c.1 (live_of counts' (settled_whole w' h (recut_lists w' l)) counted)) in
       record {
         counted = counted;
         failed_is = sym sound ∙ s.failed_is;
         forgets = λ broke. absurd (false≢true (sym sound ∙ s.failed_is ∙ broke));
-        remembered = remembered_by w' counts'.live new (settled_whole w' h (recut_lists w' l)) (recut_all w' f.0) marked
+        remembered = remembered_by w' new (settled_whole w' h (recut_lists w' l)) (recut_all w' f.0) (λ _. width)
             (ap (λ ls. recut_all w' f.0 ++ standing_rows w' ls) lines ∙ ap (λ rows. recut_all w' f.0 ++ rows) x.lines_are ∙ sym (flat_map-append (recut w') f.0 x.rows) ∙ ap (recut_all w') f.1
             ∙ sym (whole-rows w' h l some w))
-            (live_of counts' (settled_whole w' h (recut_lists w' l)) counted);
+            own;
+        owned = own;
       }
 
 -- ---- what lists become

@@ -14,7 +14,7 @@ use Rattle.indicatif_term.proofs.LastLineLemmas.{fill_bytes}
 use Rattle.indicatif_term.specs.Shows.{look, looks_of}
 use Rattle.indicatif_term.proofs.CursorRowLemmas.{IsSized, IsShowable}
 use Rattle.indicatif_term.proofs.TextLemmas.{IsShown, not_control, mapped, none_some, some_same}
-use Rattle.indicatif_term.proofs.WrittenLineLemmas.{marks_before, marks_before-cons, has_no_width, glyphs_sized}
+use Rattle.indicatif_term.proofs.WrittenLineLemmas.{joiners_before, joiners_before-cons, has_no_width, glyphs_sized}
 use Rattle.indicatif_text.proofs.WrappingLemmas.{pieces_some, last_more}
 use Rattle.indicatif_term.proofs.GlyphLemmas.{columns_push}
 
@@ -24,7 +24,7 @@ spaces n = replicate n 0x20
 
 -- a space as a glyph
 abbrev pub space : Glyph
-space = record { base = 0x20; marks = [] }
+space = record { base = 0x20; joiners = [] }
 
 space_width : width_of 0x20 ≡ 1
 unfolding char_width
@@ -122,26 +122,26 @@ visible_more n zero (c ∷ d ∷ ds) h all = colour_case n c d ds (colour_length
 
 -- ---- glyphs
 
-marks_spaces : (n : ℕ) → marks_before (spaces n) ≡ []
-marks_spaces zero = refl
-marks_spaces (suc n) = marks_before-cons 0x20 (spaces n) ∙ rw space_takes refl
+joiners_spaces : (n : ℕ) → joiners_before (spaces n) ≡ []
+joiners_spaces zero = refl
+joiners_spaces (suc n) = joiners_before-cons 0x20 (spaces n) ∙ rw space_takes refl
 
 glyphs_spaces : (n : ℕ) → glyphs_of (spaces n) ≡ replicate n space
 glyphs_spaces zero = refl
 glyphs_spaces (suc n) =
-    let marks : marks_before (spaces n) ≡ [] = marks_spaces n in
+    let joiners : joiners_before (spaces n) ≡ [] = joiners_spaces n in
     let rest : glyphs_of (spaces n) ≡ replicate n space = glyphs_spaces n in
-    rw (space_takes, marks, rest) refl
+    rw (space_takes, joiners, rest) refl
 
-marks_more : (n : ℕ) (cs : List ℕ) → marks_before (cs ++ spaces n) ≡ marks_before cs
-marks_more n [] = marks_spaces n
-marks_more n (c ∷ cs) = marks_before-cons c (cs ++ spaces n) ∙ ap (λ ms. cond (has_no_width c) (c ∷ ms) []) (marks_more n cs) ∙ sym (marks_before-cons c cs)
+joiners_more : (n : ℕ) (cs : List ℕ) → joiners_before (cs ++ spaces n) ≡ joiners_before cs
+joiners_more n [] = joiners_spaces n
+joiners_more n (c ∷ cs) = joiners_before-cons c (cs ++ spaces n) ∙ ap (λ ms. cond (has_no_width c) (c ∷ ms) []) (joiners_more n cs) ∙ sym (joiners_before-cons c cs)
 
 glyphs_more : (n : ℕ) (cs : List ℕ) → glyphs_of (cs ++ spaces n) ≡ glyphs_of cs ++ replicate n space
 glyphs_more n [] = glyphs_spaces n
 glyphs_more n (c ∷ cs) = elim (cases_Bool (eqb (width_of c) 0)) [
   | inl none ↦ rw none (glyphs_more n cs)
-  | inr some ↦ rw (some, marks_more n cs, glyphs_more n cs) refl
+  | inr some ↦ rw (some, joiners_more n cs, glyphs_more n cs) refl
 ]
 
 -- ---- pieces

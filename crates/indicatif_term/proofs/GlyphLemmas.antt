@@ -9,9 +9,9 @@ use Rattle.std.proofs.lemmas.Grind.{flat_map-append}
 use Rattle.std.specs.List.{AllByRecursion}
 use Rattle.unicode_width.specs.Width.{char_width}
 use Rattle.indicatif_text.specs.Columns.{Cell, width_of, Blank, Continued, Glyph, glyph_cells, glyph_width, columns_in, row_of, pieces_after, blank_row, columns_of_last}
-use Rattle.indicatif_term.specs.Screen.{Screen, Put, joined_at, with_mark, put_here, put_sized, put_mark, line_feed, performed}
+use Rattle.indicatif_term.specs.Screen.{Screen, Put, joined_at, with_joiner, put_here, put_sized, put_joiner, line_feed, performed}
 use Rattle.indicatif_term.specs.Inside.Reading.{performed_all}
-use Rattle.indicatif_term.specs.Inside.Resizing.{marks_joined}
+use Rattle.indicatif_term.specs.Inside.Resizing.{all_joined}
 use Rattle.indicatif_text.proofs.WrappingLemmas.{pieces_some, last_more}
 use Rattle.indicatif_term.proofs.CursorRowLemmas.{screen_at, screen_after, glyph_ops, IsSized}
 use Rattle.indicatif_term.proofs.FeedLemmas.{performed_all-append}
@@ -64,12 +64,12 @@ row_of_push w piece g h =
     let room : (w - columns_in piece) - length (glyph_cells g) ≡ w - columns_in (piece ++ g ∷ []) = omega (arith, length_cells g h, columns_push piece g) in
     cc (cells_push piece g)
 
-pub put_sized_here : (c k : ℕ) (s : Screen) → 0 < k → k ≤ s.columns → s.column + k ≤ s.columns → put_sized c (Some k) s ≡ put_here (record { base = c; marks = [] }) k s
+pub put_sized_here : (c k : ℕ) (s : Screen) → 0 < k → k ≤ s.columns → s.column + k ≤ s.columns → put_sized c (Some k) s ≡ put_here (record { base = c; joiners = [] }) k s
 put_sized_here c k s h₁ h₂ h₃ =
     rw (ne_eqb k 0 (λ e. omega arith), le-ltb s.columns k h₂, le-leb (s.column + k) s.columns h₃) refl
 
 pub put_sized_next : (c k : ℕ) (s : Screen) → 0 < k → k ≤ s.columns → s.columns < s.column + k →
-    put_sized c (Some k) s ≡ put_here (record { base = c; marks = [] }) k (line_feed (record s { column = 0 }))
+    put_sized c (Some k) s ≡ put_here (record { base = c; joiners = [] }) k (line_feed (record s { column = 0 }))
 put_sized_next c k s h₁ h₂ h₃ =
     rw (ne_eqb k 0 (λ e. omega arith), le-ltb s.columns k h₂, lt-leb (s.column + k) s.columns h₃) refl
 
@@ -78,9 +78,9 @@ some_width None h = absurd (omega arith)
 some_width (Some k) h = refl
 
 pub put_base : (w h : ℕ) (above : List (List Cell)) (piece : List Glyph) (n c : ℕ) → 0 < width_of c → IsPiece piece → columns_in piece + width_of c ≤ w →
-    performed (Put c) (piece_at w h above piece n) ≡ piece_at w h above (piece ++ record { base = c; marks = [] } ∷ []) n
+    performed (Put c) (piece_at w h above piece n) ≡ piece_at w h above (piece ++ record { base = c; joiners = [] } ∷ []) n
 put_base w h above piece n c pos is fits =
-    let g : Glyph = record { base = c; marks = [] } in
+    let g : Glyph = record { base = c; joiners = [] } in
     ap (λ o. put_sized c o (piece_at w h above piece n)) (some_width (char_width false c) pos)
     ∙ put_sized_here c (width_of c) (piece_at w h above piece n) pos (omega arith) fits
     ∙ put_here_at w h above (flat_map glyph_cells piece) (w - columns_in piece) n (width_of c) (columns_in piece) g is
@@ -92,54 +92,54 @@ pub put_base_next : (w h : ℕ) (above : List (List Cell)) (piece : List Glyph) 
 put_base_next w h above piece n c pos fits full =
     ap (λ o. put_sized c o (piece_at w h above piece n)) (some_width (char_width false c) pos)
     ∙ put_sized_next c (width_of c) (piece_at w h above piece n) pos fits full
-    ∙ ap (put_here (record { base = c; marks = [] }) (width_of c)) (line_feed_at w h above (row_of w piece) n 0 ∙ no_piece w h (above ++ row_of w piece ∷ []) (n - 1))
+    ∙ ap (put_here (record { base = c; joiners = [] }) (width_of c)) (line_feed_at w h above (row_of w piece) n 0 ∙ no_piece w h (above ++ row_of w piece ∷ []) (n - 1))
     ∙ sym (put_sized_here c (width_of c) (piece_at w h (above ++ row_of w piece ∷ []) [] (n - 1)) pos fits (omega arith))
     ∙ sym (ap (λ o. put_sized c o (piece_at w h (above ++ row_of w piece ∷ []) [] (n - 1))) (some_width (char_width false c) pos))
 
--- a mark joins the last glyph
-mark_at : (w h : ℕ) (above : List (List Cell)) (piece : List Glyph) (n c : ℕ) (g : Glyph) → 0 < glyph_width g → IsPiece piece →
-    put_mark c (piece_at w h above (piece ++ g ∷ []) n) ≡ piece_at w h above (piece ++ with_mark c g ∷ []) n
-mark_at w h above piece n c g pos is =
+-- a joiner joins the last glyph
+joiner_at : (w h : ℕ) (above : List (List Cell)) (piece : List Glyph) (n c : ℕ) (g : Glyph) → 0 < glyph_width g → IsPiece piece →
+    put_joiner c (piece_at w h above (piece ++ g ∷ []) n) ≡ piece_at w h above (piece ++ with_joiner c g ∷ []) n
+joiner_at w h above piece n c g pos is =
     let is' : length (flat_map glyph_cells (piece ++ g ∷ [])) ≡ columns_in (piece ++ g ∷ []) = is_piece_push piece g pos is in
-    let row : joined_at (columns_in (piece ++ g ∷ [])) c (row_of w (piece ++ g ∷ [])) ≡ row_of w (piece ++ with_mark c g ∷ []) =
+    let row : joined_at (columns_in (piece ++ g ∷ [])) c (row_of w (piece ++ g ∷ [])) ≡ row_of w (piece ++ with_joiner c g ∷ []) =
     cc (
       joined c (flat_map glyph_cells piece) g (replicate (w - columns_in (piece ++ g ∷ [])) Blank),
       cells_push piece g,
-      cells_push piece (with_mark c g),
+      cells_push piece (with_joiner c g),
       columns_push piece g,
-      columns_push piece (with_mark c g),
+      columns_push piece (with_joiner c g),
     ) in
     rw (cursor_row_at w h above (row_of w (piece ++ g ∷ [])) n (columns_in (piece ++ g ∷ [])), row) (
-    with_row_at w h above (row_of w (piece ++ g ∷ [])) n (columns_in (piece ++ g ∷ [])) (row_of w (piece ++ with_mark c g ∷ []))
-    ∙ cc (columns_push piece g, columns_push piece (with_mark c g)))
+    with_row_at w h above (row_of w (piece ++ g ∷ [])) n (columns_in (piece ++ g ∷ [])) (row_of w (piece ++ with_joiner c g ∷ []))
+    ∙ cc (columns_push piece g, columns_push piece (with_joiner c g)))
 
-pub marks_at : (w h : ℕ) (above : List (List Cell)) (piece : List Glyph) (n : ℕ) (ms : List ℕ) (g : Glyph) → 0 < glyph_width g → IsPiece piece →
-    marks_joined (piece_at w h above (piece ++ g ∷ []) n) ms ≡ piece_at w h above (piece ++ record g { marks = g.marks ++ ms } ∷ []) n
-marks_at w h above piece n [] g pos is = ap (λ ms. piece_at w h above (piece ++ record g { marks = ms } ∷ []) n) (sym (append-nil g.marks))
-marks_at w h above piece n (m ∷ ms) g pos is =
-    ap (λ s. marks_joined s ms) (mark_at w h above piece n m g pos is)
-    ∙ marks_at w h above piece n ms (with_mark m g) pos is
-    ∙ ap (λ ms. piece_at w h above (piece ++ record g { marks = ms } ∷ []) n) (append_assoc g.marks (m ∷ []) ms)
+pub joiners_at : (w h : ℕ) (above : List (List Cell)) (piece : List Glyph) (n : ℕ) (ms : List ℕ) (g : Glyph) → 0 < glyph_width g → IsPiece piece →
+    all_joined (piece_at w h above (piece ++ g ∷ []) n) ms ≡ piece_at w h above (piece ++ record g { joiners = g.joiners ++ ms } ∷ []) n
+joiners_at w h above piece n [] g pos is = ap (λ ms. piece_at w h above (piece ++ record g { joiners = ms } ∷ []) n) (sym (append-nil g.joiners))
+joiners_at w h above piece n (m ∷ ms) g pos is =
+    ap (λ s. all_joined s ms) (joiner_at w h above piece n m g pos is)
+    ∙ joiners_at w h above piece n ms (with_joiner m g) pos is
+    ∙ ap (λ ms. piece_at w h above (piece ++ record g { joiners = ms } ∷ []) n) (append_assoc g.joiners (m ∷ []) ms)
 
--- characters without columns are marks
-as_marks : (ms : List ℕ) (s : Screen) → AllByRecursion (λ c. char_width false c ≡ Some 0) ms → performed_all (map (λ c. Put c) ms) s ≡ marks_joined s ms
-as_marks [] s all = refl
-as_marks (m ∷ ms) s all = ap (performed_all (map (λ c. Put c) ms)) (ap (λ o. put_sized m o s) all.0) ∙ as_marks ms (put_mark m s) all.1
+-- characters without columns are joiners
+as_joiners : (ms : List ℕ) (s : Screen) → AllByRecursion (λ c. char_width false c ≡ Some 0) ms → performed_all (map (λ c. Put c) ms) s ≡ all_joined s ms
+as_joiners [] s all = refl
+as_joiners (m ∷ ms) s all = ap (performed_all (map (λ c. Put c) ms)) (ap (λ o. put_sized m o s) all.0) ∙ as_joiners ms (put_joiner m s) all.1
 
-marks_put : (w h : ℕ) (above : List (List Cell)) (piece : List Glyph) (n : ℕ) (ms : List ℕ) (g : Glyph) → 0 < glyph_width g → IsPiece piece → AllByRecursion (λ c. char_width false c ≡ Some 0) ms →
-    performed_all (map (λ c. Put c) ms) (piece_at w h above (piece ++ g ∷ []) n) ≡ piece_at w h above (piece ++ record g { marks = g.marks ++ ms } ∷ []) n
-marks_put w h above piece n ms g pos is all = as_marks ms (piece_at w h above (piece ++ g ∷ []) n) all ∙ marks_at w h above piece n ms g pos is
+joiners_put : (w h : ℕ) (above : List (List Cell)) (piece : List Glyph) (n : ℕ) (ms : List ℕ) (g : Glyph) → 0 < glyph_width g → IsPiece piece → AllByRecursion (λ c. char_width false c ≡ Some 0) ms →
+    performed_all (map (λ c. Put c) ms) (piece_at w h above (piece ++ g ∷ []) n) ≡ piece_at w h above (piece ++ record g { joiners = g.joiners ++ ms } ∷ []) n
+joiners_put w h above piece n ms g pos is all = as_joiners ms (piece_at w h above (piece ++ g ∷ []) n) all ∙ joiners_at w h above piece n ms g pos is
 
 glyph_put : (w h : ℕ) (above : List (List Cell)) (piece : List Glyph) (n : ℕ) (g : Glyph) → IsSized w g → IsPiece piece → columns_in piece + glyph_width g ≤ w →
     performed_all (glyph_ops g) (piece_at w h above piece n) ≡ piece_at w h above (piece ++ g ∷ []) n
 glyph_put w h above piece n g sized is fits =
-    ap (performed_all (map (λ c. Put c) g.marks)) (put_base w h above piece n g.base sized.columns is fits)
-    ∙ marks_put w h above piece n g.marks (record { base = g.base; marks = [] }) sized.columns is (recursion_from_All (λ c. char_width false c ≡ Some 0) g.marks sized.marks)
+    ap (performed_all (map (λ c. Put c) g.joiners)) (put_base w h above piece n g.base sized.columns is fits)
+    ∙ joiners_put w h above piece n g.joiners (record { base = g.base; joiners = [] }) sized.columns is (recursion_from_All (λ c. char_width false c ≡ Some 0) g.joiners sized.joiners)
 
 glyph_put_next : (w h : ℕ) (above : List (List Cell)) (piece : List Glyph) (n : ℕ) (g : Glyph) → IsSized w g → IsPiece piece → w < columns_in piece + glyph_width g →
     performed_all (glyph_ops g) (piece_at w h above piece n) ≡ piece_at w h (above ++ row_of w piece ∷ []) (g ∷ []) (n - 1)
 glyph_put_next w h above piece n g sized is full =
-    ap (performed_all (map (λ c. Put c) g.marks)) (put_base_next w h above piece n g.base sized.columns sized.fits full)
+    ap (performed_all (map (λ c. Put c) g.joiners)) (put_base_next w h above piece n g.base sized.columns sized.fits full)
     ∙ glyph_put w h (above ++ row_of w piece ∷ []) [] (n - 1) g sized refl (let f : glyph_width g ≤ w = sized.fits in omega arith)
 
 -- ---- many glyphs

@@ -1,97 +1,119 @@
--- The counts where a bar is dropped are those of the lists then.
-use Rattle.std.proofs.Common.{◌≡◌, ℕ, ◌+◌, true, false, List, [], ◌∷◌, length, map, take, drop, refl, sym, ◌∙◌, ap, arith, length-append, get_or, if◌then◌else◌, ◌<◌, add-zero}
-use Rattle.std.specs.Prelude.{◌==◌, ◌||◌}
+-- Where a bar is dropped: what becomes of its lines, and of the counts.
+use Rattle.std.proofs.Common.{◌≡◌, ℕ, ◌+◌, ◌-◌, ◌<◌, ◌≤◌, true, false, List, [], ◌∷◌, length, take, drop, refl, sym, ◌∙◌, ap, subst, arith, length-append, if◌then◌else◌}
+use Rattle.std.specs.Prelude.{◌==◌, sum_by}
 use Rattle.std.specs.List.{list_any}
-use Rattle.std.proofs.lemmas.Bool.{ne_eqb, eq-eqb}
-use Rattle.std.proofs.lemmas.List.{drop-drop, get_or-drop, length-drop, length-map}
-use Rattle.indicatif_term.specs.declared.engine.layout.RowCount.{RowCount}
+use Rattle.std.proofs.lemmas.List.{drop-drop, drop-map}
+use Rattle.std.proofs.lemmas.List.Sums.{sum_by-take-drop}
 use Rattle.indicatif_term.specs.declared.engine.counts.Counts.{Counts}
-use Rattle.indicatif_term.specs.declared.engine.counts.Keep.{Keep}
-use Rattle.indicatif_term.specs.Counts.{CountsOf, row_count}
-use Rattle.indicatif_term.specs.Lists.{Lists, BarRows, fate, kept_of, is_first, has_rows, segments_height, live_rows}
 use Rattle.indicatif_term.specs.declared.engine.counts.Keep.TheVariants.{Absent, Passed, Behind}
-use Rattle.indicatif_term.proofs.CountLemmas.{drop-held, length-live}
+use Rattle.indicatif_term.specs.declared.engine.remembered.Remembered.{Remembered}
+use Rattle.indicatif_term.specs.Counts.{CountsOf, RowCount, line_count, line_counts}
+use Rattle.indicatif_term.specs.Remembered.{AreOwned, live_lines}
+use Rattle.indicatif_term.specs.Inside.Counted.{IsPassed}
+use Rattle.indicatif_term.specs.Inside.Owned.{run_length}
+use Rattle.indicatif_term.specs.Lists.{Lists, Live, BarRows, fate, kept_of, passed, is_first, segments_height, live_rows}
+use Rattle.std.proofs.Common.{Bool, min, ◌^◌, ◌||◌}
+use Rattle.std.proofs.lemmas.List.{take-map}
+use Rattle.indicatif_term.specs.Remembered.{Suits}
+use Rattle.indicatif_term.specs.Standing.{placed}
+use Rattle.indicatif_term.specs.Inside.Changes.{placed_height}
+use Rattle.indicatif_term.specs.declared.engine.remembered.StandingLine.{StandingLine}
+use Rattle.indicatif_term.proofs.OwnedLemmas.{height_counted}
+use Rattle.indicatif_term.proofs.RememberedLemmas.{kept_shown}
+use Rattle.indicatif_term.proofs.DrawingLemmas.{kept-failed, kept_forgets}
+use Rattle.indicatif_term.proofs.CountLemmas.{length-live}
+use Rattle.indicatif_term.proofs.OwnedLemmas.{rows_by, not_first, is_among, is_front, rest_owned, front_height}
 
-held_rows : (bar : ℕ) (segments : List BarRows) → list_any (λ (s : RowCount). s.bar == bar) (map row_count segments) ≡ has_rows bar segments
-held_rows bar [] = refl
-held_rows bar (s ∷ segments) = ap (λ b. (s.bar == bar) || b) (held_rows bar segments)
+module _ (bar : ℕ) (l : Lists) (c : Counts) (r : Remembered) (o : AreOwned (line_counts (live_lines r)) l.live) (b : c.blanks ≡ l.live.blanks) where
+  abbrev all : List RowCount
+  all = line_counts (live_lines r)
 
--- what the code finds of the segments that are not the bar's own
-abbrev pub behind_in : ℕ → List RowCount → Keep
-behind_in bar segments = if list_any (λ (s : RowCount). s.bar == bar) segments then Behind else Absent
+  abbrev own : List RowCount
+  own = line_counts (drop c.blanks (live_lines r))
 
--- no live segment
-none_live : (bar : ℕ) (segments : List BarRows) → map row_count segments ≡ [] → segments ≡ []
-none_live bar [] e = refl
-none_live bar (s ∷ segments) e = cc
+  own_is : own ≡ drop l.live.blanks all
+  own_is = sym (drop-map line_count c.blanks (live_lines r)) ∙ ap (λ n. drop n all) b
 
--- the first of the live segments
-first_live : (segments : List BarRows) (x : RowCount) → x ≡ get_or (map row_count segments) 0 x → 0 < length segments →
-    (s : BarRows) × (rest : List BarRows) × (segments ≡ s ∷ rest) × (row_count s ≡ x)
-first_live [] x e h = absurd (omega arith)
-first_live (s ∷ rest) x e h = (s, rest, refl, sym e)
+  stays : 0 ≡ run_length bar own → is_first bar l.live.segments ≡ false
+  stays e = not_first bar all l.live o (e ∙ ap (run_length bar) own_is)
 
-module _ (bar : ℕ) (l : Lists) (c : Counts) (o : CountsOf c l) where
-  pub none_absent : drop c.passed c.segments.items ≡ [] → Absent ≡ fate bar l
+  pub stays_fate : 0 ≡ run_length bar own → (if list_any (λ (c : RowCount). c.bar == bar) own then Behind else Absent) ≡ fate bar l
   unfolding fate
-  none_absent e = rw (none_live bar l.live.segments (sym o.segments_are ∙ e)) refl
+  stays_fate e = ap (λ b. if b then Behind else Absent) (ap (list_any (λ (c : RowCount). c.bar == bar)) own_is ∙ is_among bar all l.live o) ∙ rw (stays e) refl
 
-  pub none_kept : (w : ℕ) → drop c.passed c.segments.items ≡ [] → CountsOf c (kept_of w bar l)
+  pub stays_kept : (w : ℕ) → 0 ≡ run_length bar own → l ≡ kept_of w bar l
   unfolding kept_of
-  none_kept w e = let first : is_first bar l.live.segments ≡ false = ap (is_first bar) (none_live bar l.live.segments (sym o.segments_are ∙ e)) in rw first o
+  stays_kept w e = rw (stays e) refl
 
-  module _ (x : RowCount) (some : c.passed < length c.segments.items) (at : x ≡ get_or c.segments.items c.passed x) where
-    live_some : 0 < length l.live.segments
-    live_some = omega (arith, length-drop c.passed c.segments.items, ap length o.segments_are, length-map l.live.segments row_count)
+  module _ (n : ℕ) (some : 0 < n) (e : n ≡ run_length bar own) where
+    run : n ≡ run_length bar (drop l.live.blanks all)
+    run = e ∙ ap (run_length bar) own_is
 
-    found : (s : BarRows) × (rest : List BarRows) × (l.live.segments ≡ s ∷ rest) × (row_count s ≡ x)
-    found = first_live l.live.segments x (at ∙ ap (λ n. get_or c.segments.items n x) (sym (add-zero c.passed)) ∙ sym (get_or-drop c.passed c.segments.items 0 x)
-        ∙ ap (λ xs. get_or xs 0 x) o.segments_are) live_some
+    passes : is_first bar l.live.segments ≡ true
+    passes = is_front bar all l.live o n some run
 
-    is_first_bar : is_first bar l.live.segments ≡ (x.bar == bar)
-    is_first_bar = ap (is_first bar) found.2 ∙ ap (λ (h : RowCount). h.bar == bar) found.3
-
-    behind_first : (x.bar ≡ bar → ⊥) → is_first bar l.live.segments ≡ false
-    behind_first e = is_first_bar ∙ ne_eqb x.bar bar e
-
-    pub behind : (x.bar ≡ bar → ⊥) → behind_in bar (drop c.passed c.segments.items) ≡ fate bar l
+    pub passes_fate : Passed ≡ fate bar l
     unfolding fate
-    behind e =
-        let among : list_any (λ (s : RowCount). s.bar == bar) (drop c.passed c.segments.items) ≡ has_rows bar l.live.segments =
-        ap (list_any (λ (s : RowCount). s.bar == bar)) o.segments_are ∙ held_rows bar l.live.segments in
-        rw (behind_first e, among) refl
+    passes_fate = rw passes refl
 
-    pub behind_kept : (w : ℕ) → (x.bar ≡ bar → ⊥) → CountsOf c (kept_of w bar l)
+    passes_kept : (w : ℕ) → passed w 1 l ≡ kept_of w bar l
     unfolding kept_of
-    behind_kept w e = rw (behind_first e) o
+    passes_kept w = rw passes refl
 
-    first : x.bar ≡ bar → is_first bar l.live.segments ≡ true
-    first e = is_first_bar ∙ eq-eqb x.bar bar e
+    pub kept_owned : (w : ℕ) (r' : Remembered) → r'.lines ≡ r.lines → r'.kept ≡ r.kept + (c.blanks + n) → AreOwned (line_counts (live_lines r')) (kept_of w bar l).live
+    kept_owned w r' lines k =
+        let left : line_counts (live_lines r') ≡ drop (l.live.blanks + n) all =
+        ap (λ ls. line_counts (drop r'.kept ls)) lines ∙ ap (λ m. line_counts (drop m r.lines)) k ∙ ap line_counts (sym (drop-drop (c.blanks + n) r.kept r.lines))
+        ∙ sym (drop-map line_count (c.blanks + n) (live_lines r)) ∙ ap (λ m. drop (m + n) all) b in
+        subst (λ x. AreOwned (line_counts (live_lines r')) x.live) (passes_kept w)
+        (subst (λ cs. AreOwned cs (passed w 1 l).live) (sym left) (rest_owned bar all l.live o n some run))
 
-    pub passes : x.bar ≡ bar → Passed ≡ fate bar l
-    unfolding fate
-    passes e = rw (first e) refl
+    module _ (rows : ℕ) (are : rows ≡ sum_by rows_by (take n own)) (counted : CountsOf c l) where
+      first_height : segments_height (take 1 l.live.segments) ≡ rows
+      first_height = front_height bar all l.live o n some run ∙ ap (λ cs. sum_by rows_by (take n cs)) (sym own_is) ∙ sym are
 
-    first_height : segments_height (take 1 l.live.segments) ≡ x.rows
-    first_height =
-        let same : length found.0.rows ≡ x.rows = ap (λ (h : RowCount). h.rows) found.3 in
-        ap (λ ss. segments_height (take 1 ss)) found.2 ∙ omega arith
+      split : segments_height (take 1 l.live.segments) + segments_height (drop 1 l.live.segments) ≡ segments_height l.live.segments
+      split = sum_by-take-drop (λ (s : BarRows). length s.rows) l.live.segments 1
 
-    pub passed_counts : (w : ℕ) (c' : Counts) → x.bar ≡ bar → c'.kept ≡ c.kept + (c.blanks + x.rows) → c'.blanks ≡ 0 → c'.segments.items ≡ c.segments.items → c'.passed ≡ c.passed + 1 →
-        c'.reached ≡ c.reached → c'.below ≡ c.below → c'.under ≡ c.under → CountsOf c' (kept_of w bar l)
-    unfolding kept_of
-    passed_counts w c' e k b s n r f u = rw (first e) (record {
-      kept_is = k ∙ omega (
-        arith,
-        o.kept_is,
-        o.blanks_are,
-        length-append l.kept (live_rows w (record { blanks = l.live.blanks; segments = take 1 l.live.segments })),
-        length-live w (record { blanks = l.live.blanks; segments = take 1 l.live.segments }),
-        first_height,
-      );
-      blanks_are = b;
-      segments_are = cc (s, n) ∙ sym (drop-drop 1 c.passed c.segments.items) ∙ ap (drop 1) o.segments_are ∙ drop-held 1 l.live.segments;
-      reached_is = rw r o.reached_is;
-      below_is = f ∙ o.below_is;
-      under_is = u ∙ o.under_is;
-    })
+      pub in_live : c.blanks + rows ≤ c.live
+      in_live = omega (arith, first_height, split, counted.live_is, b)
+
+      pub kept_counts : (w : ℕ) (c' : Counts) → IsPassed c rows c' → CountsOf c' (kept_of w bar l)
+      kept_counts w c' p =
+          let gone : Live = record { blanks = l.live.blanks; segments = take 1 l.live.segments } in
+          let is : CountsOf c' (passed w 1 l) = record {
+            kept_is = omega (arith, p.kept_is, counted.kept_is, b, length-append l.kept (live_rows w gone), length-live w gone, first_height);
+            blanks_are = p.blanks_are;
+            live_is = omega (arith, p.live_is, counted.live_is, b, first_height, split);
+            reached_is = rw p.reached_is counted.reached_is;
+            below_is = p.below_is ∙ counted.below_is;
+            under_is = p.under_is ∙ counted.under_is;
+          } in
+          subst (CountsOf c') (passes_kept w) is
+
+-- ---- an engine
+
+pub any_counts : (bar : ℕ) (ls : List StandingLine) → list_any (λ (l : StandingLine). l.bar == bar) ls ≡ list_any (λ (c : RowCount). c.bar == bar) (line_counts ls)
+any_counts bar [] = refl
+any_counts bar (l ∷ ls) = ap (λ b. (l.bar == bar) || b) (any_counts bar ls)
+
+pub kept_suits : (w bar n rows : ℕ) (l : Lists) (c c' : Counts) (failed : Bool) (r r' : Remembered) → Suits c failed r l → 0 < n →
+    n ≡ run_length bar (line_counts (drop c.blanks (live_lines r))) → rows ≡ min (placed_height (placed (take n (drop c.blanks (live_lines r))))) (2 ^ 64 - 1) →
+    (c.blanks + rows ≤ c.live → IsPassed c rows c') → r'.lines ≡ r.lines → r'.kept ≡ r.kept + (c.blanks + n) → r'.width ≡ (if r.width == w then w else 0) → Suits c' failed r' (kept_of w bar l)
+kept_suits w bar n rows l c c' failed r r' s some e height passes lines kept width =
+    let o = s.owned in
+    let b = s.counted.blanks_are in
+    let own = drop c.blanks (live_lines r) in
+    let sum : placed_height (placed (take n own)) ≡ sum_by rows_by (take n (line_counts own)) = height_counted (take n own) ∙ ap (sum_by rows_by) (sym (take-map line_count n own)) in
+    let low = in_live bar l c r o b n some e (sum_by rows_by (take n (line_counts own))) refl s.counted in
+    let fits : c.kept + c.live ≤ c.reached = c.fits in
+    let small : c.reached ≤ 65535 = c.small in
+    let rows_are : rows ≡ sum_by rows_by (take n (line_counts own)) = omega (arith, height, sum, low, fits, small) in
+    let own_now = kept_owned bar l c r o b n some e w r' lines kept in
+    record {
+      counted = kept_counts bar l c r o b n some e rows rows_are s.counted w c' (passes (in_live bar l c r o b n some e rows rows_are s.counted));
+      failed_is = s.failed_is ∙ sym (kept-failed w bar l);
+      forgets = kept_forgets w bar l s.forgets;
+      remembered = kept_shown w bar r r' l width lines own_now s.remembered;
+      owned = own_now;
+    }

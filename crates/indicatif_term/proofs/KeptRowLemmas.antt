@@ -54,7 +54,7 @@ whole_appended w new cells =
     let left : w - length (cells ++ new) ≡ (w - length cells) - length new = omega (arith, length-append cells new) in
     ap (λ k. (cells ++ new) ++ replicate k Blank) left ∙ sym (written_behind cells (w - length cells) new)
 
--- ---- joining a mark
+-- ---- joining a joiner
 
 pub whole_joined : (w n c : ℕ) (cells : List Cell) → n ≤ length cells → whole_row w (joined_at n c cells) ≡ joined_at n c (whole_row w cells)
 whole_joined w n c cells h =

@@ -122,7 +122,7 @@ plain_ends w line pos d e full =
     let front = i.ends.front in
     let low : c < 128 = omega (arith, i.printable.1) in
     let one : width_of c ≡ 1 = plain_width c i.printable in
-    let g : Glyph = record { base = c; marks = [] } in
+    let g : Glyph = record { base = c; joiners = [] } in
     let plain = front_visible (chars line) [] (unescaped line d.utf8 i.unescaped_bytes) in
     let seen : visible (chars line) ≡ chars front ++ c ∷ [] =
     ap visible (sym (append-nil (chars line))) ∙ plain ∙ ap (λ x. chars line ++ x) visible_none ∙ append-nil (chars line) ∙ chars_front line c i.ends d.utf8 low in

@@ -1,5 +1,5 @@
 -- Where the last line that a plan shows ends, as lines are placed one after another.
-use Rattle.std.proofs.Common.{◌≡◌, ℕ, ◌+◌, ◌<◌, true, false, List, [], ◌∷◌, ◌++◌, length, map, take, replicate, get_or, refl, sym, ◌∙◌, ap, arith, append-nil, length-append, Option, Some, None, Bool, Vec, Global, Bor, Result, Ok, Err, chars}
+use Rattle.std.proofs.Common.{◌≡◌, ℕ, ◌+◌, ◌<◌, true, false, List, [], ◌∷◌, ◌++◌, length, map, take, replicate, get_or, refl, sym, ◌∙◌, ap, arith, append-nil, length-append, Option, Some, None, Bool, Bor, Result, Ok, Err, chars}
 use Rattle.std.proofs.lemmas.Str.{chars-nil}
 use Rattle.indicatif_text.specs.Columns.{last_columns, visible, rows_of}
 use Rattle.indicatif_text.specs.declared.columns.Metrics.{Metrics}
@@ -16,11 +16,12 @@ use Rattle.indicatif_term.specs.Inside.Fills.{PlanEndsAt, last_of, line_end, mem
 use Rattle.indicatif_term.specs.declared.engine.lines.Segment.{Segment}
 use Rattle.indicatif_term.specs.declared.engine.lines.LineType.{LineType}
 use Rattle.indicatif_term.specs.declared.engine.layout.Plan.{Plan}
-use Rattle.indicatif_term.specs.declared.engine.layout.RowCount.{RowCount}
+use Rattle.std.proofs.Common.{subst}
+use Rattle.indicatif_term.specs.Inside.Owned.{no_plan}
 use Rattle.indicatif_term.proofs.LastLineLemmas.{last_push, last_append, some_last, fill_bytes, spaces_behind}
 
-pub nothing_ends : (v : Vec RowCount Global) → let p : Plan = record { segments = v; rows = 0; lines = 0; last = None; full = false; passing = 0 } in PlanEndsAt [] p
-nothing_ends v = record { lines_in = omega arith; all_in = λ e. refl; last_is = refl }
+pub nothing_ends : (p : Plan) → p ≡ no_plan → PlanEndsAt [] p
+nothing_ends p e = subst (PlanEndsAt []) (sym e) (record { lines_in = omega arith; all_in = λ e. refl; last_is = refl })
 
 module _ (before : List ℕ) (p p' : Plan) (e : PlanEndsAt before p) where
   -- a line that is not shown, nor any after it

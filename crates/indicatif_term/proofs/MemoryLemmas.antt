@@ -3,7 +3,7 @@ use Rattle.std.proofs.Common.{◌≡◌, ℕ, ◌+◌, ◌%◌, ◌^◌, Bool, t
 use Rattle.std.specs.Prelude.{Result, Ok, Err, OnOk, OnErr, if◌then◌else◌, ◌==◌, nat_lt, nat_le}
 use Rattle.std.proofs.lemmas.List.{take-append-drop}
 use Rattle.unicode_width.specs.Width.{char_width}
-use Rattle.indicatif_term.specs.Screen.{Screen, Op, Put, Return, LineFeed, Up, Down, Right, Left, EmptyRow, performed, put_sized, put_wide, put_mark, put_here, line_feed}
+use Rattle.indicatif_term.specs.Screen.{Screen, Op, Put, Return, LineFeed, Up, Down, Right, Left, EmptyRow, performed, put_sized, put_wide, put_joiner, put_here, line_feed}
 use Rattle.indicatif_term.specs.Terminal.{Terminal, after}
 use Rattle.indicatif_term.specs.Inside.Reading.{performed_all}
 use Rattle.indicatif_term.specs.Feeding.{ops_of}
@@ -26,14 +26,14 @@ either : (b : Bool) (s t u : Screen) → SameSize s u → SameSize t u → SameS
 either true s t u a b = a
 either false s t u a b = b
 
-here_size : (s t : Screen) (c w : ℕ) → SameSize s t → SameSize (put_here (record { base = c; marks = [] }) w s) t
+here_size : (s t : Screen) (c w : ℕ) → SameSize s t → SameSize (put_here (record { base = c; joiners = [] }) w s) t
 here_size s t c w a = record { columns = a.columns; height = a.height }
 
 sized : (c : ℕ) (o : Option ℕ) (s : Screen) → SameSize (put_sized c o s) s
 sized c None s = same s
 sized c (Some w) s =
-    either (w == 0) (put_mark c s) (put_wide c w s) s (record { columns = refl; height = refl })
-    (either (nat_lt s.columns w) s (put_here (record { base = c; marks = [] }) w (if nat_le (s.column + w) s.columns then s else line_feed (record s { column = 0 }))) s (same s)
+    either (w == 0) (put_joiner c s) (put_wide c w s) s (record { columns = refl; height = refl })
+    (either (nat_lt s.columns w) s (put_here (record { base = c; joiners = [] }) w (if nat_le (s.column + w) s.columns then s else line_feed (record s { column = 0 }))) s (same s)
     (here_size (if nat_le (s.column + w) s.columns then s else line_feed (record s { column = 0 })) s c w
     (either (nat_le (s.column + w) s.columns) s (line_feed (record s { column = 0 })) s (same s) (record { columns = refl; height = refl }))))
 

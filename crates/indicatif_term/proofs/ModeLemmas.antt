@@ -7,7 +7,7 @@ use Rattle.std.proofs.Math.Utf8.{encode}
 use Rattle.std.proofs.lemmas.Bool.{cond_both, cases_Bool, false≢true, eqb-true}
 use Rattle.std.proofs.lemmas.List.{take-set-le}
 use Rattle.unicode_width.specs.Width.{char_width}
-use Rattle.indicatif_term.specs.Screen.{Screen, Op, Put, Return, LineFeed, Up, Down, Right, Left, EmptyRow, performed, put_mark}
+use Rattle.indicatif_term.specs.Screen.{Screen, Op, Put, Return, LineFeed, Up, Down, Right, Left, EmptyRow, performed, put_joiner}
 use Rattle.indicatif_term.specs.Terminal.{Terminal, SequencePlace, OutsideSequence, Escaped, Sequence, Reader, idle, is_leading, byte_step, after}
 use Rattle.indicatif_term.specs.Modes.{put_over, put_unwrapped, performed_with, ModeTerminal, mode_resting, is_own, end_emptied, step_by, mode_after, ModeRowsStay, HasNoOwn}
 use Rattle.indicatif_term.specs.Inside.Reading.{byte_reader, performed_all, byte_ops, reader_after, char_ops, char_place, all_with}
@@ -141,12 +141,12 @@ stays_over : (n c w : ℕ) (s : Screen) → IsBelow n s → Stays n s (put_over 
 stays_over n c w s h = cond_both (nat_lt s.columns w) s _ (Stays n s)
     (λ e. stays_same n s h)
     (λ e. let at = stays_column n s s (min s.column (s.columns - w)) (stays_same n s h) in
-    let put = stays_here n s (record s { column = min s.column (s.columns - w) }) (record { base = c; marks = [] }) w at in
+    let put = stays_here n s (record s { column = min s.column (s.columns - w) }) (record { base = c; joiners = [] }) w at in
     stays_column n s _ _ put)
 
 stays_unwrapped_put : (n c : ℕ) (o : Option ℕ) (s : Screen) → IsBelow n s → Stays n s (put_unwrapped c o s)
 stays_unwrapped_put n c None s h = stays_same n s h
-stays_unwrapped_put n c (Some w) s h = cond_both (eqb w 0) (put_mark c s) (put_over c w s) (Stays n s)
+stays_unwrapped_put n c (Some w) s h = cond_both (eqb w 0) (put_joiner c s) (put_over c w s) (Stays n s)
     (λ e. stays_with_row n s _ h)
     (λ e. stays_over n c w s h)
 

@@ -8,14 +8,14 @@ use Rattle.std.proofs.lemmas.List.Elements.{recursion_from_All}
 use Rattle.unicode_width.specs.Width.{char_width}
 use Rattle.indicatif_text.specs.Columns.{Cell, Blank, Written, Continued, Glyph, width_of, glyph_width, glyph_cells, glyphs_of, columns_in, blank_row, row_of, pieces_after, pieces_of}
 use Rattle.indicatif_text.proofs.WrappingLemmas.{pieces_some}
-use Rattle.indicatif_term.specs.Screen.{Screen, Put, performed, put_here, put_sized, line_feed, is_continued, written_at, emptied_front, cut_before, cursor_row, with_mark, joined_at}
+use Rattle.indicatif_term.specs.Screen.{Screen, Put, performed, put_here, put_sized, line_feed, is_continued, written_at, emptied_front, cut_before, cursor_row, with_joiner, joined_at}
 use Rattle.indicatif_term.specs.Inside.Reading.{performed_all}
 use Rattle.indicatif_term.proofs.CursorRowLemmas.{IsSized, IsShowable, glyph_ops}
 use Rattle.indicatif_term.proofs.ScreenRowLemmas.{made, same_screen, joined}
 use Rattle.indicatif_term.proofs.GlyphLemmas.{IsPiece, length_cells, is_piece_push, cells_push, columns_push, put_sized_here, put_sized_next, some_width}
 use Rattle.indicatif_term.proofs.RowEditLemmas.{length-emptied_front}
 use Rattle.indicatif_term.proofs.FeedLemmas.{performed_all-append}
-use Rattle.indicatif_term.proofs.WrittenLineLemmas.{marks_before, split_glyphs, glyphs_sized}
+use Rattle.indicatif_term.proofs.WrittenLineLemmas.{joiners_before, split_glyphs, glyphs_sized}
 
 -- ---- cells written over
 
@@ -96,7 +96,7 @@ AreFull w pieces = AllByRecursion (λ p. columns_in p ≡ w) pieces
 -- visible characters of which none joins what stands before them, and which fill their rows
 pub record Fills (w : ℕ) (cs : List ℕ) : Type 0 where
   pub printable : AllByRecursion (IsShowable w) cs
-  pub unmarked : marks_before cs ≡ []
+  pub unmarked : joiners_before cs ≡ []
   pub full : AreFull w (pieces_of w (glyphs_of cs))
 
 -- their rows
@@ -122,9 +122,9 @@ module _ (w h : ℕ) where
 
   put_base : (a : List (List Cell)) (piece : List Glyph) (rest : List Cell) (b : List (List Cell)) (c : ℕ) → 0 < width_of c → IsPiece piece → columns_in piece + width_of c ≤ w →
       IsClean (columns_in piece) rest →
-      performed (Put c) (over_at a piece rest b) ≡ over_at a (piece ++ record { base = c; marks = [] } ∷ []) (emptied_front (drop (width_of c) rest)) b
+      performed (Put c) (over_at a piece rest b) ≡ over_at a (piece ++ record { base = c; joiners = [] } ∷ []) (emptied_front (drop (width_of c) rest)) b
   put_base a piece rest b c pos is fits clean =
-      let g : Glyph = record { base = c; marks = [] } in
+      let g : Glyph = record { base = c; joiners = [] } in
       let s = over_at a piece rest b in
       let cells = flat_map glyph_cells piece in
       let long : length (glyph_cells g) ≡ width_of c = length_cells g pos in
@@ -134,38 +134,38 @@ module _ (w h : ℕ) where
       ∙ same_screen _ _ _ _ _ _ _ _ (ap (λ n. a ++ ((cells ++ glyph_cells g) ++ emptied_front (drop n rest)) ∷ b) long
       ∙ ap (λ x. a ++ (x ++ emptied_front (drop (width_of c) rest)) ∷ b) (sym (cells_push piece g))) refl (sym (columns_push piece g))
 
-  put_mark_over : (a : List (List Cell)) (piece : List Glyph) (rest : List Cell) (b : List (List Cell)) (c : ℕ) (g : Glyph) → 0 < glyph_width g → IsPiece piece → char_width false c ≡ Some 0 →
-      performed (Put c) (over_at a (piece ++ g ∷ []) rest b) ≡ over_at a (piece ++ with_mark c g ∷ []) rest b
-  put_mark_over a piece rest b c g pos is zero_width =
+  put_joiner_over : (a : List (List Cell)) (piece : List Glyph) (rest : List Cell) (b : List (List Cell)) (c : ℕ) (g : Glyph) → 0 < glyph_width g → IsPiece piece → char_width false c ≡ Some 0 →
+      performed (Put c) (over_at a (piece ++ g ∷ []) rest b) ≡ over_at a (piece ++ with_joiner c g ∷ []) rest b
+  put_joiner_over a piece rest b c g pos is zero_width =
       let s = over_at a (piece ++ g ∷ []) rest b in
       let cells = flat_map glyph_cells (piece ++ g ∷ []) in
-      let new = flat_map glyph_cells (piece ++ with_mark c g ∷ []) in
+      let new = flat_map glyph_cells (piece ++ with_joiner c g ∷ []) in
       let is' : length cells ≡ columns_in (piece ++ g ∷ []) = is_piece_push piece g pos is in
       let at : columns_in (piece ++ g ∷ []) ≡ length (flat_map glyph_cells piece ++ glyph_cells g) = sym is' ∙ ap length (cells_push piece g) in
       let row : joined_at (columns_in (piece ++ g ∷ [])) c (cells ++ rest) ≡ new ++ rest =
       ap (λ n. joined_at n c (cells ++ rest)) at ∙ ap (λ x. joined_at (length (flat_map glyph_cells piece ++ glyph_cells g)) c (x ++ rest)) (cells_push piece g)
-      ∙ joined c (flat_map glyph_cells piece) g rest ∙ ap (λ x. x ++ rest) (sym (cells_push piece (with_mark c g))) in
+      ∙ joined c (flat_map glyph_cells piece) g rest ∙ ap (λ x. x ++ rest) (sym (cells_push piece (with_joiner c g))) in
       let here : cursor_row s ≡ cells ++ rest = get_or_at a (cells ++ rest) b [] (length a) refl in
       ap (λ o. put_sized c o s) zero_width
       ∙ rw (here, row, set_at a (cells ++ rest) b (new ++ rest) (length a) refl) refl
-      ∙ same_screen _ _ _ _ _ _ _ _ refl refl (columns_push piece g ∙ sym (columns_push piece (with_mark c g)))
+      ∙ same_screen _ _ _ _ _ _ _ _ refl refl (columns_push piece g ∙ sym (columns_push piece (with_joiner c g)))
 
-  marks_over : (a : List (List Cell)) (piece : List Glyph) (rest : List Cell) (b : List (List Cell)) (ms : List ℕ) (g : Glyph) → 0 < glyph_width g → IsPiece piece →
+  joiners_over : (a : List (List Cell)) (piece : List Glyph) (rest : List Cell) (b : List (List Cell)) (ms : List ℕ) (g : Glyph) → 0 < glyph_width g → IsPiece piece →
       AllByRecursion (λ c. char_width false c ≡ Some 0) ms →
-      performed_all (map (λ c. Put c) ms) (over_at a (piece ++ g ∷ []) rest b) ≡ over_at a (piece ++ record g { marks = g.marks ++ ms } ∷ []) rest b
-  marks_over a piece rest b [] g pos is all = ap (λ ms. over_at a (piece ++ record g { marks = ms } ∷ []) rest b) (sym (append-nil g.marks))
-  marks_over a piece rest b (m ∷ ms) g pos is all =
-      ap (performed_all (map (λ c. Put c) ms)) (put_mark_over a piece rest b m g pos is all.0)
-      ∙ marks_over a piece rest b ms (with_mark m g) pos is all.1
-      ∙ ap (λ ms. over_at a (piece ++ record g { marks = ms } ∷ []) rest b) (append_assoc g.marks (m ∷ []) ms)
+      performed_all (map (λ c. Put c) ms) (over_at a (piece ++ g ∷ []) rest b) ≡ over_at a (piece ++ record g { joiners = g.joiners ++ ms } ∷ []) rest b
+  joiners_over a piece rest b [] g pos is all = ap (λ ms. over_at a (piece ++ record g { joiners = ms } ∷ []) rest b) (sym (append-nil g.joiners))
+  joiners_over a piece rest b (m ∷ ms) g pos is all =
+      ap (performed_all (map (λ c. Put c) ms)) (put_joiner_over a piece rest b m g pos is all.0)
+      ∙ joiners_over a piece rest b ms (with_joiner m g) pos is all.1
+      ∙ ap (λ ms. over_at a (piece ++ record g { joiners = ms } ∷ []) rest b) (append_assoc g.joiners (m ∷ []) ms)
 
   glyph_over : (a : List (List Cell)) (piece : List Glyph) (rest : List Cell) (b : List (List Cell)) (g : Glyph) → IsSized w g → IsPiece piece → columns_in piece + glyph_width g ≤ w →
       IsClean (columns_in piece) rest →
       performed_all (glyph_ops g) (over_at a piece rest b) ≡ over_at a (piece ++ g ∷ []) (emptied_front (drop (glyph_width g) rest)) b
   glyph_over a piece rest b g sized is fits clean =
       let rest' = emptied_front (drop (glyph_width g) rest) in
-      ap (performed_all (map (λ c. Put c) g.marks)) (put_base a piece rest b g.base sized.columns is fits clean)
-      ∙ marks_over a piece rest' b g.marks (record { base = g.base; marks = [] }) sized.columns is (recursion_from_All (λ c. char_width false c ≡ Some 0) g.marks sized.marks)
+      ap (performed_all (map (λ c. Put c) g.joiners)) (put_base a piece rest b g.base sized.columns is fits clean)
+      ∙ joiners_over a piece rest' b g.joiners (record { base = g.base; joiners = [] }) sized.columns is (recursion_from_All (λ c. char_width false c ≡ Some 0) g.joiners sized.joiners)
 
   -- at the end of a full row, the same as at the front of the next
   glyph_over_next : (a : List (List Cell)) (x : List Cell) (b : List (List Cell)) (n : Below w b) (g : Glyph) → IsSized w g →
@@ -179,10 +179,10 @@ module _ (w h : ℕ) where
       let first : performed (Put c) s ≡ performed (Put c) s' =
       ap (λ o. put_sized c o s) (some_width (char_width false c) pos)
       ∙ put_sized_next c (width_of c) s pos fits (omega arith)
-      ∙ ap (put_here (record { base = c; marks = [] }) (width_of c)) (n.fed h 0 a x)
+      ∙ ap (put_here (record { base = c; joiners = [] }) (width_of c)) (n.fed h 0 a x)
       ∙ sym (put_sized_here c (width_of c) s' pos fits (omega arith))
       ∙ sym (ap (λ o. put_sized c o s') (some_width (char_width false c) pos)) in
-      ap (performed_all (map (λ c. Put c) g.marks)) first
+      ap (performed_all (map (λ c. Put c) g.joiners)) first
       ∙ glyph_over (a ++ x ∷ []) [] n.row n.more g sized refl (omega arith) (λ p. absurd (omega arith))
 
   -- ---- glyphs

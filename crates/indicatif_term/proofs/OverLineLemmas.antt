@@ -15,7 +15,7 @@ use Rattle.indicatif_term.specs.Inside.Moves.{joins}
 use Rattle.indicatif_term.specs.declared.engine.remembered.StandingLine.{StandingLine}
 use Rattle.indicatif_term.proofs.CursorRowLemmas.{IsSized, IsShowable}
 use Rattle.indicatif_term.proofs.GlyphLemmas.{IsPiece, cells_push, columns_push}
-use Rattle.indicatif_term.proofs.WrittenLineLemmas.{marks_before, marks_before-cons, glyphs_sized}
+use Rattle.indicatif_term.proofs.WrittenLineLemmas.{joiners_before, joiners_before-cons, glyphs_sized}
 use Rattle.indicatif_term.proofs.LastLineLemmas.{fill_width}
 use Rattle.indicatif_term.proofs.FillLemmas.{spaces, filled_chars, filled_text}
 use Rattle.indicatif_term.proofs.FilledLineLemmas.{filled_line}
@@ -30,7 +30,7 @@ glyph_widths [] = refl
 glyph_widths (c ∷ cs) = elim (cases_Bool (eqb (width_of c) 0)) [
   | inl none ↦ rw none (glyph_widths cs ∙ omega (arith, sum_by-cons width_of c cs, eqb-true (width_of c) 0 none))
   | inr some ↦
-      let g : Glyph = record { base = c; marks = marks_before cs } in
+      let g : Glyph = record { base = c; joiners = joiners_before cs } in
       rw some (sum_by-cons glyph_width g (glyphs_of cs) ∙ ap (λ n. width_of c + n) (glyph_widths cs) ∙ sym (sum_by-cons width_of c cs))
 ]
 
@@ -95,9 +95,9 @@ joins_more zero [] e = refl
 joins_more (suc n) [] e = refl
 joins_more n (c ∷ cs) e = e
 
-none_joins : (cs : List ℕ) → joins cs ≡ false → marks_before cs ≡ []
+none_joins : (cs : List ℕ) → joins cs ≡ false → joiners_before cs ≡ []
 none_joins [] e = refl
-none_joins (c ∷ cs) e = marks_before-cons c cs ∙ rw e refl
+none_joins (c ∷ cs) e = joiners_before-cons c cs ∙ rw e refl
 
 -- a line that can be drawn, and fills its rows
 pub record IsSolid (w : ℕ) (line : List ℕ) : Type 0 where

@@ -1,16 +1,17 @@
 -- Calm bytes hold no control character but CR, LF and ESC, and ESC stands before `[`, or where the terminal broke off.
-use Rattle.std.proofs.Common.{◌≡◌, ◌⊎◌, ℕ, zero, suc, ◌+◌, ◌/◌, ◌%◌, ◌<◌, ◌≤◌, Bool, true, false, List, [], ◌∷◌, ◌++◌, refl, sym, ◌∙◌, ap, arith, append_assoc, append-nil, if◌then◌else◌, inl, inr}
+use Rattle.std.proofs.Common.{◌≡◌, ◌⊎◌, ℕ, zero, suc, ◌+◌, ◌/◌, ◌%◌, ◌<◌, ◌≤◌, Bool, true, false, List, [], ◌∷◌, ◌++◌, refl, sym, ◌∙◌, ap, subst, arith, append_assoc, append-nil, if◌then◌else◌, inl, inr}
 use Rattle.std.specs.Prelude.{IsTrue, ◌&&◌, ◌||◌, ◌==◌, nat_le, nat_lt, is_some, flat_map, decimal}
 use Rattle.std.specs.Fmt.{digits, digits_onto, digit_glyph}
 use Rattle.std.specs.List.{AllByRecursion, list_all}
 use Rattle.std.specs.Int.{is_in_range}
 use Rattle.std.specs.Str.{all_scalars}
 use Rattle.std.proofs.Math.Utf8.{encode}
-use Rattle.std.proofs.lemmas.Bool.{cases_Bool, and_parts, false≢true, leb-true, ltb-true, le-leb, lt-ltb, le-ltb, ne_eqb}
+use Rattle.std.proofs.lemmas.Bool.{cases_Bool, and_parts, eqb-true, false≢true, leb-true, ltb-true, le-leb, lt-ltb, le-ltb, ne_eqb}
 use Rattle.std.proofs.lemmas.Bool.Decides.{nat_tests}
 use Rattle.unicode_width.specs.Width.{char_width}
 use Rattle.indicatif_text.specs.Columns.{is_parameter}
-use Rattle.indicatif_term.specs.Calm.{Stroke, Character, Colours, Return, Feed, Move, Empty, stroke_bytes, is_calm, IsCalm, DrawsCalmly, AreCalm, Calmly, is_plain_byte, may_follow, is_quiet}
+use Rattle.indicatif_term.specs.Calm.{Stroke, Character, Colours, Move, Empty, stroke_bytes, IsCalm, AreCalm, Calmly, is_plain_byte, may_follow, is_quiet}
+use Rattle.indicatif_term.proofs.CalmLemmas.{DrawsCalmly, first_drawing}
 
 -- ---- plain bytes
 
@@ -94,22 +95,36 @@ quiet_sequence : (bs : List ℕ) (last : ℕ) (rest : List ℕ) → AllByRecursi
 quiet_sequence bs last rest all one q =
     ap is_quiet (append_assoc bs (last ∷ []) rest) ∙ quiet_plain bs (last ∷ rest) all (rw (one, q) refl)
 
-quiet_stroke : (s : Stroke) (rest : List ℕ) → is_calm s ≡ true → is_quiet rest ≡ true → is_quiet (stroke_bytes s ++ rest) ≡ true
-quiet_stroke (Character c) rest calm q = quiet_plain (encode c) rest (encode_plain c (and_parts (all_scalars (c ∷ [])) (is_some (char_width false c)) calm).1) q
-quiet_stroke (Colours ps) rest calm q = quiet_sequence ps 0x6D rest (parameters_plain ps calm) refl q
-quiet_stroke Return rest calm q = q
-quiet_stroke Feed rest calm q = q
-quiet_stroke (Move letter n) rest calm q = quiet_sequence (decimal n) letter rest (number_plain n) (letter_plain letter calm) q
-quiet_stroke Empty rest calm q = q
+-- bytes that may be none
+if_quiet : (b : Bool) (bytes rest : List ℕ) → is_quiet rest ≡ true → (b ≡ true → is_quiet (bytes ++ rest) ≡ true) → is_quiet ((if b then bytes else []) ++ rest) ≡ true
+if_quiet true bytes rest q some = some refl
+if_quiet false bytes rest q some = q
 
-quiet_strokes : (ss : List Stroke) (rest : List ℕ) → list_all is_calm ss ≡ true → is_quiet rest ≡ true → is_quiet (flat_map stroke_bytes ss ++ rest) ≡ true
-quiet_strokes [] rest calm q = q
-quiet_strokes (s ∷ ss) rest calm q =
-    let p = and_parts (is_calm s) (list_all is_calm ss) calm in
-    ap is_quiet (append_assoc (stroke_bytes s) (flat_map stroke_bytes ss) rest) ∙ quiet_stroke s (flat_map stroke_bytes ss ++ rest) p.0 (quiet_strokes ss rest p.1 q)
+quiet_char : (c : ℕ) (rest : List ℕ) → is_quiet rest ≡ true → ((c == 0x0D) || (c == 0x0A) || (all_scalars (c ∷ []) && is_some (char_width false c))) ≡ true → is_quiet (encode c ++ rest) ≡ true
+unfolding encode
+quiet_char c rest q calm = elim (cases_Bool (c == 0x0D)) [
+  | inl back ↦ subst (λ x. is_quiet (encode x ++ rest) ≡ true) (sym (eqb-true c 0x0D back)) q
+  | inr other ↦ elim (cases_Bool (c == 0x0A)) [
+    | inl down ↦ subst (λ x. is_quiet (encode x ++ rest) ≡ true) (sym (eqb-true c 0x0A down)) q
+    | inr shown ↦ quiet_plain (encode c) rest (encode_plain c (and_parts (all_scalars (c ∷ [])) (is_some (char_width false c)) (rw (other, shown) at calm)).1) q
+  ]
+]
+
+quiet_stroke : (s : Stroke) (rest : List ℕ) → is_quiet rest ≡ true → is_quiet (stroke_bytes s ++ rest) ≡ true
+quiet_stroke (Character c) rest q = if_quiet ((c == 0x0D) || (c == 0x0A) || (all_scalars (c ∷ []) && is_some (char_width false c))) (encode c) rest q (quiet_char c rest q)
+quiet_stroke (Colours ps) rest q =
+    if_quiet (list_all is_parameter ps) (0x1B ∷ 0x5B ∷ (ps ++ 0x6D ∷ [])) rest q (λ e. quiet_sequence ps 0x6D rest (parameters_plain ps e) refl q)
+quiet_stroke (Move letter n) rest q =
+    if_quiet (is_in_range 0x41 0x44 letter) (0x1B ∷ 0x5B ∷ (decimal n ++ letter ∷ [])) rest q (λ e. quiet_sequence (decimal n) letter rest (number_plain n) (letter_plain letter e) q)
+quiet_stroke Empty rest q = q
+
+quiet_strokes : (ss : List Stroke) (rest : List ℕ) → is_quiet rest ≡ true → is_quiet (flat_map stroke_bytes ss ++ rest) ≡ true
+quiet_strokes [] rest q = q
+quiet_strokes (s ∷ ss) rest q =
+    ap is_quiet (append_assoc (stroke_bytes s) (flat_map stroke_bytes ss) rest) ∙ quiet_stroke s (flat_map stroke_bytes ss ++ rest) (quiet_strokes ss rest q)
 
 quiet_text : (text rest : List ℕ) → IsCalm text → is_quiet rest ≡ true → is_quiet (text ++ rest) ≡ true
-quiet_text text rest c q = ap (λ x. is_quiet (x ++ rest)) c.text_is ∙ quiet_strokes c.strokes rest c.calm q
+quiet_text text rest c q = ap (λ x. is_quiet (x ++ rest)) c.1 ∙ quiet_strokes c.0 rest q
 
 -- ---- beginnings
 
@@ -167,7 +182,7 @@ one_joins failed bytes fails others d j = record { quiet = quiet; follows = λ f
 
 all_join : (failed : Bool) (drawings : List (List ℕ)) (fails : Bool) → AreCalm failed drawings fails → Joins failed (flat_map (λ d. d) drawings)
 all_join failed [] fails e = record { quiet = refl; follows = λ f. refl }
-all_join failed (d ∷ drawings) fails e = one_joins failed d e.0 (flat_map (λ d. d) drawings) e.1 (all_join e.0 drawings fails e.2)
+all_join failed (d ∷ drawings) fails e = one_joins failed d e.2 (flat_map (λ d. d) drawings) (first_drawing failed d drawings fails e) (all_join e.2 drawings fails e.6)
 
 pub calm_quiet : (failed : Bool) (bytes : List ℕ) (fails : Bool) → Calmly failed bytes fails → IsTrue (is_quiet bytes)
-calm_quiet failed bytes fails c = ap is_quiet c.bytes_are ∙ (all_join failed c.drawings fails c.each).quiet
+calm_quiet failed bytes fails c = ap is_quiet c.2 ∙ (all_join failed c.0 fails c.1).quiet

@@ -15,15 +15,15 @@ use Rattle.indicatif_term.proofs.RowReadingLemmas.{all-look, all_blank}
 
 -- ---- rows that look alike
 
-space_is : (b : ℕ) (ms : List ℕ) → (b == 0x20) ≡ true → (length ms == 0) ≡ true → let a : Glyph = record { base = 0x20; marks = [] } in let c : Glyph = record { base = b; marks = ms } in a ≡ c
-space_is b [] e f = ap (λ x. let g : Glyph = record { base = x; marks = [] } in g) (sym (eqb-true b 0x20 e))
+space_is : (b : ℕ) (ms : List ℕ) → (b == 0x20) ≡ true → (length ms == 0) ≡ true → let a : Glyph = record { base = 0x20; joiners = [] } in let c : Glyph = record { base = b; joiners = ms } in a ≡ c
+space_is b [] e f = ap (λ x. let g : Glyph = record { base = x; joiners = [] } in g) (sym (eqb-true b 0x20 e))
 space_is b (m ∷ ms) e f = absurd (false≢true (sym (ne_eqb (length (m ∷ ms)) 0 (λ q. omega (arith, q))) ∙ f))
 
 look-glyph : (c : Cell) → glyph_at (look c) ≡ glyph_at c
 look-glyph Blank = refl
 look-glyph Continued = refl
-look-glyph (Written g) = cond_both ((g.base == 0x20) && (length g.marks == 0)) Blank (Written g) (λ x. glyph_at x ≡ g ∷ [])
-    (λ e. let p = and_parts (g.base == 0x20) (length g.marks == 0) e in ap (λ x. x ∷ []) (space_is g.base g.marks p.0 p.1)) (λ e. refl)
+look-glyph (Written g) = cond_both ((g.base == 0x20) && (length g.joiners == 0)) Blank (Written g) (λ x. glyph_at x ≡ g ∷ [])
+    (λ e. let p = and_parts (g.base == 0x20) (length g.joiners == 0) e in ap (λ x. x ∷ []) (space_is g.base g.joiners p.0 p.1)) (λ e. refl)
 
 glyphs-look : (row : List Cell) → glyphs_in (map look row) ≡ glyphs_in row
 glyphs-look [] = refl

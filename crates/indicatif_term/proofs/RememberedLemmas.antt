@@ -11,15 +11,19 @@ use Rattle.indicatif_term.specs.Inside.Changes.{PlacedLine, placed_height, place
 use Rattle.indicatif_term.specs.Inside.Fills.{last_of}
 use Rattle.indicatif_term.proofs.LastLineLemmas.{last_push}
 use Rattle.indicatif_term.specs.Standing.{placed_of, placed, texts, standing_rows, IsLine, AreLines}
-use Rattle.indicatif_term.specs.Remembered.{AreRemembered, AreStanding, kept_lines, live_lines}
-use Rattle.indicatif_term.specs.Inside.Remembering.{StandAbove, IsMarked}
+use Rattle.indicatif_term.specs.Remembered.{AreRemembered, AreStanding, AreOwned, kept_lines, live_lines}
+use Rattle.indicatif_term.specs.Inside.Remembering.{StandAbove, IsNext, IsNothing}
+use Rattle.std.proofs.Math.Seq.{drop-append-add}
+use Rattle.std.proofs.lemmas.List.{drop-map}
+use Rattle.indicatif_term.specs.Counts.{line_count, line_counts}
+use Rattle.indicatif_term.proofs.OwnedLemmas.{height_counted, owned_height, none_owned}
 use Rattle.indicatif_term.proofs.ShownRowLemmas.{lines_rows}
-use Rattle.indicatif_term.specs.Lists.{Lists, all_rows, live_rows, live_height, passed, kept_of, is_first}
+use Rattle.indicatif_term.specs.Lists.{Lists, all_rows, live_rows, no_live, cleared, passed, kept_of, is_first}
 use Rattle.indicatif_term.specs.declared.engine.remembered.Remembered.{Remembered}
 use Rattle.indicatif_term.proofs.CountLemmas.{passed-rows, length-live}
 use Rattle.indicatif_term.specs.Inside.Places.{IsAt, IsThere, IsWithin}
 use Rattle.indicatif_term.specs.declared.engine.remembered.StandingLine.{StandingLine}
-use Rattle.indicatif_term.specs.declared.engine.beside.Place.{Place}
+use Rattle.indicatif_term.specs.declared.engine.beside.LineAt.{LineAt}
 use Rattle.indicatif_term.specs.declared.engine.beside.Room.{Room}
 use Rattle.indicatif_term.proofs.EditWalkLemmas.{height-append}
 
@@ -43,7 +47,7 @@ line_at w (y ∷ ls) (suc i) x all h e = line_at w ls i x all.1 (omega arith) e
 
 -- ---- places
 
-pub at_next : (w : ℕ) (ls : List StandingLine) (at : Place) (row : ℕ) (x : StandingLine) → at.index < length ls → get_or ls at.index x ≡ x → row ≡ min (at.row + x.rows) (2 ^ 64 - 1) →
+pub at_next : (w : ℕ) (ls : List StandingLine) (at : LineAt) (row : ℕ) (x : StandingLine) → at.index < length ls → get_or ls at.index x ≡ x → row ≡ min (at.row + x.rows) (2 ^ 64 - 1) →
     AreLines w ls → IsAt w ls at →
     IsAt w ls (record { index = at.index + 1; row = row })
 at_next w ls at row x h e r all is = λ small.
@@ -54,7 +58,7 @@ at_next w ls at row x h e r all is = λ small.
     ∙ drop_at (rows_of w (chars (string_bytes x.text))) (standing_rows w (drop (at.index + 1) ls)) x.rows (sym l.rows_are)
 
 -- a line that is the same as the one at a place stands there
-pub there_at : (w : ℕ) (ls : List StandingLine) (at : Place) (start : ℕ) (x y : StandingLine) → at.index < length ls → get_or ls at.index x ≡ x → start ≤ 65535 → at.row ≡ start →
+pub there_at : (w : ℕ) (ls : List StandingLine) (at : LineAt) (start : ℕ) (x y : StandingLine) → at.index < length ls → get_or ls at.index x ≡ x → start ≤ 65535 → at.row ≡ start →
     string_bytes x.text ≡ string_bytes y.text → IsLine w y → IsAt w ls at → IsThere w ls start y
 there_at w ls at start x y h i small r s line is =
     let rows : y.rows ≡ length (rows_of w (chars (string_bytes x.text))) = line.rows_are ∙ ap (λ t. length (rows_of w (chars t))) (sym s) in (
@@ -108,9 +112,30 @@ lines_right r some = ∥∥₁_elim r.right (Prim.hlevel props) (λ right. right
 pub live_right : (r : Remembered) → 0 < r.width → AreLines r.width (live_lines r)
 live_right r some = lines_dropped r.width r.kept r.lines (lines_right r some)
 
+-- lines that are remembered are those of the lists
+abbrev pub IsShown : Remembered → Lists → Type 0
+IsShown r l = AreRemembered r l × AreOwned (line_counts (live_lines r)) l.live
+
+none_left : (n : ℕ) → drop {A = StandingLine} n [] ≡ []
+none_left zero = refl
+none_left (suc n) = refl
+
 -- nothing is remembered
-pub nothing_shown : (r : Remembered) (l : Lists) → r.width ≡ 0 → AreRemembered r l
-nothing_shown r l e = λ p. absurd (omega arith)
+pub nothing_shown : (r : Remembered) (l : Lists) → IsNothing r → l.live ≡ no_live → IsShown r l
+nothing_shown r l e live = (
+  λ p. absurd (let none : r.width ≡ 0 = e.no_width in omega arith),
+  subst (AreOwned (line_counts (live_lines r))) (sym live)
+      (none_owned (line_counts (live_lines r)) (ap (λ ls. line_counts (drop r.kept ls)) e.no_lines ∙ ap line_counts (none_left r.kept))),
+)
+
+pub cleared_live : (l : Lists) → (cleared l).live ≡ no_live
+unfolding cleared
+cleared_live l = refl
+
+-- the live lines of a drawing
+pub next_live : (v k : ℕ) (above ls : List StandingLine) (r : Remembered) → IsNext v k above ls r → line_counts (live_lines r) ≡ drop k (line_counts ls)
+next_live v k above ls r is = ap (λ xs. line_counts (drop r.kept xs)) is.lines_are ∙ ap (λ n. line_counts (drop n (above ++ ls))) is.kept_is
+    ∙ ap line_counts (drop-append-add above ls k) ∙ sym (drop-map line_count k ls)
 
 -- all lines that are remembered stand in the last rows
 pub whole_shown : (w : ℕ) (r : Remembered) (l : Lists) → AreStanding w r l → (front : List (List Cell)) × (front ++ standing_rows w r.lines ≡ all_rows w l)
@@ -131,28 +156,23 @@ standing_by w r l front whole size =
     let parts = same_parts (front ++ up) low (l.above ++ l.kept) (live_rows w l.live) e size in
     record { front = front; above_is = parts.0; live_is = parts.1 }
 
-pub remembered_by : (w live : ℕ) (r : Remembered) (l : Lists) (front : List (List Cell)) → (0 < r.width → IsMarked w live r) → front ++ standing_rows w r.lines ≡ all_rows w l →
-    live ≡ live_height l.live → AreRemembered r l
-remembered_by w live r l front marked whole h = λ p.
-    let m = marked p in
-    let right : AreLines w (live_lines r) = subst (λ n. AreLines n (live_lines r)) m.width_is (live_right r p) in
-    subst (λ n. AreStanding n r l) (sym m.width_is)
-    (standing_by w r l front whole (sym (lines_height w (live_lines r) right) ∙ m.height_is ∙ h ∙ sym (length-live w l.live)))
+pub remembered_by : (w : ℕ) (r : Remembered) (l : Lists) (front : List (List Cell)) → (0 < r.width → r.width ≡ w) → front ++ standing_rows w r.lines ≡ all_rows w l →
+    AreOwned (line_counts (live_lines r)) l.live → AreRemembered r l
+remembered_by w r l front same whole o = λ p.
+    let right : AreLines w (live_lines r) = subst (λ n. AreLines n (live_lines r)) (same p) (live_right r p) in
+    subst (λ n. AreStanding n r l) (sym (same p))
+    (standing_by w r l front whole (sym (lines_height w (live_lines r) right) ∙ height_counted (live_lines r) ∙ owned_height (line_counts (live_lines r)) l.live o ∙ sym (length-live w l.live)))
 
--- lines of which some columns are forgotten
-pub still_right : (w v : ℕ) (known : Bool) (ls : List StandingLine) → v ≡ (if known then w else 0) → ∥ (0 < w → AreLines w ls) ∥₁ → ∥ (0 < v → AreLines v ls) ∥₁
-still_right w v true ls e right = subst (λ n. ∥ (0 < n → AreLines n ls) ∥₁) (sym e) right
-still_right w v false ls e right = ∣ (λ p. absurd (omega (arith, e, p))) ∣₁
-
--- the mark, where it was found
-pub marked_by : (w live known : ℕ) (r : Remembered) → r.width ≡ (if known == live then w else 0) → known ≡ min (placed_height (placed (live_lines r))) (2 ^ 64 - 1) → live ≤ 65535 →
-    0 < r.width → IsMarked w live r
-marked_by w live known r e k small p = elim (cases_Bool (known == live)) [
-  | inl is ↦
-      let same : known ≡ live = eqb-true known live is in
-      record { width_is = e ∙ ap (λ b. if b then w else 0) is; height_is = omega (arith, same, k, small) }
-  | inr differs ↦ let none : r.width ≡ 0 = e ∙ ap (λ b. if b then w else 0) differs in absurd (omega arith)
+-- lines of which the columns may be forgotten
+pub still_right : (old w v : ℕ) (ls : List StandingLine) → v ≡ (if old == w then w else 0) → ∥ (0 < old → AreLines old ls) ∥₁ → ∥ (0 < v → AreLines v ls) ∥₁
+still_right old w v ls e right = elim (cases_Bool (old == w)) [
+  | inl q ↦ let same : old ≡ v = eqb-true old w q ∙ sym (e ∙ ap (λ b. if b then w else 0) q) in subst (λ n. ∥ (0 < n → AreLines n ls) ∥₁) same right
+  | inr q ↦ let none : v ≡ 0 = e ∙ ap (λ b. if b then w else 0) q in ∣ (λ p. absurd (omega (arith, none, p))) ∣₁
 ]
+
+pub same_width : (w v : ℕ) (known : Bool) → v ≡ (if known then w else 0) → 0 < v → known ≡ true
+same_width w v true e p = refl
+same_width w v false e p = absurd (omega (arith, e))
 
 -- the last of the lines of kept rows
 pub stands_above : (w from : ℕ) (r : Remembered) (l : Lists) → 0 < w → r.width ≡ w → AreRemembered r l → StandAbove w (drop from (kept_lines r)) l
@@ -171,12 +191,14 @@ kept_rows : (w bar : ℕ) (l : Lists) → all_rows w (kept_of w bar l) ≡ all_r
 unfolding kept_of
 kept_rows w bar l = elim (is_first bar l.live.segments) as (λ b. all_rows w (if b then passed w 1 l else l) ≡ all_rows w l) [ true ↦ passed-rows w 1 l | false ↦ refl ]
 
-pub kept_shown : (w live bar : ℕ) (r r' : Remembered) (l : Lists) → r.width ≡ w → r'.lines ≡ r.lines → (0 < r'.width → IsMarked w live r') → live ≡ live_height (kept_of w bar l).live →
-    AreRemembered r l → AreRemembered r' (kept_of w bar l)
-kept_shown w live bar r r' l e lines marked h a = λ p.
-    let m = marked p in
-    let x = whole_shown w r l (subst (λ n. AreStanding n r l) e (a (omega (arith, p, m.width_is, e)))) in
-    remembered_by w live r' (kept_of w bar l) x.0 marked (ap (λ ls. x.0 ++ standing_rows w ls) lines ∙ x.1 ∙ sym (kept_rows w bar l)) h p
+pub kept_shown : (w bar : ℕ) (r r' : Remembered) (l : Lists) → r'.width ≡ (if r.width == w then w else 0) → r'.lines ≡ r.lines →
+    AreOwned (line_counts (live_lines r')) (kept_of w bar l).live → AreRemembered r l → AreRemembered r' (kept_of w bar l)
+kept_shown w bar r r' l e lines o a = λ p.
+    let known : (r.width == w) ≡ true = same_width w r'.width (r.width == w) e p in
+    let was : r.width ≡ w = eqb-true r.width w known in
+    let now : r'.width ≡ w = e ∙ ap (λ b. if b then w else 0) known in
+    let x = whole_shown w r l (subst (λ n. AreStanding n r l) was (a (omega (arith, p, now, was)))) in
+    remembered_by w r' (kept_of w bar l) x.0 (λ _. now) (ap (λ ls. x.0 ++ standing_rows w ls) lines ∙ x.1 ∙ sym (kept_rows w bar l)) o p
 
 -- ---- lines around one of them
 

@@ -9,7 +9,7 @@ use Rattle.indicatif_text.specs.Columns.{Cell, rows_of, has_wide, last_columns}
 use Rattle.indicatif_term.specs.Shows.{look, looks_of}
 use Rattle.indicatif_term.specs.Lists.{Lists, Live, BarRows, BarLines, lists_height, live_height, live_rows, segments_height, blanks_for, live_of_frame, shown_rows, lines_of, fitting, grouped, settled, rested, drawn}
 use Rattle.indicatif_term.specs.Frames.{bar_lines, all_lines, are_plain, some_wide}
-use Rattle.indicatif_term.specs.Counts.{CountsOf, row_count}
+use Rattle.indicatif_term.specs.Counts.{CountsOf, row_count, line_count, line_counts}
 use Rattle.indicatif_term.specs.Standing.{placed_of, placed, texts, standing_rows, IsLine, AreLines, AreReady}
 use Rattle.indicatif_term.specs.Remembered.{AreRemembered, kept_lines, live_lines, Suits}
 use Rattle.indicatif_term.specs.Inside.Remembering.{StandAbove}
@@ -23,13 +23,17 @@ use Rattle.indicatif_term.specs.Inside.Renewed.{IsNew, ComesIn, heights, FitsIn,
 use Rattle.indicatif_term.specs.declared.engine.beside.Room.{Room}
 use Rattle.indicatif_term.specs.declared.engine.counts.Counts.{Counts}
 use Rattle.indicatif_term.specs.declared.engine.layout.Plan.{Plan}
-use Rattle.indicatif_term.specs.declared.engine.layout.RowCount.{RowCount}
 use Rattle.indicatif_term.specs.declared.engine.lines.Segment.{Segment}
 use Rattle.indicatif_term.specs.declared.engine.remembered.Remembered.{Remembered}
 use Rattle.indicatif_term.specs.declared.engine.remembered.StandingLine.{StandingLine}
 use Rattle.indicatif_term.specs.declared.engine.renewed.NewLine.{NewLine}
 use Rattle.indicatif_term.proofs.ShownRowLemmas.{rows_in, lines_rows, frame_rows}
-use Rattle.indicatif_term.proofs.CountLemmas.{segments_height-map, length-flat, live_of}
+use Rattle.std.proofs.lemmas.List.{length-take}
+use Rattle.indicatif_term.specs.Inside.Owned.{through, kept_below}
+use Rattle.indicatif_term.specs.Inside.Remembering.{IsNext}
+use Rattle.indicatif_term.proofs.RememberedLemmas.{IsShown}
+use Rattle.indicatif_term.proofs.OwnedLemmas.{rows_by, counts_height, grouped_height, passing_none}
+use Rattle.indicatif_term.proofs.CountLemmas.{length-flat, live_of}
 use Rattle.indicatif_term.proofs.TerminalStepLemmas.{rows_some}
 use Rattle.indicatif_term.proofs.BesideLemmas.{all_append, all_at}
 use Rattle.indicatif_term.proofs.LayoutLemmas.{planned}
@@ -99,7 +103,7 @@ renewed-other w on from k i ts d (n ∷ new) f h =
     get_or-set_other (renewed ts new) n.at i (string_bytes n.text) d other ∙ renewed-other w on (suc n.at) k i ts d new f.2 h
 
 module _ (w : ℕ) (on : List StandingLine) (x : StandingLine) (new : List NewLine) (before : List (List ℕ)) (text : List ℕ) (p p' : Plan) (h : p.lines < length on) (e : get_or on p.lines x ≡ x)
-    (b : p'.lines ≡ p.lines + 1) (d : p'.passing ≡ p.passing) (c : AreCompared w on new before p) where
+    (b : p'.lines ≡ p.lines + 1) (d : (p'.passing ≡ p.passing) × (p'.passing_rows ≡ p.passing_rows)) (c : AreCompared w on new before p) where
   abbrev bytes : StandingLine → List ℕ
   bytes = λ (l : StandingLine). string_bytes l.text
 
@@ -115,7 +119,7 @@ module _ (w : ℕ) (on : List StandingLine) (x : StandingLine) (new : List NewLi
         ∙ ap (λ y. take p.lines (renewed (texts on) new) ++ y ∷ []) (renewed-other w on 0 p.lines p.lines (texts on) (bytes x) new c.fit (omega arith)
         ∙ get_or-map bytes on p.lines x (bytes x) h ∙ ap bytes e ∙ t)
         ∙ ap (λ ys. ys ++ text ∷ []) c.texts_are;
-    passes_none = d ∙ c.passes_none;
+    passes_none = (d.0 ∙ c.passes_none.0, d.1 ∙ c.passes_none.1);
   }
 
   -- a new one comes in its place
@@ -141,10 +145,10 @@ module _ (w : ℕ) (on : List StandingLine) (x : StandingLine) (new : List NewLi
             ∙ renewed-set w on 0 p.lines p.lines (texts on) (string_bytes n.text) new c.fit (omega arith))
             ∙ take_more_set (renewed (texts on) new) p.lines (string_bytes n.text) (omega (arith, h, size))
             ∙ ap (λ y. take p.lines (renewed (texts on) new) ++ y ∷ []) is.text_is ∙ ap (λ ys. ys ++ text ∷ []) c.texts_are;
-        passes_none = d ∙ c.passes_none;
+        passes_none = (d.0 ∙ c.passes_none.0, d.1 ∙ c.passes_none.1);
       }
 
-pub nothing_compared : (w : ℕ) (on : List StandingLine) (new : List NewLine) (p : Plan) → new ≡ [] → p.lines ≡ 0 → p.passing ≡ 0 → AreCompared w on new [] p
+pub nothing_compared : (w : ℕ) (on : List StandingLine) (new : List NewLine) (p : Plan) → new ≡ [] → p.lines ≡ 0 → (p.passing ≡ 0) × (p.passing_rows ≡ 0) → AreCompared w on new [] p
 nothing_compared w on new p e a b = record {
   lines_in = omega (arith, a);
   fit = subst (AreFitting w on p.lines) (sym e) tt;
@@ -163,7 +167,7 @@ module _ (w : ℕ) (on : List StandingLine) (at : ℕ) (x : StandingLine) (text 
   pub came_some : 0 < x.rows
   came_some = omega (arith, came_rows, rows_some w (chars text))
 
-  pub came_compared : (before : List (List ℕ)) (p p' : Plan) → at ≡ p.lines → p'.lines ≡ p.lines + 1 → p'.passing ≡ p.passing → AreCompared w on new before p →
+  pub came_compared : (before : List (List ℕ)) (p p' : Plan) → at ≡ p.lines → p'.lines ≡ p.lines + 1 → (p'.passing ≡ p.passing) × (p'.passing_rows ≡ p.passing_rows) → AreCompared w on new before p →
       AreCompared w on new' (before ++ text ∷ []) p'
   came_compared before p p' i b d c =
       let h' : p.lines < length on = omega (arith, h, i) in
@@ -352,11 +356,15 @@ some_by : (k rows : ℕ) → (k ≡ 0 → rows ≡ 0) → 0 < rows → 0 < k
 some_by zero rows e p = absurd (omega (arith, e refl))
 some_by (suc k) rows e p = omega arith
 
+none_fits : (w h : ℕ) → length (fitting h (lines_of w [])) ≡ 0
+unfolding lines_of fitting
+none_fits w h = refl
+
 -- a frame whose lines were compared with those that stand
 pub renewed_frame : (w h : ℕ) (frame : List Segment) (c : Counts) (plan : Plan) (r : Remembered) (new : List NewLine) → IsSettled w h c r →
-    IsFalse (some_wide w (all_lines (map bar_lines frame))) → IsLaidOut h (lines_of w (map bar_lines frame)) plan → AreCompared w (live_lines r) new (frame_lines frame) plan →
-    plan.lines ≡ length (live_lines r) → plan.segments.items ≡ c.segments.items → IsRenewed w h frame c r new
-renewed_frame w h frame c plan r new s n laid cmp all same =
+    IsFalse (some_wide w (all_lines (map bar_lines frame))) → IsLaidOut h (lines_of w (map bar_lines frame)) plan (take plan.lines (line_counts (live_lines r))) →
+    AreCompared w (live_lines r) new (frame_lines frame) plan → plan.lines ≡ length (live_lines r) → IsRenewed w h frame c r new
+renewed_frame w h frame c plan r new s n laid cmp all =
     let bytes = λ (l : StandingLine). string_bytes l.text in
     let on = renewed (texts (live_lines r)) new in
     let size : length on ≡ plan.lines = renewed-length (texts (live_lines r)) new ∙ length-map (live_lines r) bytes ∙ sym all in
@@ -367,24 +375,22 @@ renewed_frame w h frame c plan r new s n laid cmp all same =
       fit = subst (λ k. AreFitting w (live_lines r) k new) all cmp.fit;
       texts_are = whole;
       plan = plan;
-      plan_is = planned w h 0 (map bar_lines frame) plan laid (cmp.passes_none ∙ sym (shows_none w h));
+      plan_is = planned w h 0 (map bar_lines frame) plan _ laid (cmp.passes_none.0 ∙ sym (ap (λ n. through n (map row_count (fitting h (lines_of w (map bar_lines frame))))) (none_fits w h)))
+          (cmp.passes_none.1 ∙ sym (ap (λ n. segments_height (take n (fitting h (lines_of w (map bar_lines frame))))) cmp.passes_none.0));
       all_lines_are = sym size ∙ ap length whole;
-      segments_are = same;
+      counts_are = sym (take_all plan.lines (line_counts (live_lines r)) (omega (arith, all, length-map (live_lines r) line_count))) ∙ laid.counts_are;
     }
 
-module _ (w h : ℕ) (frame : List Segment) (c : Counts) (r : Remembered) (new : List NewLine) (pos : 0 < w) (q : IsRenewed w h frame c r new) where
+module _ (w h : ℕ) (frame : List Segment) (c : Counts) (r : Remembered) (new : List NewLine) (pos : 0 < w) (q : IsRenewed w h frame c r new)
+    (k : c.live ≡ sum_by rows_by (line_counts (live_lines r))) where
   abbrev shows : List BarRows
   shows = shown_rows w h (map bar_lines frame)
 
-  segments_are : c.segments.items ≡ map row_count shows
-  segments_are = sym q.segments_are ∙ q.plan_is.segments_are
-
   live_rows_of : c.live ≡ segments_height shows
+  unfolding shown_rows
   live_rows_of =
-      let a : c.live ≡ c.blanks + sum_by (λ (s : RowCount). s.rows) (drop c.passed c.segments.items) = c.live_is in
-      let b : sum_by (λ (s : RowCount). s.rows) (drop c.passed c.segments.items) ≡ sum_by (λ (s : RowCount). s.rows) (map row_count shows) =
-      ap (λ n. sum_by (λ (s : RowCount). s.rows) (drop n c.segments.items)) q.settled.none_passed ∙ ap (sum_by (λ (s : RowCount). s.rows)) segments_are in
-      omega (arith, a, b, q.settled.no_blanks, segments_height-map shows)
+      let parts = fitting h (lines_of w (map bar_lines frame)) in
+      k ∙ ap (sum_by rows_by) q.counts_are ∙ counts_height parts ∙ sym (grouped_height parts)
 
   no_blanks : (bottom : Bool) → 0 ≡ blanks_for bottom c.live 0 q.plan.rows
   no_blanks bottom = sym (no_room bottom c.live q.plan.rows (live_rows_of ∙ sym q.plan_is.rows_are))
@@ -406,7 +412,7 @@ module _ (w h : ℕ) (frame : List Segment) (c : Counts) (r : Remembered) (new :
       let counted : CountsOf c (record y { failed = false }) = record {
         kept_is = o.kept_is;
         blanks_are = q.settled.no_blanks ∙ sym none;
-        segments_are = ap (λ n. drop n c.segments.items) q.settled.none_passed ∙ segments_are;
+        live_is = sym height;
         reached_is = o.reached_is;
         below_is = o.below_is;
         under_is = o.under_is;
@@ -467,14 +473,25 @@ module _ (w h : ℕ) (frame : List Segment) (c : Counts) (r : Remembered) (new :
     above = let x = known some in
         (x.front, ap (λ ks. x.front ++ standing_rows w ks) n.kept_are ∙ subst (λ k. x.front ++ standing_rows k (kept_lines r) ≡ l.above ++ l.kept) q.settled.same_width x.above_is)
 
-    pub shown_next : (bottom : Bool) → AreRemembered r' (drawn w h bottom 0 (map bar_lines frame) l)
-    shown_next bottom = drawn_shown w w h 0 0 bottom frame l c c q.plan (kept_lines r') (live_lines r') r' refl
-        (λ p. record { width_is = n.width_is ∙ q.settled.same_width; height_is = height (live_lines r') n.texts_are n.in_place })
-        (sym (take-append-drop r'.kept r'.lines)) o q.plan_is (no_blanks bottom) (all_shown (live_lines r') n.texts_are n.in_place) above (counts_stay bottom l o)
+    next : IsNext w (kept_below q.plan 0) (kept_lines r') (live_lines r') r'
+    next =
+        let none : q.plan.passing ≡ 0 = passing_none w h 0 (map bar_lines frame) q.plan q.plan_is (shows_none w h) in
+        let zeros : kept_below q.plan 0 ≡ 0 = rw none refl in
+        record {
+          lines_are = sym (take-append-drop r'.kept r'.lines);
+          width_is = n.width_is ∙ q.settled.same_width;
+          kept_is = omega (arith, zeros, length-take r'.kept r'.lines, r'.within);
+        }
+
+    pub shown_next : (bottom : Bool) → IsShown r' (drawn w h bottom 0 (map bar_lines frame) l)
+    shown_next bottom = drawn_shown w w h 0 0 bottom frame l c q.plan (kept_lines r') (live_lines r') (line_counts (live_lines r')) r' refl next o q.plan_is (no_blanks bottom)
+        (all_shown (live_lines r') n.texts_are n.in_place) refl (n.counts_are ∙ q.counts_are)
+        (place_right w (live_lines r) (live_lines r') (place (live_lines r') n.texts_are n.in_place)) above
 
 -- ---- what a draw says of it
 
-module _ (w h : ℕ) (frame : List Segment) (c : Counts) (r : Remembered) (new : List NewLine) (pos : 0 < w) (q : IsRenewed w h frame c r new) where
+module _ (w h : ℕ) (frame : List Segment) (c : Counts) (r : Remembered) (new : List NewLine) (pos : 0 < w) (q : IsRenewed w h frame c r new)
+    (k : c.live ≡ sum_by rows_by (line_counts (live_lines r))) where
   pub fit_there : AreFitting r.width (live_lines r) (length (live_lines r)) new
   fit_there = subst (λ n. AreFitting n (live_lines r) (length (live_lines r)) new) (sym q.settled.same_width) q.fit
 
@@ -484,16 +501,16 @@ module _ (w h : ℕ) (frame : List Segment) (c : Counts) (r : Remembered) (new :
   pub low_height : (r' : Remembered) → Renews r new r' → placed_height (placed (live_lines r')) ≤ 65535
   low_height r' n =
       let f : c.kept + c.live ≤ c.reached = c.fits in
-      let k : c.reached ≤ 65535 = c.small in
-      omega (arith, height w h frame c r new pos q (live_lines r') n.texts_are n.in_place)
+      let small : c.reached ≤ 65535 = c.small in
+      omega (arith, height w h frame c r new pos q k (live_lines r') n.texts_are n.in_place)
 
   -- some line is written
   pub stands_again : (ls : List StandingLine) → AreInPlace r.width (live_lines r) ls → 0 < length (placed ls)
-  stands_again ls p = omega (arith, length-map ls placed_of, place_length r.width (live_lines r) ls p, some_stand w h frame c r new pos q)
+  stands_again ls p = omega (arith, length-map ls placed_of, place_length r.width (live_lines r) ls p, some_stand w h frame c r new pos q k)
 
   pub new_suits : (bottom : Bool) (l : Lists) (r' : Remembered) → CountsOf c l → AreRemembered r l → Renews r new r' → Suits c false r' (drawn w h bottom 0 (map bar_lines frame) l)
-  new_suits bottom l r' o known n = suits_made c r' (drawn w h bottom 0 (map bar_lines frame) l) (counts_stay w h frame c r new pos q bottom l o) (drawn-sound w h bottom 0 (map bar_lines frame) l)
-      (shown_next w h frame c r new pos q l r' o known n bottom)
+  new_suits bottom l r' o known n = suits_made c r' (drawn w h bottom 0 (map bar_lines frame) l) (counts_stay w h frame c r new pos q k bottom l o) (drawn-sound w h bottom 0 (map bar_lines frame) l)
+      (shown_next w h frame c r new pos q k l r' o known n bottom)
 
 -- ---- the last of some lines
 

@@ -8,7 +8,7 @@ use Rattle.std.proofs.lemmas.List.{length-replicate, length-map, take-append-dro
 use Rattle.std.proofs.lemmas.List.Concat.{flat_map-append}
 use Rattle.indicatif_text.specs.Columns.{Cell, blank_row}
 use Rattle.indicatif_term.specs.Pictures.{is_blank}
-use Rattle.indicatif_term.specs.Shows.{Shows, Rests, IsOpening, resting, resting_row, resting_column, look, looks_of}
+use Rattle.indicatif_term.specs.Shows.{Shows, Rests, IsOpening, resting, resting_row, look, looks_of}
 use Rattle.indicatif_term.specs.Lists.{Lists, Live, BarRows, all_rows, live_rows, live_height, lists_height, forgotten_lists}
 use Rattle.indicatif_term.specs.Screen.{Screen}
 use Rattle.indicatif_term.specs.Terminal.{Terminal}
@@ -17,7 +17,7 @@ use Rattle.indicatif_term.proofs.ScreenRowLemmas.{made, same_screen}
 use Rattle.indicatif_term.proofs.RowReadingLemmas.{all_blank}
 use Rattle.indicatif_term.proofs.RecutLemmas.{recut_alike, recut_blanks, recut_more, row_more}
 use Rattle.indicatif_term.proofs.CountLemmas.{settled-rows, settled-height, length-live}
-use Rattle.indicatif_term.proofs.DrawingLemmas.{all-height}
+use Rattle.indicatif_term.proofs.DrawingLemmas.{all-height, resting_column, row_shown}
 
 -- ---- the lists
 
@@ -299,7 +299,7 @@ module _ (w h w' h' : ℕ) (opening : Screen) (l : Lists) (t : Terminal) (s : Sh
   by_below true e =
       let r : resting_row l ≡ lists_height l = rw e refl in
       let c : resting_column w l ≡ 0 = rw e refl in
-      let i : resting_row l < length s.shown + s.blank = s.in_rows in
+      let i : resting_row l < length s.shown + s.blank = row_shown s in
       let at : opening.row + resting_row l + 1 ≡ length all + 1 = omega (arith, r, all-before) in
       let f : 1 ≤ s.blank = omega (arith, i, r, shown-height) in
       let p = front_then w h w' h' s.blank 1 (opening.row + resting_row l) (resting_column w l) all some' at f refl c some in
@@ -338,7 +338,6 @@ module _ (w h w' h' : ℕ) (opening : Screen) (l : Lists) (t : Terminal) (s : Sh
         blank = blank_then h' (u + lists_height l') b;
         terminal_is = ap (λ z. resting (made w' h' (z ++ shown' ++ replicate (blank_then h' (u + lists_height l') b) (blank_row w')) (u + resting_row l') (resting_column w' l'))) (sym front_kept);
         looks = ap looks_of shown-rows;
-        in_rows = omega (arith, height-then, rest, some');
         scrolled = omega (arith, height-then, rows-then, r, rest);
         reached = omega (arith, r);
         below_reached = λ e. (let f : b ≡ 1 = rw e refl in omega (arith, r, f));

@@ -8,7 +8,7 @@ use Rattle.indicatif_term.specs.Screen.{is_continued, emptied_front, emptied_gly
 use Rattle.std.specs.List.{list_all}
 use Rattle.std.proofs.lemmas.List.Folds.{list_all_at}
 use Rattle.indicatif_term.specs.Pictures.{is_blank, trimmed}
-use Rattle.indicatif_term.specs.Inside.Rows.{emptied_back, emptied_on, overwritten, with_mark_at}
+use Rattle.indicatif_term.specs.Inside.Rows.{emptied_back, emptied_on, overwritten, with_joiner_at}
 
 pub continued_by : (x : Cell) → is_continued x ≡ true → x ≡ Continued
 continued_by Continued e = refl
@@ -72,7 +72,7 @@ module _ (row : List Cell) (n : ℕ) (x : Cell) (h : n < length row) (e : x ≡ 
       ap (λ y. take n row ++ y) (ap emptied_front drop_here ∙ front_of x (drop (n + 1) row) is ∙ sym drop_here)
       ∙ take-append-drop n row
 
-  -- ---- joining a mark
+  -- ---- joining a joiner
 
   pub join_continued : (c : ℕ) → is_continued x ≡ true → joined_at (n + 1) c row ≡ joined_at n c row
   join_continued c is =
@@ -81,16 +81,16 @@ module _ (row : List Cell) (n : ℕ) (x : Cell) (h : n < length row) (e : x ≡ 
       ∙ turned Continued (joined_back c rest)
       ∙ ap (λ y. reverse (joined_back c rest) ++ y) (ap (λ y. y ∷ drop (n + 1) row) (sym (continued_by x is)) ∙ sym drop_here)
 
-  joined_first : (c : ℕ) (y : Cell) (ys : List Cell) → is_continued y ≡ false → joined_back c (y ∷ ys) ≡ with_mark_at c y ∷ ys
+  joined_first : (c : ℕ) (y : Cell) (ys : List Cell) → is_continued y ≡ false → joined_back c (y ∷ ys) ≡ with_joiner_at c y ∷ ys
   joined_first c Blank ys not = refl
   joined_first c (Written g) ys not = refl
   joined_first c Continued ys not = cc
 
-  pub join_last : (c : ℕ) → is_continued x ≡ false → joined_at (n + 1) c row ≡ set row n (with_mark_at c x)
+  pub join_last : (c : ℕ) → is_continued x ≡ false → joined_at (n + 1) c row ≡ set row n (with_joiner_at c x)
   join_last c is =
       let rest = reverse (take n row) in
       ap (λ y. reverse y ++ drop (n + 1) row) (ap (joined_back c) reversed_more ∙ joined_first c x rest is)
-      ∙ turned (with_mark_at c x) rest ∙ ap (λ y. y ++ with_mark_at c x ∷ drop (n + 1) row) (reverse-reverse (take n row)) ∙ sym (set_here (with_mark_at c x))
+      ∙ turned (with_joiner_at c x) rest ∙ ap (λ y. y ++ with_joiner_at c x ∷ drop (n + 1) row) (reverse-reverse (take n row)) ∙ sym (set_here (with_joiner_at c x))
 
 -- ---- the edits of one character in turn
 

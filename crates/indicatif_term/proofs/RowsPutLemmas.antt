@@ -11,11 +11,11 @@ use Rattle.indicatif_text.specs.Columns.{Cell, Glyph, glyph_width, columns_in, r
 use Rattle.indicatif_text.proofs.WrappingLemmas.{pieces_some}
 use Rattle.indicatif_term.specs.Screen.{Screen, cursor_row, blank_screen, top}
 use Rattle.indicatif_term.specs.Resizes.{has_place, glyphs_in, recut, recut_all, used_rows, lasting_rows, row_then, column_then, recut_screen}
-use Rattle.indicatif_term.specs.Inside.Resizing.{LastingPut, marks_joined, glyph_put, row_put, next_row, rows_ended, rows_begun}
+use Rattle.indicatif_term.specs.Inside.Resizing.{LastingPut, all_joined, glyph_put, row_put, next_row, rows_ended, rows_begun}
 use Rattle.indicatif_term.specs.declared.cells.grid.resizing.CursorRows.{CursorRows}
 use Rattle.indicatif_term.proofs.CursorRowLemmas.{screen_at, screen_after}
 use Rattle.indicatif_term.proofs.ScreenRowLemmas.{made}
-use Rattle.indicatif_term.proofs.GlyphLemmas.{piece_at, no_piece, IsPiece, is_piece_push, put_base, put_base_next, marks_at, screen_with, with_one, with_more}
+use Rattle.indicatif_term.proofs.GlyphLemmas.{piece_at, no_piece, IsPiece, is_piece_push, put_base, put_base_next, joiners_at, screen_with, with_one, with_more}
 use Rattle.indicatif_term.proofs.WrittenLineLemmas.{line_feed_after}
 use Rattle.indicatif_term.proofs.RecutLemmas.{recut_some, upper_rows}
 
@@ -28,16 +28,16 @@ glyph_here : (w h : ℕ) (above : List (List Cell)) (piece : List Glyph) (n : �
     glyph_put (piece_at w h above piece n) g ≡ piece_at w h above (piece ++ g ∷ []) n
 glyph_here w h above piece n g e is room =
     let p = fits w g e in
-    rw e (ap (λ s. marks_joined s g.marks) (put_base w h above piece n g.base p.0 is room)
-    ∙ marks_at w h above piece n g.marks (record { base = g.base; marks = [] }) p.0 is)
+    rw e (ap (λ s. all_joined s g.joiners) (put_base w h above piece n g.base p.0 is room)
+    ∙ joiners_at w h above piece n g.joiners (record { base = g.base; joiners = [] }) p.0 is)
 
 glyph_next : (w h : ℕ) (above : List (List Cell)) (piece : List Glyph) (n : ℕ) (g : Glyph) → has_place w g ≡ true → IsPiece piece → w < columns_in piece + glyph_width g →
     glyph_put (piece_at w h above piece n) g ≡ piece_at w h (above ++ row_of w piece ∷ []) (g ∷ []) (n - 1)
 glyph_next w h above piece n g e is full =
     let p = fits w g e in
     let room : 0 + glyph_width g ≤ w = omega (arith, p.1) in
-    rw e (ap (λ s. marks_joined s g.marks) (put_base_next w h above piece n g.base p.0 p.1 full ∙ put_base w h (above ++ row_of w piece ∷ []) [] (n - 1) g.base p.0 refl room)
-    ∙ marks_at w h (above ++ row_of w piece ∷ []) [] (n - 1) g.marks (record { base = g.base; marks = [] }) p.0 refl)
+    rw e (ap (λ s. all_joined s g.joiners) (put_base_next w h above piece n g.base p.0 p.1 full ∙ put_base w h (above ++ row_of w piece ∷ []) [] (n - 1) g.base p.0 refl room)
+    ∙ joiners_at w h (above ++ row_of w piece ∷ []) [] (n - 1) g.joiners (record { base = g.base; joiners = [] }) p.0 refl)
 
 left_out : (w h : ℕ) (above : List (List Cell)) (piece : List Glyph) (n : ℕ) (g : Glyph) → has_place w g ≡ false → glyph_put (piece_at w h above piece n) g ≡ piece_at w h above piece n
 left_out w h above piece n g e = rw e refl

@@ -95,14 +95,14 @@ set_twice (z ∷ zs) zero x y = refl
 set_twice (z ∷ zs) (suc i) x y = ap (λ ws. z ∷ ws) (set_twice zs i x y)
 
 abbrev cell_of : ℕ → Cell
-cell_of c = Written (record { base = c; marks = [] })
+cell_of c = Written (record { base = c; joiners = [] })
 
 put_one : (c : ℕ) (s : Screen) → TakesOneColumn c → s.column + 1 ≤ s.columns →
     performed (Put c) s ≡ record (with_row s (written_at s.column (cell_of c ∷ []) (cursor_row s))) { column = s.column + 1 }
 put_one c s one h =
     let some : nat_lt s.columns 1 ≡ false = le-ltb s.columns 1 (omega arith) in
     let fits : nat_le (s.column + 1) s.columns ≡ true = le-leb (s.column + 1) s.columns h in
-    let wide : glyph_cells (record { base = c; marks = [] }) ≡ cell_of c ∷ [] = rw one refl in
+    let wide : glyph_cells (record { base = c; joiners = [] }) ≡ cell_of c ∷ [] = rw one refl in
     rw (one, some, fits) (ap (λ cells. let t : Screen = record (with_row s (written_at s.column cells (cursor_row s))) { column = s.column + 1 } in t) wide)
 
 same_put : (s : Screen) (rows rows' : List (List Cell)) (column column' : ℕ) → rows ≡ rows' → column ≡ column' →

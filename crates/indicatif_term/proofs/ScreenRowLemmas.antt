@@ -4,7 +4,7 @@ use Rattle.std.proofs.lemmas.List.{get_or-append_right, get_or_at, set_at, take_
 use Rattle.std.proofs.lemmas.Bool.{le-ltb, lt-ltb}
 use Rattle.std.specs.Prelude.{nat_lt}
 use Rattle.indicatif_text.specs.Columns.{Cell, glyph_width, Blank, Written, Continued, Glyph, glyph_cells, blank_row}
-use Rattle.indicatif_term.specs.Screen.{Screen, emptied_front, written_at, with_mark, joined_back, joined_at, with_row, line_feed, cursor_row}
+use Rattle.indicatif_term.specs.Screen.{Screen, emptied_front, written_at, with_joiner, joined_back, joined_at, with_row, line_feed, cursor_row}
 use Rattle.indicatif_term.proofs.CursorRowLemmas.{screen_at}
 
 pub blank_read : (k i : ℕ) → get_or (replicate k Blank) i Blank ≡ Blank
@@ -24,7 +24,7 @@ written_behind cells k new =
     ∙ ap (drop (length new)) (drop_at cells (replicate k Blank) (length cells) refl) ∙ drop-replicate (length new) k Blank in
     rw (here, rest, take_at cells (replicate k Blank) (length cells) refl, front_of_blanks (k - length new)) refl
 
-joined_continued : (c : ℕ) (k : ℕ) (g : Glyph) (cells : List Cell) → joined_back c (replicate k Continued ++ Written g ∷ cells) ≡ replicate k Continued ++ Written (with_mark c g) ∷ cells
+joined_continued : (c : ℕ) (k : ℕ) (g : Glyph) (cells : List Cell) → joined_back c (replicate k Continued ++ Written g ∷ cells) ≡ replicate k Continued ++ Written (with_joiner c g) ∷ cells
 joined_continued c zero g cells = refl
 joined_continued c (suc k) g cells = ap (λ xs. Continued ∷ xs) (joined_continued c k g cells)
 
@@ -40,13 +40,13 @@ backwards cells g k =
     ∙ append_assoc (replicate k Continued) (Written g ∷ []) (reverse cells)
 
 pub joined : (c : ℕ) (cells : List Cell) (g : Glyph) (rest : List Cell) →
-    joined_at (length (cells ++ glyph_cells g)) c ((cells ++ glyph_cells g) ++ rest) ≡ (cells ++ glyph_cells (with_mark c g)) ++ rest
+    joined_at (length (cells ++ glyph_cells g)) c ((cells ++ glyph_cells g) ++ rest) ≡ (cells ++ glyph_cells (with_joiner c g)) ++ rest
 joined c cells g rest =
     let all = cells ++ glyph_cells g in
     let k = glyph_width g - 1 in
-    let front : reverse (joined_back c (reverse all)) ≡ cells ++ glyph_cells (with_mark c g) =
+    let front : reverse (joined_back c (reverse all)) ≡ cells ++ glyph_cells (with_joiner c g) =
     ap (λ xs. reverse (joined_back c xs)) (backwards cells g k) ∙ ap reverse (joined_continued c k g (reverse cells))
-    ∙ ap reverse (sym (backwards cells (with_mark c g) k)) ∙ reverse-reverse (cells ++ glyph_cells (with_mark c g)) in
+    ∙ ap reverse (sym (backwards cells (with_joiner c g) k)) ∙ reverse-reverse (cells ++ glyph_cells (with_joiner c g)) in
     rw (take_at all rest (length all) refl, drop_at all rest (length all) refl, front) refl
 
 -- ---- screens

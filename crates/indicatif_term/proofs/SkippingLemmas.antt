@@ -1,6 +1,6 @@
 -- A draw that leaves lines that stay, by what an engine remembers.
 use Rattle.std.proofs.Common.{◌≡◌, ℕ, zero, suc, ◌+◌, ◌-◌, ◌<◌, ◌≤◌, ◌^◌, min, Bool, true, false, List, [], ◌∷◌, ◌++◌, length, take, map, replicate, refl, sym, ◌∙◌, ap, subst, arith, length-append, append_assoc, append-nil, chars, if◌then◌else◌}
-use Rattle.std.specs.Prelude.{IsTrue, IsFalse, IfOk, IfErr, IfSome, IsErrAnd, ◌==◌, flat_map}
+use Rattle.std.specs.Prelude.{IsTrue, IsFalse, IfSome, IsErrAnd, ◌==◌, flat_map}
 use Rattle.std.proofs.lemmas.Bool.{eq-eqb}
 use Rattle.std.proofs.lemmas.List.{take_at, take-map, length-map, nil_from_length}
 use Rattle.indicatif_text.specs.Columns.{rows_of}
@@ -8,33 +8,34 @@ use Rattle.indicatif_term.specs.Terminal.{GREATEST}
 use Rattle.indicatif_term.specs.Shows.{looks_of}
 use Rattle.indicatif_term.specs.Lists.{Lists, forgotten_lists, all_rows, live_rows, live_height, drawn, logged, passed, live_of_frame, shown_rows, BarLines, segments_height, blanks_for, fitting, lines_of}
 use Rattle.indicatif_term.specs.Frames.{bar_lines, all_lines, are_plain, some_wide}
-use Rattle.indicatif_term.specs.Counts.{CountsOf}
-use Rattle.indicatif_term.specs.Inside.Plans.{frame_lines, IsPlan, text_height}
+use Rattle.indicatif_term.specs.Counts.{CountsOf, RowCount, line_counts}
+use Rattle.indicatif_term.specs.Inside.Owned.{blank_count, kept_below}
+use Rattle.indicatif_term.proofs.OwnedLemmas.{owned_drawn, frame_owned, lines_have}
+use Rattle.indicatif_term.specs.Inside.Plans.{frame_lines, IsPlan, AreCounted, text_height}
 use Rattle.indicatif_term.specs.Inside.Changes.{PlacedLine, placed_height, placed_lines, AreSitting, change_bytes}
 use Rattle.indicatif_term.specs.Inside.Places.{IsWithin}
 use Rattle.indicatif_term.specs.declared.engine.beside.Room.{Room}
 use Rattle.indicatif_term.specs.Standing.{placed_of, placed, texts, standing_rows, AreLines}
-use Rattle.indicatif_term.specs.Remembered.{AreRemembered, AreStanding, live_lines, Suits}
+use Rattle.indicatif_term.specs.Remembered.{AreRemembered, AreStanding, AreOwned, live_lines, Suits}
 use Rattle.indicatif_term.specs.declared.engine.remembered.StandingLine.{StandingLine}
 use Rattle.indicatif_term.specs.declared.engine.remembered.Remembered.{Remembered}
 use Rattle.indicatif_term.specs.declared.engine.counts.Counts.{Counts}
 use Rattle.indicatif_term.specs.declared.engine.layout.Plan.{Plan}
 use Rattle.indicatif_term.specs.declared.engine.lines.Segment.{Segment}
 use Rattle.std.proofs.Common.{Result, Ok, Err, Option, Some}
-use Rattle.indicatif_text.specs.declared.refusal.Refusal.TheVariants.{Memory}
 use Rattle.std.specs.Prelude.{fold}
 use Rattle.indicatif_text.specs.declared.refusal.Refusal.{Refusal}
 use Rattle.indicatif_term.specs.Calls.{TermView}
 use Rattle.indicatif_term.specs.Lists.{grouped, onto_segments}
 use Rattle.indicatif_term.specs.Frames.{is_fault}
 use Rattle.indicatif_term.specs.Engines.{Counted, Fits, failure_kind, lists_after}
-use Rattle.indicatif_term.specs.Inside.Remembering.{Draws, Remembers, StandAbove, IsMarked}
+use Rattle.indicatif_term.specs.Inside.Remembering.{Draws, Remembers, StandAbove, IsNext}
 use Rattle.indicatif_term.specs.declared.engine.Engine.{Engine}
 use Rattle.indicatif_term.proofs.ShownRowLemmas.{lines_rows, frame_rows, frame_lines_le, frame_chars}
 use Rattle.indicatif_term.proofs.CountLemmas.{length-live, live_of, settled-rows, passed-rows, same_blanks_log}
 use Rattle.indicatif_term.proofs.PaintingLemmas.{IsDrawable, AreDrawable}
 use Rattle.indicatif_term.proofs.EditWalkLemmas.{height-append, sitting_parts}
-use Rattle.indicatif_term.proofs.RememberedLemmas.{rows-append, lines_height, lines_placed, remembered_by}
+use Rattle.indicatif_term.proofs.RememberedLemmas.{IsShown, rows-append, lines_height, lines_placed, remembered_by, next_live}
 use Rattle.indicatif_term.proofs.TerminalStepLemmas.{rows_some}
 use Rattle.indicatif_term.proofs.SkipDrawingLemmas.{change_redraws}
 use Rattle.indicatif_term.proofs.DrawingLemmas.{Replaces, drawn_goes, drawn-sound, log_live}
@@ -50,28 +51,33 @@ drawn_rows w h pass bottom frame l =
     let n = length (shown_rows w h (take pass frame)) in
     settled-rows w h (passed w n made) ∙ passed-rows w n made
 
-pub drawn_shown : (v w h pass blanks : ℕ) (bottom : Bool) (frame : List Segment) (l : Lists) (c next : Counts) (plan : Plan) (above ls : List StandingLine) (r : Remembered) → v ≡ w →
-    (0 < r.width → IsMarked v next.live r) → r.lines ≡ above ++ ls → CountsOf c l →
-    IsPlan w h pass (map bar_lines frame) plan → blanks ≡ blanks_for bottom c.live 0 plan.rows → texts ls ≡ replicate blanks [] ++ take plan.lines (frame_lines frame) → StandAbove v above l →
-    CountsOf next (drawn w h bottom pass (map bar_lines frame) l) → AreRemembered r (drawn w h bottom pass (map bar_lines frame) l)
-drawn_shown v w h pass blanks bottom frame l c next plan above ls r same_width marked whole o q b t k o' =
+pub drawn_shown : (v w h pass blanks : ℕ) (bottom : Bool) (frame : List Segment) (l : Lists) (c : Counts) (plan : Plan) (above ls : List StandingLine) (cs : List RowCount) (r : Remembered) → v ≡ w →
+    IsNext v (kept_below plan blanks) above ls r → CountsOf c l → IsPlan w h pass (map bar_lines frame) plan → blanks ≡ blanks_for bottom c.live 0 plan.rows →
+    texts ls ≡ replicate blanks [] ++ take plan.lines (frame_lines frame) → line_counts ls ≡ replicate blanks blank_count ++ cs → AreCounted w h (map bar_lines frame) cs → AreLines v ls →
+    StandAbove v above l → IsShown r (drawn w h bottom pass (map bar_lines frame) l)
+drawn_shown v w h pass blanks bottom frame l c plan above ls cs r same_width is o q b t counts counted right k =
     let same : blanks_for bottom c.live 0 plan.rows ≡ (live_of_frame w h bottom (live_height l.live) 0 (map bar_lines frame)).blanks = rw (live_of c l o, q.rows_are) refl in
     let rows : standing_rows w ls ≡ live_rows w (live_of_frame w h bottom (live_height l.live) 0 (map bar_lines frame)) =
     ap (lines_rows w) (t ∙ ap (λ n. replicate blanks [] ++ take n (frame_lines frame)) q.lines_are) ∙ frame_rows w h frame blanks
     ∙ ap (λ n. live_rows w (record { blanks = n; segments = shown_rows w h (map bar_lines frame) })) (b ∙ same) in
     let up : k.0 ++ standing_rows w above ≡ l.above ++ l.kept = subst (λ n. k.0 ++ standing_rows n above ≡ l.above ++ l.kept) same_width k.1 in
-    remembered_by w next.live r (drawn w h bottom pass (map bar_lines frame) l) k.0 (subst (λ n. 0 < r.width → IsMarked n next.live r) same_width marked)
-    (ap (λ xs. k.0 ++ standing_rows w xs) whole ∙ ap (λ x. k.0 ++ x) (rows-append w above ls) ∙ sym (append_assoc k.0 (standing_rows w above) (standing_rows w ls))
-    ∙ ap (λ x. x ++ standing_rows w ls) up ∙ ap (λ x. (l.above ++ l.kept) ++ x) rows ∙ sym (drawn_rows w h pass bottom (map bar_lines frame) l))
-    (live_of next (drawn w h bottom pass (map bar_lines frame) l) o')
+    let own : AreOwned (line_counts (live_lines r)) (drawn w h bottom pass (map bar_lines frame) l).live =
+    subst (λ xs. AreOwned xs (drawn w h bottom pass (map bar_lines frame) l).live) (sym (next_live v (kept_below plan blanks) above ls r is))
+    (owned_drawn w h blanks (map bar_lines frame) (line_counts ls) (counts ∙ ap (λ xs. replicate blanks blank_count ++ xs) counted) (lines_have v ls right) pass bottom l plan q (b ∙ same)) in (
+      remembered_by w r (drawn w h bottom pass (map bar_lines frame) l) k.0 (λ _. is.width_is ∙ same_width)
+          (ap (λ xs. k.0 ++ standing_rows w xs) is.lines_are ∙ ap (λ x. k.0 ++ x) (rows-append w above ls) ∙ sym (append_assoc k.0 (standing_rows w above) (standing_rows w ls))
+          ∙ ap (λ x. x ++ standing_rows w ls) up ∙ ap (λ x. (l.above ++ l.kept) ++ x) rows ∙ sym (drawn_rows w h pass bottom (map bar_lines frame) l))
+          own,
+      own,
+    )
 
-pub drawn_suits : (v w h pass blanks : ℕ) (bottom : Bool) (frame : List Segment) (l : Lists) (c next : Counts) (plan : Plan) (above ls : List StandingLine) (r : Remembered) → v ≡ w →
-    (0 < r.width → IsMarked v next.live r) → r.lines ≡ above ++ ls → CountsOf c l →
-    IsPlan w h pass (map bar_lines frame) plan → blanks ≡ blanks_for bottom c.live 0 plan.rows → texts ls ≡ replicate blanks [] ++ take plan.lines (frame_lines frame) →
+pub drawn_suits : (v w h pass blanks : ℕ) (bottom : Bool) (frame : List Segment) (l : Lists) (c next : Counts) (plan : Plan) (above ls : List StandingLine) (cs : List RowCount) (r : Remembered) →
+    v ≡ w → IsNext v (kept_below plan blanks) above ls r → CountsOf c l → IsPlan w h pass (map bar_lines frame) plan → blanks ≡ blanks_for bottom c.live 0 plan.rows →
+    texts ls ≡ replicate blanks [] ++ take plan.lines (frame_lines frame) → line_counts ls ≡ replicate blanks blank_count ++ cs → AreCounted w h (map bar_lines frame) cs → AreLines v ls →
     StandAbove v above l → CountsOf next (drawn w h bottom pass (map bar_lines frame) l) → Suits next false r (drawn w h bottom pass (map bar_lines frame) l)
-drawn_suits v w h pass blanks bottom frame l c next plan above ls r same_width marked whole o q b t k o' =
+drawn_suits v w h pass blanks bottom frame l c next plan above ls cs r same_width is o q b t counts counted right k o' =
     suits_made next r (drawn w h bottom pass (map bar_lines frame) l) o' (drawn-sound w h bottom pass (map bar_lines frame) l)
-    (drawn_shown v w h pass blanks bottom frame l c next plan above ls r same_width marked whole o q b t k o')
+    (drawn_shown v w h pass blanks bottom frame l c plan above ls cs r same_width is o q b t counts counted right k)
 
 -- ---- what is remembered of a log
 
@@ -81,19 +87,30 @@ unfolding logged
 logged_rows w h bottom text frame l = settled-rows w h (record l { above = l.above ++ flat_map (rows_of w) text; kept = []; live = log_live w h bottom text frame l })
     ∙ ap (λ x. x ++ live_rows w (log_live w h bottom text frame l)) (append-nil (l.above ++ flat_map (rows_of w) text))
 
-pub logged_shown : (v w h height blanks : ℕ) (bottom : Bool) (text : List (List ℕ)) (frame : List Segment) (l : Lists) (c next : Counts) (plan : Plan) (r : Remembered) → v ≡ w →
-    (0 < r.width → IsMarked v next.live r) → CountsOf c l →
+logged_owned : (w h blanks : ℕ) (bottom : Bool) (text : List (List ℕ)) (frame : List BarLines) (l : Lists) (cs : List RowCount) →
+    AreOwned cs (log_live w h bottom text frame l) → AreOwned cs (logged w h bottom text frame l).live
+unfolding logged
+logged_owned w h blanks bottom text frame l cs o = o
+
+pub logged_shown : (v w h height blanks : ℕ) (bottom : Bool) (text : List (List ℕ)) (frame : List Segment) (l : Lists) (c : Counts) (plan : Plan) (ls : List StandingLine) (cs : List RowCount)
+    (r : Remembered) → v ≡ w → IsNext v 0 [] ls r → CountsOf c l →
     IsPlan w h 0 (map bar_lines frame) plan → height ≡ min (text_height w text) (2 ^ 64 - 1) → blanks ≡ blanks_for bottom (c.kept + c.live) height plan.rows →
-    texts r.lines ≡ replicate blanks [] ++ take plan.lines (frame_lines frame) → CountsOf next (logged w h bottom text (map bar_lines frame) l) →
-    AreRemembered r (logged w h bottom text (map bar_lines frame) l)
-logged_shown v w h height blanks bottom text frame l c next plan r same_width marked o q m b t o' =
+    texts ls ≡ replicate blanks [] ++ take plan.lines (frame_lines frame) → line_counts ls ≡ replicate blanks blank_count ++ cs → AreCounted w h (map bar_lines frame) cs → AreLines v ls →
+    IsShown r (logged w h bottom text (map bar_lines frame) l)
+logged_shown v w h height blanks bottom text frame l c plan ls cs r same_width is o q m b t counts counted right =
     let same : blanks ≡ (log_live w h bottom text (map bar_lines frame) l).blanks = b ∙ same_blanks_log w h height bottom text (map bar_lines frame) l c plan o q m in
-    let rows : standing_rows w r.lines ≡ live_rows w (log_live w h bottom text (map bar_lines frame) l) =
+    let rows : standing_rows w ls ≡ live_rows w (log_live w h bottom text (map bar_lines frame) l) =
     ap (lines_rows w) (t ∙ ap (λ n. replicate blanks [] ++ take n (frame_lines frame)) q.lines_are) ∙ frame_rows w h frame blanks
     ∙ ap (λ n. live_rows w (record { blanks = n; segments = shown_rows w h (map bar_lines frame) })) same in
     let before = l.above ++ flat_map (rows_of w) text in
-    remembered_by w next.live r (logged w h bottom text (map bar_lines frame) l) before (subst (λ n. 0 < r.width → IsMarked n next.live r) same_width marked)
-    (ap (λ x. before ++ x) rows ∙ sym (logged_rows w h bottom text (map bar_lines frame) l)) (live_of next (logged w h bottom text (map bar_lines frame) l) o')
+    let own : AreOwned (line_counts (live_lines r)) (logged w h bottom text (map bar_lines frame) l).live =
+    subst (λ xs. AreOwned xs (logged w h bottom text (map bar_lines frame) l).live) (sym (next_live v 0 [] ls r is)) (logged_owned w h blanks bottom text (map bar_lines frame) l (line_counts ls)
+    (frame_owned w h blanks (map bar_lines frame) (line_counts ls) (counts ∙ ap (λ xs. replicate blanks blank_count ++ xs) counted) (lines_have v ls right)
+    (log_live w h bottom text (map bar_lines frame) l).blanks same)) in (
+      remembered_by w r (logged w h bottom text (map bar_lines frame) l) before (λ _. is.width_is ∙ same_width)
+          (ap (λ xs. before ++ standing_rows w xs) is.lines_are ∙ ap (λ x. before ++ x) rows ∙ sym (logged_rows w h bottom text (map bar_lines frame) l)) own,
+      own,
+    )
 
 -- ---- the draw
 

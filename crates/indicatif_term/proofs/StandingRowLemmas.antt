@@ -8,9 +8,10 @@ use Rattle.indicatif_text.specs.Columns.{Cell, blank_row}
 use Rattle.indicatif_term.specs.Screen.{Screen, cursor_row}
 use Rattle.indicatif_term.specs.Terminal.{Terminal}
 use Rattle.indicatif_term.specs.Lists.{Lists, all_rows, live_rows, lists_height, forgotten_lists}
-use Rattle.indicatif_term.specs.Shows.{Shows, Placed, safe_rows, IsOpening, look, looks_of, resting_row, resting_column}
+use Rattle.indicatif_term.specs.Shows.{Shows, Placed, safe_rows, IsOpening, look, looks_of, resting_row}
 use Rattle.indicatif_term.specs.Resizes.{recut, recut_all, used_rows, lasting_rows, row_then, recut_screen, resized, resized_terminal, resized_lists}
 use Rattle.indicatif_term.specs.Events.{rows_that_stand, rows_then}
+use Rattle.indicatif_term.proofs.DrawingLemmas.{resting_column}
 use Rattle.indicatif_term.proofs.RecutLemmas.{recut_some, recut_alike, row_more, upper_rows}
 use Rattle.indicatif_term.proofs.ResizeLemmas.{opening_cut, above_resized, same_size}
 use Rattle.indicatif_term.proofs.PlaceLemmas.{IsSizedInside}

@@ -86,12 +86,12 @@ same_screen s rows rows' row column column' e e' = cc
 -- a character at the front of the row that comes after the last one
 pub put_on_new : (s : Screen) (c w : ℕ) (rows : List (List Cell)) → s.row + 1 ≡ length s.rows → char_width false c ≡ Some w →
     rows ≡ s.rows ++ written_at 0 (character_cells c w) (blank_row s.columns) ∷ [] →
-    ◌≡◌ {A = Screen} (record s { rows = rows; row = s.row + 1; column = w }) (put_here (record { base = c; marks = [] }) w (line_feed (record s { column = 0 })))
+    ◌≡◌ {A = Screen} (record s { rows = rows; row = s.row + 1; column = w }) (put_here (record { base = c; joiners = [] }) w (line_feed (record s { column = 0 })))
 put_on_new s c w rows last width e =
     let next = s.row + 1 in
     let blank = blank_row s.columns in
     let after = s.rows ++ blank ∷ [] in
-    let cells = glyph_cells (record { base = c; marks = [] }) in
+    let cells = glyph_cells (record { base = c; joiners = [] }) in
     let test : nat_lt next (length s.rows) ≡ false = le-ltb next (length s.rows) (omega arith) in
     let wide : character_cells c w ≡ cells = rw width refl in
     let here : get_or after next [] ≡ blank = get_or_at s.rows blank [] [] next (sym last) in
@@ -127,7 +127,7 @@ length-joined_at n c row =
     ∙ ap (λ k. k + length (drop n row)) (length-reverse (joined_back c (reverse (take n row))) ∙ length-joined_back c (reverse (take n row)) ∙ length-reverse (take n row))
     ∙ sym (length-append (take n row) (drop n row)) ∙ ap length (take-append-drop n row)
 
--- a mark joined, or all as it was
+-- a joiner joined, or all as it was
 pub length-joined_or : {T E : Type 0} (r : Result T E) (n c : ℕ) (row new : List Cell) → OnOk r (new ≡ joined_at n c row) → OnErr r (new ≡ row) → length new ≡ length row
 length-joined_or (Ok x) n c row new e same = ap length e ∙ length-joined_at n c row
 length-joined_or (Err x) n c row new e same = ap length same

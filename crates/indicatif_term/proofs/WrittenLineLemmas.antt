@@ -22,61 +22,61 @@ of_no_width (Some k) shown_rows e = ap (λ k. Some k) e
 abbrev pub has_no_width : ℕ → Bool
 has_no_width c = eqb (width_of c) 0
 
-abbrev pub marks_before : List ℕ → List ℕ
-marks_before cs = take_while has_no_width cs
+abbrev pub joiners_before : List ℕ → List ℕ
+joiners_before cs = take_while has_no_width cs
 
 front_by : (b : Bool) (k c : ℕ) (cs : List ℕ) → take (cond b (1 + k) 0) (c ∷ cs) ≡ cond b (c ∷ take k cs) []
 front_by true k c cs = ap (λ n. take n (c ∷ cs)) (let e : 1 + k ≡ suc k = omega arith in e)
 front_by false k c cs = refl
 
-pub marks_before-cons : (c : ℕ) (cs : List ℕ) → marks_before (c ∷ cs) ≡ cond (has_no_width c) (c ∷ marks_before cs) []
-marks_before-cons c cs = front_by (has_no_width c) (prefix_len has_no_width cs) c cs
+pub joiners_before-cons : (c : ℕ) (cs : List ℕ) → joiners_before (c ∷ cs) ≡ cond (has_no_width c) (c ∷ joiners_before cs) []
+joiners_before-cons c cs = front_by (has_no_width c) (prefix_len has_no_width cs) c cs
 
-abbrev pub IsMark : ℕ → Type 0
-IsMark c = char_width false c ≡ Some 0
+abbrev pub IsJoiner : ℕ → Type 0
+IsJoiner c = char_width false c ≡ Some 0
 
-pub marks_are : (w : ℕ) (cs : List ℕ) → AllByRecursion (IsShowable w) cs → AllByRecursion IsMark (marks_before cs)
-marks_are w [] all = tt
-marks_are w (c ∷ cs) all = subst (AllByRecursion IsMark) (sym (marks_before-cons c cs))
-    (cond_both (has_no_width c) (c ∷ marks_before cs) [] (AllByRecursion IsMark)
-    (λ e. (of_no_width (char_width false c) all.0.shown_rows (eqb-true (width_of c) 0 e), marks_are w cs all.1)) (λ e. tt))
+pub joiners_are : (w : ℕ) (cs : List ℕ) → AllByRecursion (IsShowable w) cs → AllByRecursion IsJoiner (joiners_before cs)
+joiners_are w [] all = tt
+joiners_are w (c ∷ cs) all = subst (AllByRecursion IsJoiner) (sym (joiners_before-cons c cs))
+    (cond_both (has_no_width c) (c ∷ joiners_before cs) [] (AllByRecursion IsJoiner)
+    (λ e. (of_no_width (char_width false c) all.0.shown_rows (eqb-true (width_of c) 0 e), joiners_are w cs all.1)) (λ e. tt))
 
 pub glyphs_sized : (w : ℕ) (cs : List ℕ) → AllByRecursion (IsShowable w) cs → AllByRecursion (IsSized w) (glyphs_of cs)
 glyphs_sized w [] all = tt
 glyphs_sized w (c ∷ cs) all =
-    let g : Glyph = record { base = c; marks = marks_before cs } in
+    let g : Glyph = record { base = c; joiners = joiners_before cs } in
     cond_both (has_no_width c) (glyphs_of cs) (g ∷ glyphs_of cs) (AllByRecursion (IsSized w))
     (λ e. glyphs_sized w cs all.1)
     (λ e. let differs : width_of c ≡ 0 → ⊥ = eqb-false (width_of c) 0 e in
-    (record { columns = omega arith; fits = all.0.fits; marks = All-from_recursion IsMark (marks_before cs) (marks_are w cs all.1) }, glyphs_sized w cs all.1))
+    (record { columns = omega arith; fits = all.0.fits; joiners = All-from_recursion IsJoiner (joiners_before cs) (joiners_are w cs all.1) }, glyphs_sized w cs all.1))
 
-split_by : (b : Bool) (c : ℕ) (cs : List ℕ) → map (λ c. Put c) cs ≡ map (λ c. Put c) (marks_before cs) ++ flat_map glyph_ops (glyphs_of cs) →
-    Put c ∷ map (λ c. Put c) cs ≡ map (λ c. Put c) (cond b (c ∷ marks_before cs) []) ++ flat_map glyph_ops (cond b (glyphs_of cs) (record { base = c; marks = marks_before cs } ∷ glyphs_of cs))
+split_by : (b : Bool) (c : ℕ) (cs : List ℕ) → map (λ c. Put c) cs ≡ map (λ c. Put c) (joiners_before cs) ++ flat_map glyph_ops (glyphs_of cs) →
+    Put c ∷ map (λ c. Put c) cs ≡ map (λ c. Put c) (cond b (c ∷ joiners_before cs) []) ++ flat_map glyph_ops (cond b (glyphs_of cs) (record { base = c; joiners = joiners_before cs } ∷ glyphs_of cs))
 split_by true c cs e = ap (λ ops. Put c ∷ ops) e
 split_by false c cs e = ap (λ ops. Put c ∷ ops) e
 
-pub split_glyphs : (cs : List ℕ) → map (λ c. Put c) cs ≡ map (λ c. Put c) (marks_before cs) ++ flat_map glyph_ops (glyphs_of cs)
+pub split_glyphs : (cs : List ℕ) → map (λ c. Put c) cs ≡ map (λ c. Put c) (joiners_before cs) ++ flat_map glyph_ops (glyphs_of cs)
 split_glyphs [] = refl
 split_glyphs (c ∷ cs) =
     split_by (has_no_width c) c cs (split_glyphs cs)
-    ∙ ap (λ ms. map (λ c. Put c) ms ++ flat_map glyph_ops (glyphs_of (c ∷ cs))) (sym (marks_before-cons c cs))
+    ∙ ap (λ ms. map (λ c. Put c) ms ++ flat_map glyph_ops (glyphs_of (c ∷ cs))) (sym (joiners_before-cons c cs))
 
-pub marks_skipped : (w h : ℕ) (above : List (List Cell)) (here : List Cell) (n : ℕ) (cs : List ℕ) → AllByRecursion IsMark cs →
+pub joiners_skipped : (w h : ℕ) (above : List (List Cell)) (here : List Cell) (n : ℕ) (cs : List ℕ) → AllByRecursion IsJoiner cs →
     performed_all (map (λ c. Put c) cs) (screen_at w h above here n 0) ≡ screen_at w h above here n 0
-marks_skipped w h above here n [] all = refl
-marks_skipped w h above here n (c ∷ cs) all =
+joiners_skipped w h above here n [] all = refl
+joiners_skipped w h above here n (c ∷ cs) all =
     ap (performed_all (map (λ c. Put c) cs)) (ap (λ o. put_sized c o (screen_at w h above here n 0)) all.0
     ∙ ap (λ row. record (screen_at w h above here n 0) { rows = slice_set (above ++ here ∷ replicate n (blank_row w)) (length above) row }) (cursor_row_at w h above here n 0)
     ∙ with_row_at w h above here n 0 here)
-    ∙ marks_skipped w h above here n cs all.1
+    ∙ joiners_skipped w h above here n cs all.1
 
 -- the characters of a line
 pub text_put : (w h : ℕ) (above : List (List Cell)) (n : ℕ) (cs : List ℕ) → AllByRecursion (IsShowable w) cs →
     performed_all (map (λ c. Put c) cs) (screen_at w h above (blank_row w) n 0) ≡ screen_with w h above (pieces_of w (glyphs_of cs)) n
 text_put w h above n cs all =
     ap (λ ops. performed_all ops (screen_at w h above (blank_row w) n 0)) (split_glyphs cs)
-    ∙ performed_all-append (map (λ c. Put c) (marks_before cs)) (flat_map glyph_ops (glyphs_of cs)) (screen_at w h above (blank_row w) n 0)
-    ∙ ap (performed_all (flat_map glyph_ops (glyphs_of cs))) (marks_skipped w h above (blank_row w) n (marks_before cs) (marks_are w cs all) ∙ no_piece w h above n)
+    ∙ performed_all-append (map (λ c. Put c) (joiners_before cs)) (flat_map glyph_ops (glyphs_of cs)) (screen_at w h above (blank_row w) n 0)
+    ∙ ap (performed_all (flat_map glyph_ops (glyphs_of cs))) (joiners_skipped w h above (blank_row w) n (joiners_before cs) (joiners_are w cs all) ∙ no_piece w h above n)
     ∙ glyphs_put w h above [] n (glyphs_of cs) (glyphs_sized w cs all) refl
 
 -- ---- the line's end

@@ -12,11 +12,11 @@ use Rattle.indicatif_term.specs.declared.target.ended_rows.EndedRows.{EndedRows}
 use Rattle.indicatif_term.specs.declared.target.own_rows.OwnRows.{OwnRows}
 use Rattle.indicatif_term.specs.declared.target.own_rows.Rows.{Rows}
 use Rattle.indicatif_term.specs.declared.target.own_rows.Rows.TheVariants.{Left, Ended}
-use Rattle.indicatif_term.specs.declared.target.ended_rows.Place.{Place}
-use Rattle.indicatif_term.specs.declared.target.ended_rows.Place.TheVariants.{Drawing, Edge, Resting, Waiting}
+use Rattle.indicatif_term.specs.declared.target.ended_rows.Phase.{Phase}
+use Rattle.indicatif_term.specs.declared.target.ended_rows.Phase.TheVariants.{Drawing, Edge, Resting, Waiting}
 
 -- whether the cursor is between two draws: then the wrap is on
-abbrev pub is_between : Place → Bool
+abbrev pub is_between : Phase → Bool
 is_between Drawing = false
 is_between Edge = false
 is_between Resting = true

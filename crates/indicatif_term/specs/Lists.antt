@@ -41,13 +41,9 @@ opening_lists = record { above = []; kept = []; live = no_live; reach = 1; below
 abbrev pub forgotten_lists : Lists
 forgotten_lists = record opening_lists { failed = true; under = true }
 
--- how many rows segments have
-abbrev pub segments_height : List BarRows → ℕ
-segments_height segments = sum_by (λ s. length s.rows) segments
-
 -- how many rows are live
 abbrev pub live_height : Live → ℕ
-live_height live = live.blanks + segments_height live.segments
+live_height live = live.blanks + sum_by (λ s. length s.rows) live.segments
 
 -- how many rows the lists have
 abbrev pub lists_height : Lists → ℕ
@@ -109,6 +105,10 @@ grouped segments = fold onto_segments [] segments
 -- the rows of a frame on a terminal of w columns and h rows, by bar
 unfoldable pub shown_rows : ℕ → ℕ → List BarLines → List BarRows
 shown_rows w h frame = grouped (fitting h (lines_of w frame))
+
+-- how many rows segments have
+abbrev pub segments_height : List BarRows → ℕ
+segments_height segments = sum_by (λ s. length s.rows) segments
 
 -- the blank rows of a bottom alignment: if bars show, as many as the erased rows exceed those written
 abbrev pub blanks_for : Bool → ℕ → ℕ → ℕ → ℕ

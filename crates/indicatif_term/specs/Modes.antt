@@ -3,7 +3,7 @@ use Rattle.std.specs.Prelude.{◌≡◌, ℕ, ◌-◌, min, Bool, true, false, I
 use Rattle.std.specs.Option.{option_map_or}
 use Rattle.unicode_width.specs.Width.{char_width}
 use Rattle.indicatif_text.specs.Columns.{is_parameter, blank_row}
-use Rattle.indicatif_term.specs.Screen.{Screen, Op, Put, performed, put_here, put_mark, with_row, cursor_row, cut_before}
+use Rattle.indicatif_term.specs.Screen.{Screen, Op, Put, performed, put_here, put_joiner, with_row, cursor_row, cut_before}
 use Rattle.indicatif_term.specs.Terminal.{Terminal, Reader, SequencePlace, Sequence, idle, number_with, byte_step}
 
 -- ---- while the wrap is off
@@ -16,12 +16,12 @@ within_row s = record s { column = min s.column (s.columns - 1) }
 abbrev pub put_over : ℕ → ℕ → Screen → Screen
 put_over c w s =
     if nat_lt s.columns w then s
-    else within_row (put_here (record { base = c; marks = [] }) w (record s { column = min s.column (s.columns - w) }))
+    else within_row (put_here (record { base = c; joiners = [] }) w (record s { column = min s.column (s.columns - w) }))
 
 -- a character by its columns
 abbrev pub put_unwrapped : ℕ → Option ℕ → Screen → Screen
 put_unwrapped c None s = s
-put_unwrapped c (Some w) s = if w == 0 then put_mark c s else put_over c w s
+put_unwrapped c (Some w) s = if w == 0 then put_joiner c s else put_over c w s
 
 -- anything but a character is as with the wrap on
 abbrev pub unwrapped : Op → Screen → Screen

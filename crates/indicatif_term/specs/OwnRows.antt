@@ -5,8 +5,8 @@ use Rattle.std.specs.declared.io.Error.{Error}
 use Rattle.std.specs.Result.{is_err}
 use Rattle.indicatif_term.specs.Calls.{Nothing, TermView}
 use Rattle.indicatif_term.specs.declared.target.ended_rows.EndedRows.{EndedRows}
-use Rattle.indicatif_term.specs.declared.target.ended_rows.Place.{Place}
-use Rattle.indicatif_term.specs.declared.target.ended_rows.Place.TheVariants.{Resting, Waiting}
+use Rattle.indicatif_term.specs.declared.target.ended_rows.Phase.{Phase}
+use Rattle.indicatif_term.specs.declared.target.ended_rows.Phase.TheVariants.{Resting, Waiting}
 use Rattle.indicatif_term.specs.declared.target.ended_rows.Shown.TheVariants.{AtOnce, AsWritten}
 use Rattle.indicatif_term.specs.declared.target.own_row.OwnRow.{OwnRow}
 use Rattle.indicatif_term.specs.declared.target.own_rows.OwnRows.{OwnRows}
@@ -25,7 +25,7 @@ pub record Quietly (old new : TermView) (result : Result Unit Error) : Type 0 wh
   pub kind_is : MatchResult result (λ _. new.kind ≡ old.kind) (λ e. new.kind ≡ error_kind e)
 
 -- where the cursor waits before the first draw: at the front of a row; on one row of several its column is unknown
-abbrev pub first_place : Option OwnRow → Place
+abbrev pub first_place : Option OwnRow → Phase
 first_place None = Resting
 first_place (Some row) = Waiting
 

@@ -7,7 +7,7 @@ use Rattle.indicatif_term.specs.Screen.{Screen, top}
 -- the characters of a cell: a space for an empty cell
 abbrev pub cell_text : Cell → List ℕ
 cell_text Blank = 0x20 ∷ []
-cell_text (Written g) = g.base ∷ g.marks
+cell_text (Written g) = g.base ∷ g.joiners
 cell_text Continued = []
 
 -- whether a list is empty
@@ -15,10 +15,10 @@ abbrev pub is_empty : List ℕ → Bool
 is_empty [] = true
 is_empty (c ∷ cs) = false
 
--- an empty cell, or a space without marks
+-- an empty cell, or a space without joiners
 abbrev pub is_blank : Cell → Bool
 is_blank Blank = true
-is_blank (Written g) = (g.base == 0x20) && is_empty g.marks
+is_blank (Written g) = (g.base == 0x20) && is_empty g.joiners
 is_blank Continued = false
 
 -- the cells up to the last one that is no blank

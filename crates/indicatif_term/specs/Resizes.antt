@@ -13,7 +13,7 @@ use Rattle.indicatif_term.specs.Lists.{Lists, BarRows, live_height, lists_height
 
 -- the glyph that begins at a cell: a space at an empty one
 abbrev pub glyph_at : Cell → List Glyph
-glyph_at Blank = record { base = 0x20; marks = [] } ∷ []
+glyph_at Blank = record { base = 0x20; joiners = [] } ∷ []
 glyph_at (Written g) = g ∷ []
 glyph_at Continued = []
 

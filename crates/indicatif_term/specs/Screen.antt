@@ -63,19 +63,19 @@ cut_before n row =
 abbrev pub written_at : ℕ → List Cell → List Cell → List Cell
 written_at n cells row = cut_before n row ++ cells ++ emptied_front (drop (n + length cells) row)
 
--- ---- joining a zero-width character, a mark, to the glyph before the cursor
+-- ---- joining a zero-width character, a joiner, to the glyph of the cell before the cursor
 
 -- the glyph with one more zero-width character
-abbrev pub with_mark : ℕ → Glyph → Glyph
-with_mark c g = record g { marks = g.marks ++ c ∷ [] }
+abbrev pub with_joiner : ℕ → Glyph → Glyph
+with_joiner c g = record g { joiners = g.joiners ++ c ∷ [] }
 
 -- the zero-width character joined to the glyph at the end of the cells, read from their end, if they end with one
 abbrev pub joined_back : ℕ → List Cell → List Cell
 joined_back c (Continued ∷ cs) = Continued ∷ joined_back c cs
-joined_back c (Written g ∷ cs) = Written (with_mark c g) ∷ cs
+joined_back c (Written g ∷ cs) = Written (with_joiner c g) ∷ cs
 joined_back c cells = cells
 
--- the row with the zero-width character joined to the glyph that ends at column n
+-- the row with the zero-width character joined to the glyph of the cell before column n
 abbrev pub joined_at : ℕ → ℕ → List Cell → List Cell
 joined_at n c row = reverse (joined_back c (reverse (take n row))) ++ drop n row
 
@@ -111,17 +111,17 @@ put_here g w s = record (with_row s (written_at s.column (glyph_cells g) (cursor
 abbrev pub put_wide : ℕ → ℕ → Screen → Screen
 put_wide c w s =
     if nat_lt s.columns w then s
-    else put_here (record { base = c; marks = [] }) w
+    else put_here (record { base = c; joiners = [] }) w
     (if nat_le (s.column + w) s.columns then s else line_feed (record s { column = 0 }))
 
 -- a zero-width character
-abbrev pub put_mark : ℕ → Screen → Screen
-put_mark c s = with_row s (joined_at s.column c (cursor_row s))
+abbrev pub put_joiner : ℕ → Screen → Screen
+put_joiner c s = with_row s (joined_at s.column c (cursor_row s))
 
 -- a character by its columns; one without a width is ignored
 abbrev pub put_sized : ℕ → Option ℕ → Screen → Screen
 put_sized c None s = s
-put_sized c (Some w) s = if w == 0 then put_mark c s else put_wide c w s
+put_sized c (Some w) s = if w == 0 then put_joiner c s else put_wide c w s
 
 -- the screen after an operation
 abbrev pub performed : Op → Screen → Screen

@@ -3,7 +3,7 @@ ghost use Rattle.std.specs.Prelude.{◌≡◌, true, false, Some, None, [], ◌�
 ghost use Rattle.indicatif_text.specs.Columns.{Blank, Written, Continued, rows_of};
 ghost use Rattle.indicatif_text.specs.ColumnCases.{cell};
 ghost use Rattle.indicatif_term.specs.Calls.{move_bytes, line_bytes, clear_bytes, UP, DOWN, RIGHT, LEFT};
-ghost use Rattle.indicatif_term.specs.Calm.{Character, Colours, Return, Feed, Move, Empty, stroke_bytes, is_calm, is_quiet};
+ghost use Rattle.indicatif_term.specs.Calm.{Character, Colours, Move, Empty, stroke_bytes, is_quiet};
 ghost use Rattle.indicatif_term.specs.Shows.{look, looks_of};
 ghost use Rattle.indicatif_term.specs.Frames.{logged_lines};
 ghost use Rattle.indicatif_term.specs.Memory.{move_text, quoted_char, written_text};
@@ -13,7 +13,8 @@ ghost use Rattle.indicatif_term.specs.Cases.{LongLine, ThreeOnTwo, LogAbove, AtT
 ghost use Rattle.indicatif_term.specs.ModeCases.{OFF, ON, mode_picture, mode_cursor, wraps_then};
 ghost use Rattle.indicatif_term.specs.Resizes.{resized_terminal};
 ghost use Rattle.indicatif_term.specs.ResizeCases.{fed, picture_at, cursor_at, NotJoined, LiveRowsScrollAway, LogIsCut, RowsBelowDropped, ReachedBelow, KeptRowsScrollAway};
-ghost use Rattle.indicatif_term.specs.Inside.Recutting.{piece_text, texts_then, cut_counts, counts_after};
+ghost use Rattle.indicatif_term.specs.Inside.Recutting.{piece_text, texts_then};
+ghost use Rattle.indicatif_term.specs.Inside.Owned.{run_length, through};
 ghost use Rattle.indicatif_term.specs.DrawTargets.{is_dumb};
 ghost use Rattle.indicatif_term.specs.LimiterCases.{TwentyAtOnce, WholeMilliseconds, NoMoreInHand, NoneBefore};
 
@@ -29,19 +30,19 @@ pub fn bytes_of_calls()
         ≡ 0x1B ∷ 0x5B ∷ 0x32 ∷ 0x41 ∷ 0x0D ∷ 0x1B ∷ 0x5B ∷ 0x32 ∷ 0x4B ∷ 0x61 ∷ 0x62 ∷ 0x63 ∷ 0x0D ∷ 0x0A ∷ [] }
 {}
 
-/// Strokes of a calm text, and what isn't one: BEL, ESC, DEL, a surrogate, a number past U+10FFFF and a move with another letter; and bytes that
-/// aren't quiet, such as ESC `c`.
+/// Strokes of a calm text, and some that have no bytes in it: BEL, ESC, DEL, a surrogate, a number past U+10FFFF and a move with another
+/// letter; and bytes that aren't quiet, such as ESC `c`.
 pub fn calm_texts()
-    ensures text { flat_map stroke_bytes (Move UP 2 ∷ Return ∷ Empty ∷ Colours (codes "1;31") ∷ Character 0x2588 ∷ Colours [] ∷ Return ∷ Feed ∷ [])
+    ensures text { flat_map stroke_bytes (Move UP 2 ∷ Character 0x0D ∷ Empty ∷ Colours (codes "1;31") ∷ Character 0x2588 ∷ Colours [] ∷ Character 0x0D ∷ Character 0x0A ∷ [])
         ≡ 0x1B ∷ (codes "[2A\r") ++ (0x1B ∷ codes "[2K") ++ (0x1B ∷ codes "[1;31m") ++ (0xE2 ∷ 0x96 ∷ 0x88 ∷ 0x1B ∷ codes "[m\r\n") }
-    ensures letter { is_calm (Character 0x61) ≡ true }
-    ensures mark { is_calm (Character 0x308) ≡ true }
-    ensures bell { is_calm (Character 0x07) ≡ false }
-    ensures escape { is_calm (Character 0x1B) ≡ false }
-    ensures delete { is_calm (Character 0x7F) ≡ false }
-    ensures surrogate { is_calm (Character 0xD800) ≡ false }
-    ensures past { is_calm (Character 0x110000) ≡ false }
-    ensures home { is_calm (Move 0x48 1) ≡ false }
+    ensures letter { stroke_bytes (Character 0x61) ≡ 0x61 ∷ [] }
+    ensures joiner { stroke_bytes (Character 0x308) ≡ 0xCC ∷ 0x88 ∷ [] }
+    ensures bell { stroke_bytes (Character 0x07) ≡ [] }
+    ensures escape { stroke_bytes (Character 0x1B) ≡ [] }
+    ensures delete { stroke_bytes (Character 0x7F) ≡ [] }
+    ensures surrogate { stroke_bytes (Character 0xD800) ≡ [] }
+    ensures past { stroke_bytes (Character 0x110000) ≡ [] }
+    ensures home { stroke_bytes (Move 0x48 1) ≡ [] }
     ensures quiet { is_quiet (codes "a\r\n") ≡ true }
     ensures broken { is_quiet (0x1B ∷ codes "\r\n") ≡ true }
     ensures rings { is_quiet (0x61 ∷ 0x07 ∷ []) ≡ false }
@@ -55,8 +56,8 @@ pub fn looks_of_cells()
     ensures empty { look Blank ≡ Blank }
     ensures letter { look (cell 0x61) ≡ cell 0x61 }
     ensures continued { look Continued ≡ Continued }
-    ensures marked { look (Written (record { base = 0x20; marks = 0x308 ∷ [] }))
-        ≡ Written (record { base = 0x20; marks = 0x308 ∷ [] }) }
+    ensures joiner { look (Written (record { base = 0x20; joiners = 0x308 ∷ [] }))
+        ≡ Written (record { base = 0x20; joiners = 0x308 ∷ [] }) }
     ensures rows { looks_of (rows_of 3 (codes "a b "))
         ≡ (cell 0x61 ∷ Blank ∷ cell 0x62 ∷ []) ∷ (Blank ∷ Blank ∷ Blank ∷ []) ∷ [] }
 {}
@@ -133,7 +134,7 @@ pub fn cut_rows()
     ensures spaces { picture_at 2 2 (fed 2 6 (codes "a" ++ ESC ++ codes "[3Cb ")) ≡ codes "a" ∷ [] ∷ codes "b" ∷ [] }
     ensures wide { picture_at 2 3 (fed 2 4 (codes "ab" ++ 0xE5 ∷ 0x9B ∷ 0xBD ∷ [])) ≡ codes "ab" ∷ (0xE5 ∷ 0x9B ∷ 0xBD ∷ []) ∷ [] }
     ensures too_wide { picture_at 3 1 (fed 3 4 (codes "a" ++ 0xE5 ∷ 0x9B ∷ 0xBD ∷ codes "b")) ≡ codes "a" ∷ codes "b" ∷ [] ∷ [] }
-    ensures marked { picture_at 2 1 (fed 2 4 (codes "a" ++ 0xCC ∷ 0x88 ∷ codes "b")) ≡ (codes "a" ++ 0xCC ∷ 0x88 ∷ []) ∷ codes "b" ∷ [] }
+    ensures joiner { picture_at 2 1 (fed 2 4 (codes "a" ++ 0xCC ∷ 0x88 ∷ codes "b")) ≡ (codes "a" ++ 0xCC ∷ 0x88 ∷ []) ∷ codes "b" ∷ [] }
 {}
 
 /// Rows that scroll away and come back, and those below the cursor's that are dropped, unless the size stays the same.
@@ -167,17 +168,23 @@ pub fn cut_lists()
     ensures kept_rows_scroll_away { KeptRowsScrollAway }
 {}
 
-/// The lines of one row that the rows of a line become, by their texts; and the counts of wrapped rows.
+/// The lines of one row that the rows of a line become, by their texts.
 fn cut_lines()
     ensures each_row { texts_then 10 5 (codes "progress bars") ≡ (codes "progr" ∷ codes "ess b" ∷ []) ∷ (codes "ars" ∷ []) ∷ [] }
     ensures not_joined { texts_then 3 9 (codes "abcd") ≡ (codes "abc" ∷ []) ∷ (codes "d" ∷ []) ∷ [] }
     ensures spaces { texts_then 9 2 (codes " a b  ") ≡ (codes " a" ∷ codes " b" ∷ []) ∷ [] }
     ensures empty { texts_then 4 2 [] ≡ ([] ∷ []) ∷ [] }
     ensures colours { texts_then 4 3 (ESC ++ codes "[1mabc" ++ ESC ++ codes "[0md") ≡ (codes "abc" ∷ codes "d" ∷ []) ∷ [] }
-    ensures escape { piece_text (record { base = 0x61; marks = 0x1B ∷ [] } ∷ record { base = 0x5B; marks = [] } ∷ []) ≡ codes "a" ++ ESC ++ ESC ++ codes "[m[" }
+    ensures escape { piece_text (record { base = 0x61; joiners = 0x1B ∷ [] } ∷ record { base = 0x5B; joiners = [] } ∷ []) ≡ codes "a" ++ ESC ++ ESC ++ codes "[m[" }
     ensures too_wide { texts_then 4 1 (codes "a" ++ 0xE5 ∷ 0x9B ∷ 0xBD ∷ codes "b") ≡ (codes "a" ∷ codes "b" ∷ []) ∷ [] }
-    ensures counts { cut_counts (2 ∷ 1 ∷ 3 ∷ []) (record { bar = 8; rows = 2 } ∷ record { bar = 9; rows = 1 } ∷ []) ≡ record { bar = 8; rows = 3 } ∷ record { bar = 9; rows = 3 } ∷ [] }
-    ensures scrolled { counts_after 4 (record { bar = 8; rows = 3 } ∷ record { bar = 9; rows = 3 } ∷ []) ≡ record { bar = 9; rows = 2 } ∷ [] }
+{}
+
+/// Lines of one bar, from the first one on, and those with the first ones.
+fn lines_of_a_bar()
+    ensures run { run_length 8 (record { bar = 8; rows = 3 } ∷ record { bar = 8; rows = 1 } ∷ record { bar = 9; rows = 3 } ∷ record { bar = 8; rows = 1 } ∷ []) ≡ 2 }
+    ensures no_run { run_length 9 (record { bar = 8; rows = 3 } ∷ record { bar = 9; rows = 1 } ∷ []) ≡ 0 }
+    ensures all_of_bar { through 1 (record { bar = 8; rows = 3 } ∷ record { bar = 8; rows = 1 } ∷ record { bar = 9; rows = 3 } ∷ []) ≡ 2 }
+    ensures none { through 0 (record { bar = 8; rows = 3 } ∷ []) ≡ 0 }
 {}
 
 /// Sequences that are no moves, and bytes that are no character.
@@ -228,7 +235,7 @@ pub fn wide()
 {}
 
 /// A zero-width character joins the one before the cursor; at the front of a row it is left out.
-pub fn marks()
+pub fn joiners()
     ensures joined { contents_after 1 4 (codes "a" ++ 0xCC ∷ 0x88 ∷ codes "b") ≡ codes "a" ++ 0xCC ∷ 0x88 ∷ codes "b" }
     ensures front { contents_after 1 4 (0xCC ∷ 0x88 ∷ codes "a") ≡ codes "a" }
     ensures after_empty { contents_after 1 4 (ESC ++ codes "[1C" ++ 0xCC ∷ 0x88 ∷ codes "a") ≡ codes " a" }

@@ -1,19 +1,24 @@
 //! A terminal in memory: the cells after its bytes.
 //!
-//! - `feeding`: the terminal as a machine over bytes, `Cells`.
-//! - `whole_char`: whole characters at the front of bytes, which most bytes are.
-//! - `scanner`: the operations of bytes: characters first, escape sequences next.
-//! - `spelling`: the bytes of an incomplete character.
-//! - `grid`: the rows and the cursor, and how each operation and another size change them.
-//! - `row`: a row of cells, and how writing into it changes its wide characters.
-//! - `run`: characters of one column, which are written into a row together.
-//! - `cell`: a cell of a row.
-//! - `glyph`: a character and its marks, as they are read from a row.
-//! - `marks`: the marks of a row: zero-width characters, which are joined to its characters.
-//! - `known_width`: the columns of a character, remembered while it comes again.
-//! - `call_log`: the calls as text.
+//! `InMemoryTerm`, this terminal as a bar's target, is here: its calls are played and kept as text, its cursor and its picture read. The
+//! modules below are private:
 //!
-//! `InMemoryTerm` is this terminal as a bar's target.
+//! - `call_log`: the calls of an `InMemoryTerm` as lines of text, with what they write between quotation marks, escaped.
+//! - `feeding`: `Cells`, the terminal alone, fed with bytes: by a byte, a character or a sequence; its cursor, picture and size.
+//! - `whole_char`: `WholeChar`, a printable character of one byte or three at the front of bytes.
+//! - `scanner`: which operation does a byte or an escape sequence have? `Scanner` and `ScanState` are between bytes and characters,
+//!   `WholeSequence` is a sequence with its number, read at once.
+//! - `spelling`: `Spelling`, at most four bytes of a character that isn't complete.
+//! - `grid`: `Grid`, the rows and the cursor: what each operation (`Op`) does to them, how a character is put at the cursor, in this row or
+//!   the next, and the rows as texts. In its folder `resizing`: another size.
+//! - `row`: `Row`, a row of cells: what is written into it at a column, which wide characters that empties, and its text without the blanks
+//!   at its end.
+//! - `run`: `Run`, characters of one column that are written into a row together: printable ASCII, or one character repeated.
+//! - `cell`: `Cell`: is it empty, blank, written, or a further cell of a wide character?
+//! - `joiners`: `Joiner`, a zero-width character in the one list of a row: it is stored, and those of a character are found by the last
+//!   one's place.
+//! - `glyph`: `Glyph`, a character with its joiners, read from a row.
+//! - `known_width`: `KnownWidth`, the columns of a character, remembered while it is repeated.
 ghost use Rattle.std.specs.Prelude.{◌≡◌, true, ◌-◌, ◌++◌, ◌==◌, ◌⊎◌, ◌↔◌, [], if◌then◌else◌, map, codes, Err, IfOk, IsOk, IsOkAnd, IfErr, IsTrue, IsFalse, OnOk, OnErr, string_bytes};
 ghost use Rattle.std.specs.IoError.{error_kind};
 ghost use Rattle.indicatif_term.specs.Screen.{top};
@@ -29,8 +34,8 @@ mod cell;
 mod feeding;
 mod glyph;
 mod grid;
+mod joiners;
 mod known_width;
-mod marks;
 mod row;
 mod run;
 mod scanner;
@@ -183,9 +188,9 @@ impl InMemoryTerm {
         self.cells.picture()
     }
 
-    /// The calls since the last check, one a line: `Up(n)`, `Down(n)`, `Left(n)`, `Right(n)`, `Str("..")`, `NewLine`, `Clear`, `Flush`.
-    /// `write_line` is `Str` and `NewLine`; a move by 0 isn't listed. Quotation marks, backslashes and ASCII control characters of a text are
-    /// escaped as by Rust's `{:?}`. Takes no memory.
+    /// The calls kept since the last check, one a line: `Up(n)`, `Down(n)`, `Left(n)`, `Right(n)`, `Str("..")`, `NewLine`, `Clear`,
+    /// `Flush`. `write_line` is `Str` and `NewLine`; a move by 0 isn't listed. Quotation joiners, backslashes and ASCII control characters
+    /// of a text are escaped as by Rust's `{:?}`. Takes no memory.
     ///
     /// ```
     /// term.move_cursor_up(2)?;
@@ -216,7 +221,7 @@ impl InMemoryTerm {
         }
     }
 
-    /// As `play`, without the count of faults.
+    /// Plays a call as `play`, without the count of faults.
     fn try_play(
         &mut self,
         line: Result<String, Refusal>,
@@ -236,7 +241,7 @@ impl InMemoryTerm {
         self.read(end)
     }
 
-    /// Reads bytes, without their number if memory is refused.
+    /// Reads bytes into the cells; a refusal doesn't say how many were read.
     fn read(&mut self, bytes: &[u8]) -> Result<(), Refusal>
         ensures read { OnOk result (self.new.terminal ≡ after self.old.terminal bytes.now) }
         ensures stopped { OnErr result (ReadsBeginning bytes.now self.old.terminal self.new.terminal) }

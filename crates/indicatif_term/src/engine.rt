@@ -7,18 +7,47 @@
 //! it goes up to the first of the kept and live rows, empties them from there down, goes up again, and writes the new ones in
 //! their place. The rows above stand at every moment.
 //!
-//! Its calls are here. In the order of a draw:
+//! `Engine` is here with its calls, which decide whether lines stay, are moved over or are painted anew, and remember what stands then. The
+//! modules below are private, in the order of a draw. What comes in:
 //!
-//! - `lines`: the lines that bars show. `window`: the size of a terminal that has some columns. `spare`: memory to use again.
-//! - State: `counts`, the rows by kinds; `remembered`, the lines that stand. At another size `recounting` and `recutting` cut both, `recutting`
-//!   by the characters of each line (`marked`).
-//! - What differs: `renewed`, for a frame with the same rows; `layout` and `beside`, for any other. `comparing` compares one line, `parting`
-//!   finds where two lines of one row part, and `inks` reads cells with their colours; `last_char` is what a last line writes again.
-//! - What is written: `changing`, lines in the place of others, of which `row_edits` writes a part; `painting`, whole lines on rows that were
-//!   emptied; `moving`, lines over others without an empty row between.
+//! - `lines`: `LineType` and `Segment`, the lines that bars show.
+//! - `window`: `Window`, the size of a terminal that has some columns.
+//! - `spare`: `Spare`, room that was taken before, for lines and texts: it is taken, and kept again.
+//!
+//! What stands:
+//!
+//! - `counts`: `Counts`, how many rows are kept, live or blank, and how far the cursor is: after a draw, a log, a clear or a `keep`.
+//!   `Fresh`, the rows that are reached for the first time.
+//! - `remembered`: `Remembered`, the lines in those rows: the live ones, those of kept rows, and new ones in their place or below.
+//! - `recounting`: the counts at another size, where each row became some rows.
+//! - `recutting`: the remembered lines at another size (`CutLines`): each row's glyphs are cut into lines of one row.
+//! - `joined`: `JoinedChar`, such a glyph: a character of a text and its joiners.
+//!
+//! What differs:
+//!
+//! - `renewed`: the lines of a frame that has the same rows as the last one, each compared with the one in its place (`NewLine`).
+//! - `layout`: a frame with other rows, or a logged text: `Plan`, which lines are shown, and how many rows they take.
+//! - `beside`: the lines of such a drawing beside those that stand there: which are the same, on the same rows (`SizedLine`, `Beside`,
+//!   `Room`)?
+//! - `comparing`: what becomes of one line where another text comes in its place (`Turn`): edited, or written as a whole?
+//! - `parting`: the byte where two texts of one row part (`Part`, `Step`), before the first escape character or among colours; how many
+//!   characters of one column follow?
+//! - `inks`: a text read cell by cell, with the colour sequences that are open at each (`InkedText`, `Colours`).
+//! - `last_char`: the last character of a line, where it is written again alone.
+//!
+//! What is written:
+//!
+//! - `painting`: rows are taken back and emptied, and a logged text, blank rows and lines written on them, each on a row of its own
+//!   (`Painting`, `Pen`). Also the steps that `changing` and `moving` share: up, down, rows emptied, spaces.
+//! - `changing`: lines in the place of others, from the first down to the last: which stay, which are edited in a part, which are written
+//!   as a whole?
+//! - `row_edits`: such a part, column by column: characters in their colours, and steps over columns that stay (`Rest`).
+//! - `moving`: whole lines over those that stand, where all their rows are full and none joins the one before it (`are_even`), without an
+//!   empty row between.
 ghost use Rattle.std.specs.Prelude.{if◌then◌else◌, min, ◌-◌, ◌^◌, ◌≡◌, ◌∷◌, List, true, false, ◌≢◌, map, length, replicate, ◌+◌, ◌<◌, ◌≤◌, IfErr, IfSome, option_map, IsTrue, IsFalse, ◌++◌, [], ℕ, Err, false, ◌⊎◌, ◌↔◌, ◌==◌, ◌&&◌, IfOk, take, drop};
 ghost use Rattle.indicatif_term.specs.Lists.{Lists, opening_lists, forgotten_lists};
 ghost use Rattle.indicatif_term.specs.Counts.{CountsOf};
+ghost use Rattle.std.specs.List.{list_any};
 ghost use Rattle.indicatif_term.specs.Remembered.{Suits};
 ghost use Rattle.indicatif_term.specs.Standing.{texts};
 
@@ -27,10 +56,10 @@ pub(crate) mod changing;
 pub(crate) mod comparing;
 pub(crate) mod counts;
 pub(crate) mod inks;
+pub(crate) mod joined;
 pub(crate) mod last_char;
 pub(crate) mod layout;
 pub(crate) mod lines;
-pub(crate) mod marked;
 pub(crate) mod moving;
 pub(crate) mod painting;
 pub(crate) mod parting;
@@ -45,12 +74,12 @@ pub(crate) mod window;
 use crate::engine::beside::{Room, below_blanks, height_of, lines_among, lines_within};
 use crate::engine::changing::write_in_room;
 use crate::engine::counts::{Counts, Fresh, Keep, blanks_of};
-use crate::engine::layout::plan_drawing;
+use crate::engine::layout::{plan_drawing, run_of};
 use crate::engine::lines::Segment;
 use crate::engine::moving::{are_even, write_over};
 use crate::engine::painting::{Drawing, Painting, paint};
-use crate::engine::recutting::Widths;
-use crate::engine::remembered::{Remembered, Span, StandingLine, StandingLines};
+use crate::engine::recutting::{CutLines, Widths};
+use crate::engine::remembered::{NextLines, Remembered, Span, StandingLine};
 use crate::engine::renewed::{Last, NewLine, new_lines};
 use crate::engine::spare::Spare;
 use crate::engine::window::Window;
@@ -60,7 +89,6 @@ use crate::target::{MultiProgressAlignment, ProgressDrawTarget};
 use indicatif_text::columns::Refusal;
 use std::alloc::Global;
 use std::io;
-use std::mem::replace;
 
 /// Draws the lines of bars on a terminal, and takes back those that it may still change.
 ///
@@ -86,7 +114,7 @@ pub struct Engine<T: Drop> {
     counts: Counts,
     /// The lines of the kept rows and of the last drawing.
     shown: Remembered,
-    /// Room for the next counts and lines.
+    /// Room for the next lines.
     spare: Spare,
     /// Whether a call has failed, so that the next drawing begins on a new row.
     failed: bool,
@@ -116,7 +144,7 @@ impl<T: TermLike + Drop> Engine<T> {
     ghost use Rattle.indicatif_term.specs.Frames.{bar_lines, all_lines, are_plain, logged_lines, text_lines, is_fault};
     ghost use Rattle.indicatif_term.specs.Inside.Plans.{frame_lines};
     ghost use Rattle.indicatif_term.specs.Engines.{engine_moves, engine_term, Fits, is_failure, Answers, Counted, Paints, lists_after};
-    ghost use Rattle.indicatif_term.specs.Inside.Remembering.{Draws, Remembers, IsNext, HasRoom, CanMove};
+    ghost use Rattle.indicatif_term.specs.Inside.Remembering.{Draws, Remembers, IsNext, IsNothing, HasRoom, CanMove};
     ghost use Rattle.indicatif_term.specs.Remembered.{live_lines};
     ghost use Rattle.indicatif_term.specs.Inside.Moves.{moved_bytes};
     ghost use Rattle.indicatif_term.specs.Inside.Changes.{PlacedLine, placed_height, change_bytes};
@@ -139,7 +167,7 @@ impl<T: TermLike + Drop> Engine<T> {
         Engine {
             term,
             alloc,
-            counts: Counts::new(alloc),
+            counts: Counts::new(),
             shown: Remembered::nothing(alloc),
             spare: Spare::new(alloc),
             failed: false,
@@ -168,7 +196,7 @@ impl<T: TermLike + Drop> Engine<T> {
         }
     }
 
-    /// The terminal.
+    /// The engine's terminal.
     pub fn term(&self) -> &T
         ensures terminal { result.now ≡ engine_term self.now }
         ensures some { (l : Lists) × Fits self.now l }
@@ -176,7 +204,7 @@ impl<T: TermLike + Drop> Engine<T> {
         &self.term
     }
 
-    /// The terminal; what was drawn stays on it.
+    /// The engine's terminal; what was drawn stays on it.
     pub fn into_term(self) -> T
         ensures { result ≡ engine_term self }
     {
@@ -215,7 +243,7 @@ impl<T: TermLike + Drop> Engine<T> {
     ///
     /// As many lines from the front are written as have at most the terminal's rows together, and none where the frame stands as it is.
     /// One pass over the frame before the first byte, two over the lines at its front that stand there, one while writing. Memory for
-    /// its lines and their counts, where earlier drawings left no room for them, is taken before the first byte. The lines of kept rows
+    /// its lines, where earlier drawings left no room for them, is taken before the first byte. The lines of kept rows
     /// aren't copied; the room of the list that holds them grows with it.
     ///
     /// Refused: `NoColumns` where the terminal has no columns; `TooWide` where any line, also one past the terminal's
@@ -259,7 +287,7 @@ impl<T: TermLike + Drop> Engine<T> {
         self.ended(written)
     }
 
-    /// The same, by a plan of the frame.
+    /// Draws the frame by a plan of it, where some of its rows are others than those that stand.
     #[inline(never)]
     fn draw_anew(
         &mut self,
@@ -291,6 +319,7 @@ impl<T: TermLike + Drop> Engine<T> {
         let blanks = blanks_of(alignment.is_bottom(), taken, plan.rows);
         let standing = self.shown.on(width);
         let lines = lines_among(&mut self.spare, standing, blanks, planned.lines)?;
+        let kept = plan.kept_below(blanks);
         let drawing = Drawing {
             text: None,
             blanks,
@@ -313,7 +342,8 @@ impl<T: TermLike + Drop> Engine<T> {
             fill: counts.fill(last, width),
         };
         let above = self.shown.above(width, self.counts.kept);
-        let from = self.store(counts, above, lines, width)?;
+        let next = NextLines { lines, kept };
+        let from = self.store(counts, above, next, width)?;
         let drawn = self.shown.behind(from);
         if moves {
             let written = write_over(&mut self.term, taken, drawn, width);
@@ -396,7 +426,8 @@ impl<T: TermLike + Drop> Engine<T> {
             fill,
         };
         let above = Span { from: 0, to: 0 };
-        self.store(counts, above, lines, window.columns)?;
+        let next = NextLines { lines, kept: 0 };
+        self.store(counts, above, next, window.columns)?;
         let written = paint(&mut self.term, &painting);
         self.ended(written)
     }
@@ -417,7 +448,7 @@ impl<T: TermLike + Drop> Engine<T> {
             (lists_after result l (cleared l)) }
     {
         Window::of(&self.term)?;
-        let next = self.counts.cleared(self.alloc);
+        let next = self.counts.cleared();
         let painting = Painting {
             anew: self.failed,
             fresh: Fresh::none(),
@@ -449,12 +480,17 @@ impl<T: TermLike + Drop> Engine<T> {
         ensures rests { (w h : ℕ) (l : Lists) (opening : Screen) (t : Terminal) →
             Rests w h opening l t → Rests w h opening (kept_of w bar l) t }
     {
-        let counts = replace(&mut self.counts, Counts::new(self.alloc));
-        let (outcome, next) = counts.keep(bar);
+        let blanks = self.counts.blanks;
+        let own = self.shown.own(blanks);
+        let count = run_of(own, bar);
+        if count == 0 {
+            return behind_or_absent(own, bar);
+        }
+        let rows = height_of(&own[..count]);
         let width = self.term.width() as usize;
-        self.shown.keep(width, next.live);
-        self.counts = next;
-        outcome
+        self.shown.keep(width, blanks + count);
+        self.counts = self.counts.passed(rows);
+        Keep::Passed
     }
 
     /// Remembers the next counts, and new lines below some of those that stand, which are about to be written: from which on those are
@@ -463,31 +499,28 @@ impl<T: TermLike + Drop> Engine<T> {
         &mut self,
         counts: Counts,
         above: Span,
-        lines: Vec<StandingLine>,
+        next: NextLines,
         width: usize,
     ) -> Result<usize, Refusal>
         requires within { above.to ≤ length self.old.shown.lines }
-        requires right { 0 < width → AreLines width (drop above.from (take above.to self.old.shown.lines) ++ lines.items) }
-        requires suits { (r : Remembered) → IsNext width counts.live (drop above.from (take above.to self.old.shown.lines)) lines.items r →
+        requires right { 0 < width → AreLines width (drop above.from (take above.to self.old.shown.lines) ++ next.lines.items) }
+        requires suits { (r : Remembered) → IsNext width next.kept (drop above.from (take above.to self.old.shown.lines)) next.lines.items r →
             ∥ ((l : Lists) × Suits counts false r l) ∥₁ }
-        ensures refused { IfErr result (λ e. (e ≡ Refusal.Memory) × (0 < length lines.items) × (self.new ≡ self.old)) }
-        ensures next { IfOk result (λ from. IsNext width counts.live (drop above.from (take above.to self.old.shown.lines)) lines.items self.new.shown
-            × (from ≤ length self.new.shown.lines) × (drop from self.new.shown.lines ≡ lines.items)) }
+        ensures refused { IfErr result (λ e. (e ≡ Refusal.Memory) × (0 < length next.lines.items) × (self.new ≡ self.old)) }
+        ensures next { IfOk result (λ from. IsNext width next.kept (drop above.from (take above.to self.old.shown.lines)) next.lines.items self.new.shown
+            × (from ≤ length self.new.shown.lines) × (drop from self.new.shown.lines ≡ next.lines.items)) }
         ensures made { IfOk result (λ _. (self.new.counts ≡ counts) × (self.new.failed ≡ false)) }
         ensures terminal { engine_term self.new ≡ engine_term self.old }
         ensures moves { engine_moves self.new ≡ engine_moves self.old }
     {
         let from = above.to - above.from;
-        let live = counts.live;
-        self.shown.put_below(&mut self.spare, above, lines, width)?;
-        self.shown.mark(live);
-        let before = replace(&mut self.counts, counts);
-        self.spare.store_counts(before.segments);
+        self.shown.put_below(&mut self.spare, above, next, width)?;
+        self.counts = counts;
         self.failed = false;
         Ok(from)
     }
 
-    /// Whether lines can be written over the live rows by moves alone, where that is asked.
+    /// Whether lines can be written over the live rows by moves alone, if `set_move_cursor` was told so.
     fn can_move(&self, next: &Counts, lines: &[StandingLine], width: usize) -> bool
         ensures { IsTrue result → CanMove self.now next.now width lines.now }
     {
@@ -518,7 +551,7 @@ impl<T: TermLike + Drop> Engine<T> {
         !self.failed && !self.moves && pass == 0
     }
 
-    /// How lines stand in the place of the live rows, where those that stay can be left; else the whole drawing is written.
+    /// How lines stand in the place of the live rows, if those that stay can be left; else all lines are painted.
     fn room_for(&self, next: &Counts, lines: &[StandingLine], width: usize) -> Option<Room>
         ensures { IfSome result (λ room. HasRoom self.now next.now width lines.now × IsWithin lines.now self.now.counts.live room) }
     {
@@ -531,7 +564,7 @@ impl<T: TermLike + Drop> Engine<T> {
         lines_within(lines, self.counts.live)
     }
 
-    /// The answer where a drawing that is remembered was written; after a failure all is forgotten but that a call has failed.
+    /// The answer of the engine after a drawing was written; after a failure all is forgotten but that a call has failed.
     fn ended(&mut self, written: io::Result<()>) -> Result<(), Refusal>
         requires sound { self.old.failed ≡ false }
         ensures draws { (bytes : List ℕ) (v : TermView) → Writes bytes v (T.view (engine_term self.old)) written →
@@ -548,26 +581,25 @@ impl<T: TermLike + Drop> Engine<T> {
         }
     }
 
-    /// These are its counts and lines from now on.
+    /// Remembers these counts and lines as the engine's from now on.
     fn remember(&mut self, next: Counts, shown: Remembered)
         requires { ∥ ((l : Lists) × Suits next false shown l) ∥₁ }
         ensures terminal { engine_term self.new ≡ engine_term self.old }
         ensures moves { engine_moves self.new ≡ engine_moves self.old }
         ensures remembered { (self.new.counts ≡ next) × (self.new.failed ≡ false) × (self.new.shown ≡ shown) }
     {
-        let counts = replace(&mut self.counts, next);
-        self.spare.store_counts(counts.segments);
+        self.counts = next;
         self.shown = shown;
         self.failed = false;
     }
 
-    /// The terminal failed.
+    /// Forgets the engine's counts and lines, since the terminal failed.
     fn forget(&mut self)
         ensures terminal { engine_term self.new ≡ engine_term self.old }
         ensures moves { engine_moves self.new ≡ engine_moves self.old }
-        ensures forgotten { CountsOf self.new.counts forgotten_lists × (self.new.failed ≡ true) × (self.new.shown.width ≡ 0) }
+        ensures forgotten { CountsOf self.new.counts forgotten_lists × (self.new.failed ≡ true) × IsNothing self.new.shown }
     {
-        self.counts = Counts::forgotten(self.alloc);
+        self.counts = Counts::forgotten();
         self.shown = Remembered::nothing(self.alloc);
         self.failed = true;
     }
@@ -575,6 +607,7 @@ impl<T: TermLike + Drop> Engine<T> {
 
 impl<T: Resize + Drop> Engine<T> {
     ghost use Rattle.indicatif_term.specs.Lists.{Lists};
+    ghost use Rattle.indicatif_term.specs.Inside.Recutting.{IsShownCut};
     ghost use Rattle.indicatif_term.specs.Resizes.{Resized, SizeTakes, has_size, recut_lists, settled_whole, resized_lists};
     ghost use Rattle.indicatif_term.specs.Engines.{engine_moves, engine_term, Fits};
 
@@ -622,7 +655,7 @@ impl<T: Resize + Drop> Engine<T> {
         Ok(())
     }
 
-    /// Gives its terminal alone another size.
+    /// Gives the engine's terminal alone another size.
     fn resize_term(&mut self, rows: u16, cols: u16) -> Result<(), Refusal>
         ensures resized { IfOk result (λ u. Resized cols rows (T.view (engine_term self.old)) (T.view (engine_term self.new))) }
         ensures unchanged { IfErr result (λ e. self.new ≡ self.old) }
@@ -636,15 +669,15 @@ impl<T: Resize + Drop> Engine<T> {
         self.term.resize(rows, cols)
     }
 
-    /// Whether its terminal has this size.
+    /// Whether the engine's terminal has this size.
     fn has_size(&self, rows: u16, cols: u16) -> bool
         ensures { result ≡ has_size cols rows (T.view (engine_term self.now)) }
     {
         self.term.width() == cols && self.term.height() == rows
     }
 
-    /// Its counts and lines on a terminal of another size. Refused: `Memory`, only where a kept or a live row stands, and also where the
-    /// lines of these aren't remembered: a terminal that changed its columns by itself may lead there.
+    /// The engine's counts and lines on a terminal of another size. Refused: `Memory`, only where a kept or a live row stands, and also
+    /// where the lines of these aren't remembered: a terminal that changed its columns by itself may lead there.
     fn cut(&self, rows: u16, cols: u16) -> Result<CutDrawing, Refusal>
         requires rows { 0 < rows }
         ensures suits { IfOk result (λ c. (l : Lists) → Suits self.now.counts self.now.failed self.now.shown l → self.now.failed ≡ false →
@@ -652,30 +685,50 @@ impl<T: Resize + Drop> Engine<T> {
         ensures memory { IfErr result (λ e. (e ≡ Refusal.Memory) × (0 < self.now.counts.kept + self.now.counts.live)) }
     {
         let standing = self.counts.kept + self.counts.live;
-        if standing == 0 {
-            return Ok(CutDrawing {
-                counts: self.counts.recut_none(self.alloc),
-                shown: Remembered::nothing(self.alloc),
-            });
-        }
         let widths = Widths {
             from: self.term.width() as usize,
             to: cols as usize,
         };
-        let cut = self.shown.cut(self.alloc, widths)?;
+        let cut = self.cut_lines(widths)?;
         if cut.heights.len() < standing {
             return Err(Refusal::Memory);
         }
         let above = cut.heights.len() - standing;
-        let counts = self
-            .counts
-            .recut(self.alloc, &cut.heights[above..], rows as usize)?;
-        let live = counts.live;
+        let counts = self.counts.recut(&cut.heights[above..], rows as usize)?;
         Ok(CutDrawing {
             counts,
-            shown: Remembered::of(widths.to, StandingLines::of(cut.lines), live),
+            shown: Remembered::of(widths.to, cut.lines, counts.live),
         })
     }
+
+    /// Its lines, cut anew; none where no kept and no live row stands. Refused: `Memory`, only where one does.
+    fn cut_lines(&self, widths: Widths) -> Result<CutLines, Refusal>
+        ensures cut { IfOk result (λ c. IsShownCut widths.from widths.to self.now.shown c) }
+        ensures memory { IfErr result (λ e. (e ≡ Refusal.Memory) × (0 < self.now.counts.kept + self.now.counts.live)) }
+    {
+        if self.counts.kept + self.counts.live == 0 {
+            return Ok(CutLines::none(self.alloc));
+        }
+        self.shown.cut(self.alloc, widths)
+    }
+}
+
+/// What becomes of a bar of which the first of these lines isn't: whether one is.
+fn behind_or_absent(lines: &[StandingLine], bar: u64) -> Keep
+    ensures { result ≡ (if list_any (λ l. l.bar == bar) lines.now then Keep.Behind else Keep.Absent) }
+{
+    if has_line(lines, bar) {
+        Keep::Behind
+    } else {
+        Keep::Absent
+    }
+}
+
+/// Whether some of these lines are of this bar.
+fn has_line(lines: &[StandingLine], bar: u64) -> bool
+    ensures { result ≡ list_any (λ l. l.bar == bar) lines.now }
+{
+    lines.iter().any(|line| line.bar == bar)
 }
 
 /// The counts and the lines of what stands there, cut anew.

@@ -1,9 +1,16 @@
 //! Where bars are drawn, how often, and where they stand if a draw has fewer rows than the last one.
 //!
-//! The engine and its lines have their public names here, too.
+//! `Facts`, `ProgressDrawTarget`, `Setup` and `MultiProgressAlignment` are here, and the public names of the engine and its lines.
 //!
-//! - `term_like`: what a terminal has to offer, and what changes its size; `move_bytes`: its moves as bytes. `limiter`: how often bars are drawn.
-//! - Terminals: `term` behind any writer; `own_rows` and `own_row`, which cut rows themselves where nobody knows the columns, by `ended_rows`.
+//! - `limiter`: `RateLimiter`, how often a target may draw.
+//! - `term_like`: `TermLike`, what a terminal has to offer: its size, its faults, and its calls, each with its bytes: moves, texts, lines,
+//!   a cleared line, a flush. `Resize`, what changes its size.
+//! - `move_bytes`: `MoveBytes`, the escape sequence of a move of the cursor.
+//! - `term`: `Term`, a terminal behind any writer. `write_whole` writes all of some bytes.
+//! - `own_rows`: `OwnRows`, a terminal whose rows are ended by the program if nobody knows the columns, or by the terminal.
+//! - `own_row`: `OwnRow`, the number of one row of several, where other programs draw on those above and below.
+//! - `ended_rows`: `EndedRows`, the terminal in an `OwnRows` that ends rows: how a draw begins and ends, where the cursor goes, rests and
+//!   waits (`Phase`), how a text is put piece by piece where its row has room, and how a row is left.
 ghost use Rattle.std.specs.Prelude.{◌≡◌, ◌↔◌, Option, option_map, string_bytes, IsTrue, Some, None, Err, IfOk, IfErr, if◌then◌else◌};
 ghost use Rattle.indicatif_term.specs.Limiters.{default_rate, draw_limiter};
 ghost use Rattle.indicatif_term.specs.DrawTargets.{term_of, is_dumb, hides, term_behind};
@@ -126,7 +133,7 @@ impl<T: Drop> ProgressDrawTarget<T> {
         Ok(target)
     }
 
-    /// Draws nowhere.
+    /// A target that draws nowhere.
     pub fn hidden() -> Self
         ensures { result ≡ None }
     {
@@ -184,7 +191,7 @@ impl<W: Write + Drop> ProgressDrawTarget<Term<W>> {
         ProgressDrawTarget::behind(w, facts, now)
     }
 
-    /// As `stdout`, `hz` times a second.
+    /// Draws as `stdout`, `hz` times a second.
     ///
     /// Refused: `ZeroRate`, exactly if `hz` is 0, even if the target would be hidden; the writer is dropped.
     pub fn stdout_with_hz(w: W, facts: Facts, hz: u8, now: Moment) -> Result<Self, Refusal>
@@ -196,7 +203,7 @@ impl<W: Write + Drop> ProgressDrawTarget<Term<W>> {
         ProgressDrawTarget::term(term, facts, hz, now)
     }
 
-    /// As `stderr`, `hz` times a second.
+    /// Draws as `stderr`, `hz` times a second.
     ///
     /// Refused: `ZeroRate`, exactly if `hz` is 0, even if the target would be hidden; the writer is dropped.
     pub fn stderr_with_hz(w: W, facts: Facts, hz: u8, now: Moment) -> Result<Self, Refusal>
@@ -262,7 +269,7 @@ pub enum MultiProgressAlignment {
 impl MultiProgressAlignment {
     ghost use Rattle.indicatif_term.specs.DrawTargets.{is_bottom};
 
-    /// Whether they stand below blank rows.
+    /// Whether the bars stand below blank rows.
     pub(crate) fn is_bottom(self) -> bool
         ensures { result ≡ is_bottom self }
     {

@@ -52,7 +52,7 @@ pub record Pieces (w : ℕ) (piece : List Glyph) (cs : List ℕ) : Type 0 where
 pub pieces : (w : ℕ) (piece : List Glyph) (cs : List ℕ) → Pieces w piece cs
 pieces w piece [] = record { count = refl; last = refl }
 pieces w piece (c ∷ cs) =
-    let g : Glyph = record { base = c; marks = take_while (λ d. width_of d == 0) cs } in
+    let g : Glyph = record { base = c; joiners = take_while (λ d. width_of d == 0) cs } in
     elim (cases_Bool (eqb (width_of c) 0)) [
       | inl none ↦ let rest = pieces w piece cs in record { count = rw none rest.count; last = rw none rest.last }
       | inr some ↦ elim (cases_Bool (nat_le (columns_in piece + width_of c) w)) [

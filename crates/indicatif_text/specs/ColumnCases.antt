@@ -20,9 +20,9 @@ WideOneGoesDown = (length (rows_of 10 digits_and_a_wide_one) ≡ 3) × (last_col
 abbrev pub EmptyIsOneRow : Type 0
 EmptyIsOneRow = (length (rows_of 4 []) ≡ 1) × (last_columns 4 [] ≡ 0)
 
--- the first cell of a character without marks
+-- the first cell of a character without joiners
 abbrev pub cell : ℕ → Cell
-cell c = Written (record { base = c; marks = [] })
+cell c = Written (record { base = c; joiners = [] })
 
 -- rows are filled with blanks; a line that fills its row needs none; an empty line is a row of blanks; a written space is no blank cell
 abbrev pub WholeRows : Type 0
@@ -36,9 +36,9 @@ WideRows = (rows_of 3 (codes "ab" ++ 0x56FD ∷ codes "c") ≡ (cell 0x61 ∷ ce
     × (rows_of 2 (0x56FD ∷ []) ≡ (cell 0x56FD ∷ Continued ∷ []) ∷ [])
 
 -- a zero-width character joins the one before it, also after a colour and at a row's end; one before any character is left out
-abbrev pub MarkedRows : Type 0
-MarkedRows = (rows_of 3 (0x308 ∷ codes "a" ++ 0x308 ∷ 0x301 ∷ codes "b") ≡ (Written (record { base = 0x61; marks = 0x308 ∷ 0x301 ∷ [] }) ∷ cell 0x62 ∷ Blank ∷ []) ∷ [])
-    × (rows_of 1 (codes "a" ++ escape ++ codes "[1m" ++ 0x308 ∷ codes "b") ≡ (Written (record { base = 0x61; marks = 0x308 ∷ [] }) ∷ []) ∷ (cell 0x62 ∷ []) ∷ [])
+abbrev pub JoinedRows : Type 0
+JoinedRows = (rows_of 3 (0x308 ∷ codes "a" ++ 0x308 ∷ 0x301 ∷ codes "b") ≡ (Written (record { base = 0x61; joiners = 0x308 ∷ 0x301 ∷ [] }) ∷ cell 0x62 ∷ Blank ∷ []) ∷ [])
+    × (rows_of 1 (codes "a" ++ escape ++ codes "[1m" ++ 0x308 ∷ codes "b") ≡ (Written (record { base = 0x61; joiners = 0x308 ∷ [] }) ∷ []) ∷ (cell 0x62 ∷ []) ∷ [])
     × (rows_of 2 (0x308 ∷ []) ≡ (Blank ∷ Blank ∷ []) ∷ [])
 
 -- a colour takes no columns; other sequences and incomplete ones do

@@ -45,10 +45,10 @@ columns_of text = sum_by width_of (visible text)
 
 -- ---- rows
 
--- a character with columns, and the zero-width characters that follow it, such as combining marks and joiners
+-- a character with columns, and its joiners: the zero-width characters that follow it, such as combining marks
 pub record Glyph : Type 0 where
   pub base : ℕ
-  pub marks : List ℕ
+  pub joiners : List ℕ
 
 -- the columns of a glyph: those of its first character
 abbrev pub glyph_width : Glyph → ℕ
@@ -59,7 +59,7 @@ abbrev pub glyphs_of : List ℕ → List Glyph
 glyphs_of [] = []
 glyphs_of (c ∷ cs) =
     if width_of c == 0 then glyphs_of cs
-    else record { base = c; marks = take_while (λ d. width_of d == 0) cs } ∷ glyphs_of cs
+    else record { base = c; joiners = take_while (λ d. width_of d == 0) cs } ∷ glyphs_of cs
 
 -- a cell of a row
 pub data Cell : Type 0 where

@@ -1,5 +1,5 @@
 //! The worked cases of the definitions, which the check of this crate computes.
-ghost use Rattle.indicatif_text.specs.ColumnCases.{WideOneGoesDown, EmptyIsOneRow, WholeRows, WideRows, MarkedRows, ColoursTakeNone, RunsAndColours};
+ghost use Rattle.indicatif_text.specs.ColumnCases.{WideOneGoesDown, EmptyIsOneRow, WholeRows, WideRows, JoinedRows, ColoursTakeNone, RunsAndColours};
 ghost use Rattle.indicatif_text.specs.FormatCases.{DurationCases, ShortDurationCases, FormattedDurationCases, BinaryBytesCases, DecimalBytesCases, CountCases, FloatCountCases};
 ghost use Rattle.indicatif_text.specs.StyleCases.{StyleNumbers, StyledText};
 ghost use Rattle.indicatif_text.specs.TemplateCases.{Templates};
@@ -10,7 +10,7 @@ pub fn lines()
     ensures empty { EmptyIsOneRow }
     ensures whole_rows { WholeRows }
     ensures wide_rows { WideRows }
-    ensures marked_rows { MarkedRows }
+    ensures joined_rows { JoinedRows }
     ensures colours { ColoursTakeNone }
     ensures pieces { RunsAndColours }
 {}

@@ -152,7 +152,7 @@ struct RowSoFar {
 }
 
 impl RowSoFar {
-    /// How many rows further, and at which column, a run ends.
+    /// How many rows further on a terminal, and at which column, a run ends.
     #[inline(always)]
     fn after(self, run: Run) -> (usize, usize)
         requires fits { run.columns ≤ self.width }

@@ -2,6 +2,14 @@
 //!
 //! Each value is exact: quotients are of whole numbers and rounded once, to nearest. Printing one takes no memory, and is one write; format
 //! options, such as a width, are ignored.
+//!
+//! The types that are printed are here. The modules below are private:
+//!
+//! - `durations`: durations as texts: in which unit is one shown (`TimeUnit`), and how many of it are there?
+//! - `bytes`: numbers of bytes as texts, with the prefix of the greatest power of 1024 or 1000.
+//! - `quotients`: a quotient with decimals by long division: its digits (`Quotient`, `Rounded`), and its text, made or appended.
+//! - `rounding`: the whole number nearest to a quotient: is it rounded up?
+//! - `short_text`: `ShortText`, a text of ASCII on the stack: bytes, digits, numbers and counts with commas are put in front.
 ghost use Rattle.std.specs.Prelude.{◌≡◌, ◌<◌, ◌+◌, ◌++◌, ◌↔◌, Some, IfSome, OnOk, OnErr, IfErr, length, string_len, string_capacity};
 ghost use Rattle.std.specs.String.{string_bytes};
 ghost use Rattle.indicatif_text.specs.Format.{formatted_duration, human_duration, short_duration, binary_bytes, decimal_bytes, human_count, Quotient, human_float_count};

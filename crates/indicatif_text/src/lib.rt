@@ -1,15 +1,25 @@
 //! Texts measured in the columns of a terminal, and numbers as people read them. The crate draws nothing and uses nothing of the machine,
 //! so any program can use it.
 //!
-//! - How wide is a text? `columns::columns` and `columns::width` count columns by Unicode's East Asian Width. `columns::wrapped` says how
-//!   many rows a line takes. `columns::pieces` splits a text at its colour sequences, and `columns::write_ansi_range` cuts it by columns.
-//! - Numbers: `format::HumanBytes`, `DecimalBytes`, `BinaryBytes`, `HumanDuration`, `FormattedDuration`, `HumanCount` and
-//!   `HumanFloatCount` are printed by `{}`.
-//! - Colours: `columns::Style` reads `red.on_blue.bold` and writes the sequences.
-//! - Templates: `template::Template::parse` reads `{bar:20.green} {msg}` into its parts.
-//! - What the crates above share: `columns::Refusal` says why a call was refused, and `columns::Drawn` whether it drew. The caller gives
-//!   the time, by `columns::Moment`, `columns::Clock` and `columns::StepClock`.
+//! - `columns`: how wide is a text? `columns` and `width` count columns by Unicode's East Asian Width, `wrapped` the rows that a line
+//!   takes. The public names of the next five modules stand there, too.
+//! - `pieces`: a text split at its colour sequences: `Pieces`, `colour_len`, and which characters are parameters of a sequence.
+//! - `range`: a text cut by columns, `write_ansi_range`: its pieces and parts of runs are appended.
+//! - `style_words`: `Style`, read from `red.on_blue.bold`, and the colour sequences that it writes.
+//! - `refusal`: `Refusal` says why a call was refused, `TemplateState` where in a template, and `Drawn` whether a call drew.
+//! - `moment`: the caller gives the time, by `Moment`, `Clock` and `StepClock`.
+//! - `format`: numbers that `{}` prints: `HumanBytes`, `DecimalBytes`, `BinaryBytes`, `HumanDuration`, `FormattedDuration`, `HumanCount`
+//!   and `HumanFloatCount`.
+//! - `template`: `Template::parse` reads `{bar:20.green} {msg}` into its parts.
 //! - `laws`: what follows from the definitions, each as a function whose contract is the law. `cases`: worked cases.
+//!
+//! Private, for those above:
+//!
+//! - `runs`: visible characters of the same width, taken off the front of a text (`Runs`): how many bytes of printable ASCII stand there,
+//!   and how often are three bytes repeated?
+//! - `spans`: the longest front of a text that belongs to a literal text, a key or a style's word (`Span`, `split_span`), by a table of the
+//!   bytes that end it; or its first character.
+//! - `appending`: `append`, a text behind another, in memory that was taken before.
 #![tactic(auto)]
 
 mod appending;

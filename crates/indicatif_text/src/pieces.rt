@@ -148,7 +148,7 @@ pub fn colour_len(text: &str) -> usize
     count + 1
 }
 
-/// As `is_parameter`, for an ASCII byte; false for any other byte.
+/// Whether an ASCII byte belongs to the parameters, as `is_parameter`; false for any other byte.
 ///
 /// ```
 /// assert!(is_parameter_byte(b'7') && !is_parameter_byte(b'm'));

@@ -40,7 +40,7 @@ pub fn write_ansi_range(
     Ok(())
 }
 
-/// As `write_ansi_range`; if memory is refused, `out` may have grown.
+/// Appends a range of columns as `write_ansi_range`; if memory is refused, `out` may have grown.
 fn push_range(text: &str, start: usize, end: usize, out: &mut String) -> Result<(), AllocError>
     ensures range { OnOk result (Appends (string_bytes out.old) (string_bytes out.new)
         (ansi_range (chars text.now) start end)) }
@@ -91,7 +91,7 @@ fn push_run(
     Ok(column)
 }
 
-/// Appends a text.
+/// Appends a piece of the text, whole.
 #[inline(always)]
 fn push_piece(text: &str, out: &mut String) -> Result<(), AllocError>
     ensures text { OnOk result (Appends (string_bytes out.old) (string_bytes out.new) (chars text.now)) }

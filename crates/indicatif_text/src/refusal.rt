@@ -28,7 +28,7 @@ pub enum TemplateState {
 }
 
 impl TemplateState {
-    /// The state's name.
+    /// The name of the template's state.
     pub(crate) fn name(self) -> &'static str
         ensures { result.now ≡ state_name self }
     {

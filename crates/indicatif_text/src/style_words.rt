@@ -75,7 +75,7 @@ impl Style {
         hidden: false,
     };
 
-    /// No colours and no attributes.
+    /// A style without colours and attributes.
     ///
     /// ```
     /// assert_eq!(Style::new(), Style::from_dotted_str(""));
@@ -202,7 +202,7 @@ impl Style {
         text
     }
 
-    /// Adds a further word, if it is one.
+    /// Adds a further word to the style, if it is one.
     #[inline(always)]
     fn add_word(&mut self, word: &str)
         ensures { Adds self.old (chars word.now) self.new }
@@ -276,7 +276,7 @@ fn is_word(word: &str, name: &str) -> bool
     word == name
 }
 
-/// What follows a text after these sequences.
+/// What follows a text after these colour sequences.
 fn closing(opening: &str) -> &'static str
     ensures { result.now ≡ closing_of opening.now }
 {
@@ -307,7 +307,7 @@ fn prepend_attribute(text: &mut ShortText, set: bool, number: u64)
     }
 }
 
-/// Puts the sequence of a number in front.
+/// Puts the colour sequence of a number in front.
 fn prepend_sequence(text: &mut ShortText, number: u64)
     requires room { length text.old ≤ 35 }
     requires small { number < 100 }

@@ -1,4 +1,11 @@
 //! Templates: a text with placeholders, read into its parts.
+//!
+//! `Template`, `Part`, `Parts`, `Alignment` and `TemplateError` are here. The modules below are private:
+//!
+//! - `draft`: `Draft`, the parts that were read so far, and the literal text that comes next: literals, new lines, keys and placeholders
+//!   are added. What does an opening or a closing brace begin?
+//! - `reading`: `Options`, what stands behind a key's colon: alignment, width, style and alternative style are read at the front of a text.
+//! - `stored_parts`: `StoredPart`, a part's kind, and the place where its text begins.
 ghost use Rattle.std.specs.Prelude.{◌≡◌, ◌≢◌, ◌↔◌, ◌<◌, List, [], length, chars, codes, option_map, IfOk};
 ghost use Rattle.std.specs.List.{slice_get};
 ghost use Rattle.std.specs.Iterator.{YieldsFirstBy, item_count};
@@ -137,7 +144,7 @@ impl Template {
         Ok(template)
     }
 
-    /// No parts. Takes no memory.
+    /// A template without parts. Takes no memory.
     fn empty(alloc: Global) -> Template
         ensures { result ≡ [] }
     {
@@ -183,7 +190,7 @@ impl Template {
         draft.finish()
     }
 
-    /// How many parts there are.
+    /// How many parts the template has.
     ///
     /// ```
     /// let lines = Template::parse(alloc, "a\nb")?;
@@ -195,7 +202,7 @@ impl Template {
         self.parts.len()
     }
 
-    /// The part at a place, counted from 0.
+    /// The part of the template at a place, counted from 0.
     ///
     /// ```
     /// let lines = Template::parse(alloc, "a\nb")?;
@@ -211,7 +218,7 @@ impl Template {
         }
     }
 
-    /// The parts, in order.
+    /// The parts of the template, in order.
     ///
     /// ```
     /// let lines = Template::parse(alloc, "a\nb")?;

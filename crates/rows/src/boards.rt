@@ -13,13 +13,12 @@ use scripts::spelling::{flag, unescaped};
 use std::io;
 use std::rc::Rc;
 
-/// The board.
-pub type Shown = Board<NoTracker, Behind>;
+type OnTerm = Board<NoTracker, Behind>;
 
 /// A board on a screen.
 #[derive(Drop)]
 pub struct OnScreen {
-    board: Shown,
+    board: OnTerm,
     screen: Rc<Screen>,
 }
 
@@ -39,22 +38,18 @@ pub fn begin(rest: &str, at: At) -> Result<Box<OnScreen>, Bad> {
 
 impl OnScreen {
     /// Makes a step, or reads the screen, the board or a bar.
-    pub fn step(&mut self, step: &str, at: At, got: &mut Got) {
-        if screen::look_at(&self.screen, step, at, got) || look(&self.board, step, got) {
-            return;
+    pub fn step(&mut self, step: &str, at: At, got: &mut Got) -> Result<(), Bad> {
+        if screen::look_at(&self.screen, step, at, got)? || look(&self.board, step, got)? {
+            return Ok(());
         }
         match headed(step) {
             ("target", rest) => self.go_on(rest, at, got),
-            ("move", word) => match flag(word) {
-                Ok(on) => self.board.set_move_cursor(on),
-                Err(bad) => got.bad(bad),
-            },
-            ("size", words) => self.resize(words, got),
+            ("size", words) => self.resize(words),
             ("suspend", text) => self.suspend(text, at, got),
-            ("call", text) => match board_call(at, text) {
-                Ok(call) => push_answer(self.board.call(call, at.now), got),
-                Err(bad) => got.bad(bad),
-            },
+            ("call", text) => {
+                push_answer(self.board.call(board_call(at, text)?, at.now), got);
+                Ok(())
+            }
             _ => match of_bar(step) {
                 Some((id, text)) => of_one(&mut self.board, id, (text, at), got),
                 None => of_all(&mut self.board, step, at, got),
@@ -63,38 +58,31 @@ impl OnScreen {
     }
 
     /// `target ROWS COLS RATE`: sets a target on a new screen, and gives the rows on the old one.
-    fn go_on(&mut self, rest: &str, at: At, got: &mut Got) {
-        match screen::begin(&mut Words::of(rest), at) {
-            Ok((screen, target)) => {
-                drop(self.board.set_draw_target(target.0));
-                got.text_of(self.screen.contents());
-                self.screen = screen;
-            }
-            Err(bad) => got.bad(bad),
-        }
+    fn go_on(&mut self, rest: &str, at: At, got: &mut Got) -> Result<(), Bad> {
+        let (screen, target) = screen::begin(&mut Words::of(rest), at)?;
+        drop(self.board.set_draw_target(target.0));
+        got.text(self.screen.contents()?.as_str());
+        self.screen = screen;
+        Ok(())
     }
 
     /// `size ROWS COLS`: the board's terminal gets another size, and the screen with it; on a hidden target nothing happens.
-    fn resize(&mut self, words: &str, got: &mut Got) {
-        match screen::size(words) {
-            Ok((rows, cols)) => got.done(match self.board.resize(rows, cols) {
-                Ok(()) if !self.board.is_hidden() => self.screen.resize(rows, cols),
-                resized => resized,
-            }),
-            Err(bad) => got.bad(bad),
+    fn resize(&mut self, words: &str) -> Result<(), Bad> {
+        let (rows, cols) = screen::size(words)?;
+        self.board.resize(rows, cols)?;
+        if !self.board.is_hidden() {
+            self.screen.resize(rows, cols)?;
         }
+        Ok(())
     }
 
     /// `suspend TEXT`: the answer of a suspend, and the rows on the screen while the closure runs, which then puts this text there.
-    fn suspend(&mut self, text: &str, at: At, got: &mut Got) {
-        match suspended(&mut self.board, &self.screen, (text, at)) {
-            Ok(((look, fed), answer)) => {
-                look.push(answer, got);
-                if fed.is_err() {
-                    got.bad(Bad::Step);
-                }
-            }
-            Err(bad) => got.bad(bad),
+    fn suspend(&mut self, text: &str, at: At, got: &mut Got) -> Result<(), Bad> {
+        let ((look, fed), answer) = suspended(&mut self.board, &self.screen, (text, at))?;
+        look.push(answer, got)?;
+        match fed {
+            Ok(()) => Ok(()),
+            Err(_) => Err(Bad::Step),
         }
     }
 }
@@ -103,7 +91,7 @@ impl OnScreen {
 type Suspended = ((Look, io::Result<()>), Result<Drawn, Refusal>);
 
 fn suspended(
-    board: &mut Shown,
+    board: &mut OnTerm,
     screen: &Rc<Screen>,
     (text, at): (&str, At),
 ) -> Result<Suspended, Bad> {
@@ -115,17 +103,14 @@ fn suspended(
 }
 
 /// Reads the board; whether the step is a reading.
-fn look(board: &Shown, step: &str, got: &mut Got) -> bool {
+fn look(board: &OnTerm, step: &str, got: &mut Got) -> Result<bool, Bad> {
     match headed(step) {
         ("order", "") => got.numbers(board.order()),
         ("hidden", "") => got.flag(board.is_hidden()),
-        ("slot", bar) => match bar_id(bar) {
-            Ok(id) => push_slot(board.slot(id), got),
-            Err(bad) => got.bad(bad),
-        },
-        _ => return false,
+        ("slot", bar) => push_slot(board.slot(bar_id(bar)?), got),
+        _ => return Ok(false),
     }
-    true
+    Ok(true)
 }
 
 /// Appends a slot, or `-`.
@@ -137,10 +122,10 @@ pub fn push_slot(slot: Option<usize>, got: &mut Got) {
 }
 
 /// Makes a call of a bar by its name, or reads something of the bar.
-fn of_one(board: &mut Shown, id: BarId, (text, at): (&str, At), got: &mut Got) {
+fn of_one(board: &mut OnTerm, id: BarId, (text, at): (&str, At), got: &mut Got) -> Result<(), Bad> {
     if let Ok(bar) = board.bar(id) {
-        if read_bar(bar, text, at.now, got) {
-            return;
+        if read_bar(bar, text, at.now, got)? {
+            return Ok(());
         }
     }
     match headed(text) {
@@ -149,41 +134,38 @@ fn of_one(board: &mut Shown, id: BarId, (text, at): (&str, At), got: &mut Got) {
             Err(refusal) => got.refusal(refusal),
         },
         ("drop", "") => got.answer(board.drop_bar(id, at.now)),
-        ("log", text) => match unescaped(at.alloc, text) {
-            Ok(text) => got.answer(board.bar_println(id, text.as_str(), at.now)),
-            Err(bad) => got.bad(bad),
-        },
-        _ => match command(at.alloc, text) {
-            Ok(command) => got.answer(board.command(id, command, at.now)),
-            Err(bad) => got.bad(bad),
-        },
+        ("log", text) => {
+            let text = unescaped(at.alloc, text)?;
+            got.answer(board.bar_println(id, text.as_str(), at.now));
+        }
+        _ => got.answer(board.command(id, command(at.alloc, text)?, at.now)),
     }
+    Ok(())
 }
 
 /// Makes a call of the board by its name.
-fn of_all(board: &mut Shown, step: &str, at: At, got: &mut Got) {
+fn of_all(board: &mut OnTerm, step: &str, at: At, got: &mut Got) -> Result<(), Bad> {
     match headed(step) {
         ("clear", "") => got.answer(board.clear(at.now)),
         ("redraw", "") => got.answer(board.redraw(at.now)),
         ("bottom", "") => board.set_alignment(MultiProgressAlignment::Bottom),
-        ("log", text) => match unescaped(at.alloc, text) {
-            Ok(text) => got.answer(board.println(text.as_str(), at.now)),
-            Err(bad) => got.bad(bad),
-        },
-        (name, rest) => match placed(name, rest) {
-            Ok((place, bar)) => match candidate(at, bar) {
-                Ok(candidate) => take_in(board, place, candidate, got),
-                Err(bad) => got.bad(bad),
-            },
-            Err(bad) => got.bad(bad),
-        },
+        ("move", word) => board.set_move_cursor(flag(word)?),
+        ("log", text) => {
+            let text = unescaped(at.alloc, text)?;
+            got.answer(board.println(text.as_str(), at.now));
+        }
+        (name, rest) => {
+            let (place, bar) = placed(name, rest)?;
+            take_in(board, place, candidate(at, bar)?, got);
+        }
     }
+    Ok(())
 }
 
 /// Inserts a bar, and appends its number; or why it wasn't inserted, and what came back: a new bar by its message, after `'`, or the number
 /// of one that may be there, after `=`, with `x` before it for a bar of another board.
 fn take_in(
-    board: &mut Shown,
+    board: &mut OnTerm,
     place: InsertLocation,
     candidate: Candidate<NoTracker>,
     got: &mut Got,

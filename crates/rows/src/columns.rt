@@ -15,28 +15,41 @@ use scripts::spelling::unescaped;
 /// - `pieces TEXT`: colours in brackets, the runs between them in braces; `plain TEXT`: the runs.
 /// - `cut COLUMNS TEXT`: its prefix, as `meter` cuts a name; `made_plain TEXT`: without control characters, as `meter` makes it.
 /// - `clock NEXT STEP COUNT`: the given number of readings.
-pub fn measured(name: &str, rest: &str, at: At, got: &mut Got) {
+pub fn measured(name: &str, rest: &str, at: At, got: &mut Got) -> Result<(), Bad> {
+    let mut words = Words::of(rest);
     match name {
-        "wrapped" => push_wrapped(rest, at, got),
-        "range" => push_range(rest, at, got),
-        "clock" => push_clock(rest, got),
-        "cut" => push_cut(rest, at, got),
-        "made_plain" => push_plain(rest, at, got),
-        _ => match unescaped(at.alloc, rest) {
-            Ok(text) => of_text(name, text.as_str(), got),
-            Err(bad) => got.bad(bad),
-        },
+        "wrapped" => {
+            let width = words.number()?;
+            let rows = wrapped(words.text(at.alloc)?.as_str(), width)?;
+            got.number(format_args!("{} {}", rows.height, rows.last_line_width));
+        }
+        "range" => {
+            let (start, end) = (words.number()?, words.number()?);
+            write_ansi_range(words.text(at.alloc)?.as_str(), start, end, got.room())?;
+        }
+        "clock" => {
+            let (next, step) = (words.number()?, words.number()?);
+            push_clock(StepClock { next, step }, words.number()?, got);
+        }
+        "cut" => {
+            let room = words.number()?;
+            got.text(cut(at.alloc, words.text(at.alloc)?.as_str(), room)?.as_str());
+        }
+        _ => of_text(name, unescaped(at.alloc, rest)?.as_str(), at, got)?,
     }
+    Ok(())
 }
 
-fn of_text(name: &str, text: &str, got: &mut Got) {
+fn of_text(name: &str, text: &str, at: At, got: &mut Got) -> Result<(), Bad> {
     match (name, text.chars().next()) {
         ("columns", _) => got.number(columns(text)),
         ("pieces" | "plain", _) => push_pieces(text, name == "plain", got),
+        ("made_plain", _) => got.text(plain_text(at.alloc, text)?.as_str()),
         ("width", Some(c)) => got.number(width(c)),
         ("parameter", Some(c)) => got.flag(is_parameter(c)),
-        _ => got.bad(Bad::Step),
+        _ => return Err(Bad::Step),
     }
+    Ok(())
 }
 
 /// Appends the pieces of a text between their marks, or plainly, without the colours.
@@ -54,75 +67,12 @@ fn push_pieces(text: &str, is_plain: bool, got: &mut Got) {
     }
 }
 
-/// Appends how many rows a text takes, and the columns of the last one.
-fn push_wrapped(rest: &str, at: At, got: &mut Got) {
-    let mut words = Words::of(rest);
-    let width: usize = words.number();
-    match words.text(at.alloc) {
-        Ok(text) => match wrapped(text.as_str(), width) {
-            Ok(rows) => {
-                got.number(rows.height);
-                got.text(" ");
-                got.number(rows.last_line_width);
-            }
-            Err(refusal) => got.bad(Bad::Refused(refusal)),
-        },
-        Err(bad) => got.bad(bad),
-    }
-}
-
-fn push_range(rest: &str, at: At, got: &mut Got) {
-    let mut words = Words::of(rest);
-    let (start, end): (usize, usize) = (words.number(), words.number());
-    match words.text(at.alloc) {
-        Ok(text) => {
-            let done = write_ansi_range(text.as_str(), start, end, got.room());
-            got.done(done);
-        }
-        Err(bad) => got.bad(bad),
-    }
-}
-
-/// Appends the prefix of a text that takes at most the given number of columns.
-fn push_cut(rest: &str, at: At, got: &mut Got) {
-    let mut words = Words::of(rest);
-    let room: usize = words.number();
-    match words.text(at.alloc) {
-        Ok(text) => match cut(at.alloc, text.as_str(), room) {
-            Ok(front) => got.text(front.as_str()),
-            Err(error) => got.bad(error.into()),
-        },
-        Err(bad) => got.bad(bad),
-    }
-}
-
-/// Appends a text without control characters.
-fn push_plain(rest: &str, at: At, got: &mut Got) {
-    match unescaped(at.alloc, rest) {
-        Ok(text) => match plain_text(at.alloc, text.as_str()) {
-            Ok(made) => got.text(made.as_str()),
-            Err(error) => got.bad(error.into()),
-        },
-        Err(bad) => got.bad(bad),
-    }
-}
-
-fn push_clock(rest: &str, got: &mut Got) {
-    let mut words = Words::of(rest);
-    let clock = StepClock {
-        next: words.number(),
-        step: words.number(),
-    };
-    let count: u8 = words.number();
-    match words.done(clock) {
-        Ok(mut clock) => {
-            let mut parting = "";
-            for _ in 0..count {
-                got.text(parting);
-                got.number(clock.now());
-                parting = " ";
-            }
-        }
-        Err(bad) => got.bad(bad),
+/// Appends the given number of readings of a clock.
+fn push_clock(mut clock: StepClock, count: u8, got: &mut Got) {
+    let mut parting = "";
+    for _ in 0..count {
+        got.text(parting);
+        got.number(clock.now());
+        parting = " ";
     }
 }

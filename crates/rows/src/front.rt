@@ -1,6 +1,6 @@
 //! Rows over the crate `indicatif`.
 //!
-//! - `playing`: files, played line by line. `stage`: the world that steps are played on, and the module of a step.
+//! - `world`: what is played on, and which module plays a step.
 //! - `bars`: shared bars and boards, and how they are made. `tell`: a bar's calls. `readings`: a bar's readings.
 //! - `clock`: the moments of clocks.
 //! - `fronts`: bars that stand alone or on boards. `entries`: calls of a board in rows. `history`: the history of a board.
@@ -26,9 +26,8 @@ mod on_panes;
 mod pane;
 mod places;
 mod plain;
-pub mod playing;
 mod polls;
 mod readings;
 mod scripted;
-mod stage;
 mod tell;
+pub mod world;

@@ -1,5 +1,5 @@
 //! The lines of bars, one bar a row.
-use crate::styles::{Look, in_style, with_colours, with_text};
+use crate::styles::{in_style, with_colours, with_text};
 use indicatif_text::columns::Moment;
 use scripts::got::{Bad, Got};
 use scripts::lone::{Bar, push_lines, style_of};
@@ -30,25 +30,31 @@ struct Layout<'a> {
 /// - `coloured`, before one of these: with colours.
 /// - `laid COLS  TEMPLATE  CHARS  COLOURS  TAB  POS  LEN  MESSAGE  PREFIX  NOW  FINISHED`: it ticks at the moment `NOW`. Flags are 1 for
 ///   yes and 0 for no.
-pub fn shown(name: &str, rest: &str, at: At, got: &mut Got) {
+pub fn shown(name: &str, rest: &str, at: At, got: &mut Got) -> Result<(), Bad> {
     let layout = match name {
-        "coloured" => brief(headed(rest), true),
-        "laid" => whole(rest),
-        _ => brief((name, rest), false),
+        "coloured" => brief(headed(rest), true)?,
+        "laid" => whole(rest)?,
+        _ => brief((name, rest), false)?,
     };
-    match layout {
-        Ok(layout) => push(layout, at, got),
-        Err(bad) => got.bad(bad),
+    let mut bar = bar_of(&layout, At { now: 0, ..at })?;
+    let mut now = 0;
+    if let Some((moment, is_finished)) = layout.last {
+        now = moment;
+        bar.tick(now);
+        if is_finished {
+            bar.finish(now);
+        }
     }
+    push_lines(&bar, layout.columns, now, got)
 }
 
 /// A bar with the most common fields.
 fn brief<'a>((name, rest): (&str, &'a str), colours: bool) -> Result<Layout<'a>, Bad> {
     let (columns, rest) = headed(rest);
-    let mut fields = Words::in_fields(rest);
+    let (template, rest) = rest.split_once('\t').unwrap_or((rest, ""));
     let mut layout = Layout {
-        columns: fields.value(number(columns), 0),
-        template: fields.word(),
+        columns: number(columns)?,
+        template,
         chars: "-",
         colours,
         tab: 8,
@@ -59,86 +65,45 @@ fn brief<'a>((name, rest): (&str, &'a str), colours: bool) -> Result<Layout<'a>,
         last: None,
     };
     match name {
-        "said" => layout.message = fields.rest(),
+        "said" => layout.message = rest,
         "placed" => {
-            layout.chars = fields.word();
-            let (position, len) = headed(fields.rest());
-            layout.position = fields.value(number(position), 0);
-            layout.len = fields.value(optional(len), None);
+            let (chars, rest) = rest.split_once('\t').unwrap_or((rest, ""));
+            let (position, len) = headed(rest);
+            layout.chars = chars;
+            layout.position = number(position)?;
+            layout.len = optional(len)?;
         }
-        _ => fields.spoil(),
+        _ => return Err(Bad::Step),
     }
-    fields.done(layout)
+    Ok(layout)
 }
 
 /// A bar with all fields.
 fn whole(rest: &str) -> Result<Layout<'_>, Bad> {
     let mut fields = Words::in_fields(rest);
-    let layout = Layout {
-        columns: fields.number(),
+    Ok(Layout {
+        columns: fields.number()?,
         template: fields.word(),
         chars: fields.word(),
-        colours: {
-            let colours = fields.word();
-            fields.value(is_set(colours), false)
-        },
-        tab: fields.number(),
-        position: fields.number(),
-        len: fields.optional(),
+        colours: fields.word() == "1",
+        tab: fields.number()?,
+        position: fields.number()?,
+        len: fields.optional()?,
         message: fields.word(),
         prefix: fields.word(),
-        last: Some((fields.number(), fields.value(is_set(fields.rest()), false))),
-    };
-    fields.done(layout)
-}
-
-/// Whether a field is 1.
-fn is_set(flag: &str) -> Result<bool, Bad> {
-    match flag {
-        "0" => Ok(false),
-        "1" => Ok(true),
-        _ => Err(Bad::Step),
-    }
-}
-
-fn push(layout: Layout<'_>, at: At, got: &mut Got) {
-    match bar_of(&layout, At { now: 0, ..at }) {
-        Ok(mut bar) => {
-            let mut now = 0;
-            if let Some((moment, is_finished)) = layout.last {
-                now = moment;
-                bar.tick(now);
-                if is_finished {
-                    bar.finish(now);
-                }
-            }
-            push_lines(&bar, layout.columns, now, got);
-        }
-        Err(bad) => got.bad(bad),
-    }
+        last: Some((fields.number()?, fields.word() == "1")),
+    })
 }
 
 fn bar_of(layout: &Layout<'_>, at: At) -> Result<Box<Bar>, Bad> {
-    let mut bar = in_style(look_of(layout, at)?, layout.len, at)?;
-    match set_up(&mut bar, layout, at) {
-        Ok(()) => Ok(bar),
-        Err(bad) => Err(bad),
+    let mut look = with_colours(style_of(at, layout.template)?, layout.colours, at)?;
+    if layout.chars != "-" {
+        look = with_text(look, ("progress_chars", layout.chars), at)?;
     }
-}
-
-fn look_of(layout: &Layout<'_>, at: At) -> Result<Look, Bad> {
-    let look = style_of(at, layout.template)?;
-    let look = with_colours(look, layout.colours, at)?;
-    match layout.chars {
-        "-" => Ok(look),
-        chars => with_text(look, ("progress_chars", chars), at),
-    }
-}
-
-fn set_up(bar: &mut Bar, layout: &Layout<'_>, at: At) -> Result<(), Bad> {
+    let mut bar = in_style(look, layout.len, at)?;
     bar.with_tab_width(layout.tab, 0)?;
     bar.with_position(layout.position, 0);
     bar.with_message(unescaped(at.alloc, layout.message)?.as_str(), 0)?;
     bar.with_prefix(unescaped(at.alloc, layout.prefix)?.as_str(), 0)?;
-    Ok(())
+    Ok(bar)
 }

@@ -51,62 +51,53 @@ fn on_screen(
 
 impl OnScreen {
     /// Makes a step, or reads the screen or the bar.
-    pub fn step(&mut self, step: &str, at: At, got: &mut Got) {
-        if screen::look_at(&self.screen, step, at, got) || self.look(step, at, got) {
-            return;
+    pub fn step(&mut self, step: &str, at: At, got: &mut Got) -> Result<(), Bad> {
+        if screen::look_at(&self.screen, step, at, got)? || self.look(step, at, got)? {
+            return Ok(());
         }
         match headed(step) {
-            ("suspend" | "suspend_bytes", "") => self.suspend(step, at.now, got),
-            ("move", word) => match flag(word) {
-                Ok(on) => self.bar.set_move_cursor(on),
-                Err(bad) => got.bad(bad),
-            },
-            ("target", rest) => self.go_on(rest, at, got),
-            ("size", words) => self.resize(words, got),
-            ("run", calls) => run(&mut self.bar, calls, at, got),
-            _ => match answer(&mut self.bar, step, at) {
-                Ok(answer) => got.answer(answer),
-                Err(bad) => got.bad(bad),
-            },
+            ("suspend" | "suspend_bytes", "") => self.suspend(step, at.now, got)?,
+            ("move", word) => self.bar.set_move_cursor(flag(word)?),
+            ("target", rest) => self.go_on(rest, at, got)?,
+            ("size", words) => self.resize(words)?,
+            ("run", calls) => push_answers(&self.bar.run(calls_of(calls, at)?)?, got),
+            _ => got.answer(answer(&mut self.bar, step, at)?),
         }
+        Ok(())
     }
 
     /// Reads the bar; whether the step is a reading.
-    fn look(&self, step: &str, at: At, got: &mut Got) -> bool {
+    fn look(&self, step: &str, at: At, got: &mut Got) -> Result<bool, Bad> {
         match (step, self.bar.term()) {
             ("hidden", _) => got.flag(self.bar.is_hidden()),
             ("faults", Some(term)) => got.number(term.faults()),
             ("faults", None) => got.text("-"),
             _ => return read_bar(self.bar.bar(), step, at.now, got),
         }
-        true
+        Ok(true)
     }
 
     /// `target ROWS COLS RATE`: sets a target on a new screen, and gives the rows on the old one.
-    fn go_on(&mut self, rest: &str, at: At, got: &mut Got) {
-        match screen::begin(&mut Words::of(rest), at) {
-            Ok((screen, target)) => {
-                drop(self.bar.set_draw_target(target.0));
-                got.text_of(self.screen.contents());
-                self.screen = screen;
-            }
-            Err(bad) => got.bad(bad),
-        }
+    fn go_on(&mut self, rest: &str, at: At, got: &mut Got) -> Result<(), Bad> {
+        let (screen, target) = screen::begin(&mut Words::of(rest), at)?;
+        drop(self.bar.set_draw_target(target.0));
+        got.text(self.screen.contents()?.as_str());
+        self.screen = screen;
+        Ok(())
     }
 
     /// `size ROWS COLS`: the bar's terminal gets another size, and the screen with it; on a hidden target nothing happens.
-    fn resize(&mut self, words: &str, got: &mut Got) {
-        match screen::size(words) {
-            Ok((rows, cols)) => got.done(match self.bar.resize(rows, cols) {
-                Ok(()) if !self.bar.is_hidden() => self.screen.resize(rows, cols),
-                resized => resized,
-            }),
-            Err(bad) => got.bad(bad),
+    fn resize(&mut self, words: &str) -> Result<(), Bad> {
+        let (rows, cols) = screen::size(words)?;
+        self.bar.resize(rows, cols)?;
+        if !self.bar.is_hidden() {
+            self.screen.resize(rows, cols)?;
         }
+        Ok(())
     }
 
     /// The answer, and the rows on the screen while the closure runs, or for `suspend_bytes` how many bytes were taken by then.
-    fn suspend(&mut self, step: &str, now: Moment, got: &mut Got) {
+    fn suspend(&mut self, step: &str, now: Moment, got: &mut Got) -> Result<(), Bad> {
         let screen = &self.screen;
         let (look, answer) = self.bar.suspend(now, || screen.look());
         if step == "suspend" {
@@ -115,6 +106,7 @@ impl OnScreen {
         got.answer(answer);
         got.text(" ");
         got.number(look.bytes);
+        Ok(())
     }
 
     /// The terminal, once the bar is gone.
@@ -137,17 +129,12 @@ fn answer(bar: &mut Lone, step: &str, at: At) -> Result<Answer, Bad> {
         _ => match lone_call(at.alloc, step)? {
             LoneCall::Log(text) => bar.println(text.as_str(), now),
             LoneCall::Clear => bar.clear(now),
-            LoneCall::Bar(command) => obeyed(bar, command, now),
+            LoneCall::Bar(command) => match by_name(bar, &command, now) {
+                Some(answer) => answer,
+                None => bar.call(LoneCall::Bar(command), now),
+            },
         },
     })
-}
-
-/// The answer of the bar to a command: to the call with its name, or to the command as a value, if such a call takes an argument by value.
-fn obeyed(bar: &mut Lone, command: BarCommand<NoTracker>, now: Moment) -> Answer {
-    match by_name(bar, &command, now) {
-        Some(answer) => answer,
-        None => bar.call(LoneCall::Bar(command), now),
-    }
 }
 
 /// Makes a command by the call with its name; `None` if that takes an argument by value.
@@ -164,29 +151,14 @@ fn by_name(bar: &mut Lone, command: &BarCommand<NoTracker>, now: Moment) -> Opti
     }
 }
 
-/// `run CALL | CALL ..`: calls as one list, each at its moment, and their answers.
-fn run(bar: &mut Lone, calls: &str, at: At, got: &mut Got) {
+/// `CALL | CALL ..`: calls as one list, each at its moment.
+fn calls_of(calls: &str, at: At) -> Result<Vec<(LoneCall<NoTracker>, Moment)>, Bad> {
     let mut timed_calls = Vec::new(at.alloc);
-    match push_calls(&mut timed_calls, calls, at) {
-        Ok(()) => match bar.run(timed_calls) {
-            Ok(answers) => push_answers(&answers, got),
-            Err(refusal) => got.bad(Bad::Refused(refusal)),
-        },
-        Err(bad) => got.bad(bad),
-    }
-}
-
-/// Appends calls, each with its moment.
-fn push_calls(
-    timed_calls: &mut Vec<(LoneCall<NoTracker>, Moment)>,
-    calls: &str,
-    at: At,
-) -> Result<(), Bad> {
     for text in calls.split(" | ") {
         let (text, now) = timed(text);
         timed_calls.push((lone_call(at.alloc, text)?, now.unwrap_or(at.now)))?;
     }
-    Ok(())
+    Ok(timed_calls)
 }
 
 fn push_answers(answers: &[Answer], got: &mut Got) {

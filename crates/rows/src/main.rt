@@ -6,7 +6,7 @@
 //!
 //! The exit status is 1 if a row differed or a file had none, and 2 if a file can't be read or a stream fails.
 //!
-//! - `front`: rows over `indicatif`. All others are played without it.
+//! - `playing`: files, played line by line. `front`: what is played over `indicatif`. All that follows is played without it.
 //! - `world`: the world that steps are played on, and the module of a step.
 //! - `lone`, `boards`: a lone bar and a board on a screen. `records`: a bar's record. `terminals`: a terminal before a screen.
 //! - `recorded`: a board that keeps its history.
@@ -17,16 +17,6 @@
 //! - `cells`: the cell terminal. `memory`: the terminal in memory. `engines`: the engine. `limiters`: limiters.
 //! - `styles`: styles and their builders. `lines`: lines of bars. `runs`: long texts, by their runs.
 #![tactic(auto)]
-
-/// The world from now on, if it could be made: an `On` of the module in which this is used.
-macro_rules! on {
-    ($kind:ident, $made:expr) => {
-        match $made {
-            Ok(world) => Ok(On::$kind(world)),
-            Err(bad) => Err(bad),
-        }
-    };
-}
 
 mod boards;
 mod cells;
@@ -39,6 +29,7 @@ mod lines;
 mod lone;
 mod memory;
 mod noted;
+mod playing;
 mod program;
 mod recorded;
 mod records;
@@ -52,16 +43,13 @@ mod terminals;
 mod world;
 
 use anyhow::{Context, Result};
+use indicatif::machine::Shares;
+use playing::play_file;
 use scripts::play::Tally;
 use std::env::{self, Env};
 use std::fs::Files;
-use std::io::BufReader;
 use std::process::ExitCode;
 use std::random::RandomSource;
-use std::sync::Wait;
-use std::thread::Threads;
-use std::time::Clock;
-use std::{fs, io};
 
 fn main(rt: HostRuntime) -> ExitCode {
     match play_all(rt) {
@@ -75,53 +63,21 @@ fn main(rt: HostRuntime) -> ExitCode {
 }
 
 /// Plays the files of the arguments.
-fn play_all<
-    R: AllocGlobal
-        + Env
-        + Files
-        + Print
-        + Eprint
-        + RandomSource
-        + Wait
-        + Threads
-        + Clock
-        + Copy
-        + Clone
-        + Drop
-        + Send
-        + 'static,
->(rt: R) -> Result<Tally> {
+fn play_all<R: Shares + RandomSource + Env + Files + Print + Eprint>(rt: R) -> Result<Tally> {
     let mut tally = Tally::default();
     for path in env::args(&rt)?.skip(1) {
-        let played = play_file(&rt, path.as_str());
-        tally = tally.and(played.context(format_args!("{path}"))?);
+        let path = path.as_str();
+        tally = tally.and(tell_file(rt, path).context(format_args!("{path}"))?);
     }
     Ok(tally)
 }
 
-/// Plays the rows of a file on a new stage, prints each that differs, and at the end how many agreed. A file without rows has failed.
-fn play_file<
-    R: AllocGlobal
-        + Files
-        + Print
-        + Eprint
-        + RandomSource
-        + Wait
-        + Threads
-        + Clock
-        + Copy
-        + Clone
-        + Drop
-        + Send
-        + 'static,
->(rt: &R, path: &str) -> io::Result<Tally> {
-    let lines = BufReader::new(rt.alloc(), fs::open(rt, path)?)?;
-    let tally = if path.starts_with("front/") || path.contains("/front/") {
-        front::playing::play_on_new_stage(rt, path, lines)?
-    } else {
-        world::play_on_new_stage(rt, path, lines)?
-    };
-    let Tally { passed, failed } = tally;
+/// Plays the rows of a file, and tells how many agreed. A file without rows has failed.
+fn tell_file<R: Shares + RandomSource + Files + Print + Eprint>(
+    rt: R,
+    path: &str,
+) -> Result<Tally> {
+    let Tally { passed, failed } = play_file(rt, path)?;
     eprintln!(rt; "{path}: {passed} passed, {failed} failed")?;
     Ok(Tally {
         passed,

@@ -73,62 +73,50 @@ struct Limits {
 /// A change, each at most once, is `input=KIND`, which fails so after the commands (`BrokenPipe` or `OutOfMemory`); `room=N`, the output
 /// takes N bytes; `flush=no`, the last flush fails; `said=no`, the message can't be written. The word `alone`: no words, not even an empty
 /// one.
-pub fn played(rest: &str, at: At, got: &mut Got) {
+pub fn ran(rest: &str, at: At, got: &mut Got) -> Result<(), Bad> {
     let Some((words, commands)) = rest.split_once(':') else {
-        return got.bad(Bad::Step);
+        return Err(Bad::Step);
     };
     let commands = commands.strip_prefix(' ').unwrap_or(commands);
-    match (limited(words), unescaped_bytes(at.alloc, commands)) {
-        (Ok((limits, words)), Ok(commands)) => {
-            let mut args = Vec::new(at.alloc);
-            match push_words(words, at, &mut args) {
-                Ok(()) => run(&args, &commands, (limits, at), got),
-                Err(bad) => got.bad(bad),
-            }
-        }
-        (Err(bad), _) => got.bad(bad),
-        (_, Err(bad)) => got.bad(bad),
-    }
-}
-
-/// The limits of up to four changes, and the other words.
-fn limited(text: &str) -> Result<(Limits, &str), Bad> {
-    let mut words = Words::of(text);
+    let commands = unescaped_bytes(at.alloc, commands)?;
     let mut limits = Limits {
         failure: None,
         printed: usize::MAX,
         said: usize::MAX,
         is_flush_failing: false,
     };
+    let mut words = Words::of(words);
     for _ in 0..4 {
-        change(&mut limits, &mut words);
+        change(&mut limits, &mut words)?;
     }
-    words.done((limits, words.rest()))
+    run(&args_of(words.rest(), at)?, &commands, (limits, at), got);
+    Ok(())
 }
 
 /// Makes the change of the next word, if it is one.
-fn change(limits: &mut Limits, words: &mut Words<'_>) {
+fn change(limits: &mut Limits, words: &mut Words<'_>) -> Result<(), Bad> {
     let mut behind = *words;
     match behind.word().split_once('=') {
         Some(("input", "BrokenPipe")) => limits.failure = Some(ErrorKind::BrokenPipe),
         Some(("input", "OutOfMemory")) => limits.failure = Some(ErrorKind::OutOfMemory),
-        Some(("room", room)) => limits.printed = behind.value(number(room), 0),
+        Some(("room", room)) => limits.printed = number(room)?,
         Some(("flush", "no")) => limits.is_flush_failing = true,
         Some(("said", "no")) => limits.said = 0,
-        _ => return,
+        _ => return Ok(()),
     }
     *words = behind;
+    Ok(())
 }
 
 /// The words that `bars` is run with.
-fn push_words(words: &str, at: At, args: &mut Vec<String>) -> Result<(), Bad> {
-    if words == "alone" {
-        return Ok(());
+fn args_of(words: &str, at: At) -> Result<Vec<String>, Bad> {
+    let mut args = Vec::new(at.alloc);
+    if words != "alone" {
+        for word in words.split(' ') {
+            args.push(String::from_str(at.alloc, word)?)?;
+        }
     }
-    for word in words.split(' ') {
-        args.push(String::from_str(at.alloc, word)?)?;
-    }
-    Ok(())
+    Ok(args)
 }
 
 fn run(args: &[String], commands: &[u8], (limits, at): (Limits, At), got: &mut Got) {

@@ -27,36 +27,30 @@ pub fn begin(rest: &str, at: At) -> Result<Box<OnScreen>, Bad> {
 
 impl OnScreen {
     /// Makes a call, and appends its answer, with the message of a bar that comes back; or reads the screen, the board or a bar.
-    pub fn step(&mut self, step: &str, at: At, got: &mut Got) {
-        if screen::look_at(&self.screen, step, at, got) || look(&self.board, step, at.now, got) {
-            return;
+    pub fn step(&mut self, step: &str, at: At, got: &mut Got) -> Result<(), Bad> {
+        if screen::look_at(&self.screen, step, at, got)? || look(&self.board, step, at.now, got)? {
+            return Ok(());
         }
-        match board_call(at, step) {
-            Ok(call) => {
-                let (answer, back) = self.board.apply(call, at.now);
-                push_answer(answer, got);
-                if let Some(bar) = back {
-                    got.text(" '");
-                    got.text(bar.message());
-                }
-            }
-            Err(bad) => got.bad(bad),
+        let (answer, back) = self.board.apply(board_call(at, step)?, at.now);
+        push_answer(answer, got);
+        if let Some(bar) = back {
+            got.text(" '");
+            got.text(bar.message());
         }
+        Ok(())
     }
 }
 
 /// `order`; `entries`, how many calls the history has; or a reading of a bar. Whether the step asks for one of these.
-fn look(board: &Recording, step: &str, now: Moment, got: &mut Got) -> bool {
+fn look(board: &Recording, step: &str, now: Moment, got: &mut Got) -> Result<bool, Bad> {
     match (step, of_bar(step)) {
         ("order", _) => got.numbers(board.board().order()),
         ("entries", _) => got.number(board.entries().len()),
-        (_, Some((id, text))) => {
-            return match board.board().bar(id) {
-                Ok(bar) => read_bar(bar, text, now, got),
-                Err(_) => false,
-            };
-        }
-        _ => return false,
+        (_, Some((id, text))) => match board.board().bar(id) {
+            Ok(bar) => return read_bar(bar, text, now, got),
+            Err(_) => return Ok(false),
+        },
+        _ => return Ok(false),
     }
-    true
+    Ok(true)
 }

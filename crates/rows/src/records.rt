@@ -13,30 +13,27 @@ pub struct Record(pub Box<Bar>);
 
 /// `record LEN BAR`.
 pub fn begin(rest: &str, at: At) -> Result<Record, Bad> {
-    match new_bar(&mut Words::of(rest), at) {
-        Ok(bar) => Ok(Record(bar)),
-        Err(bad) => Err(bad),
-    }
+    Ok(Record(new_bar(&mut Words::of(rest), at)?))
 }
 
 impl Record {
     /// Makes a command, and appends the draw that it asks for; or reads the bar.
-    pub fn step(&mut self, step: &str, at: At, got: &mut Got) {
-        if read_bar(&self.0, step, at.now, got) {
-            return;
+    pub fn step(&mut self, step: &str, at: At, got: &mut Got) -> Result<(), Bad> {
+        if read_bar(&self.0, step, at.now, got)? {
+            return Ok(());
         }
-        match asked(&mut self.0, step, at) {
-            Ok(Ok(ask)) => push_ask(ask, got),
-            Ok(Err(refusal)) => got.refusal(refusal),
-            Err(bad) => got.bad(bad),
+        match asked(&mut self.0, step, at)? {
+            Ok(ask) => push_ask(ask, got),
+            Err(refusal) => got.refusal(refusal),
         }
+        Ok(())
     }
 }
 
 /// `LEN BAR`: a bar with this length, or none.
 pub fn new_bar(words: &mut Words<'_>, at: At) -> Result<Box<Bar>, Bad> {
-    let len = words.optional();
-    bar_of(at, words.rest(), words.done(len)?)
+    let len = words.optional()?;
+    bar_of(at, words.rest(), len)
 }
 
 /// The draw that a step of a bar asks for, or its refusal.

@@ -27,68 +27,51 @@ const NAMED: &[(&str, Refusal)] = &[
 ];
 
 /// Appends a refusal's number and its text: `refusal NAME`; `refusal Template C STATE`: that of a character.
-pub fn told(rest: &str, at: At, got: &mut Got) {
+pub fn told(rest: &str, at: At, got: &mut Got) -> Result<(), Bad> {
     let refusal = match rest.strip_prefix("Template ") {
-        Some(rest) => match unexpected(rest, at) {
-            Some(error) => Some(error.into()),
-            None => None,
-        },
-        None => named(rest),
+        Some(rest) => unexpected(rest, at)?.into(),
+        None => named(rest)?,
     };
-    match refusal {
-        Some(refusal) => {
-            got.refusal(refusal);
-            got.text(" ");
-            got.number(refusal);
-        }
-        None => got.bad(Bad::Step),
-    }
+    got.refusal(refusal);
+    got.text(" ");
+    got.number(refusal);
+    Ok(())
 }
 
 /// Appends an error's text, and its refusal: `template_error NAME`, or `template_error C STATE`.
-pub fn of_template(rest: &str, at: At, got: &mut Got) {
+pub fn of_template(rest: &str, at: At, got: &mut Got) -> Result<(), Bad> {
     let error = match rest {
-        "WidthTooLarge" => Some(TemplateError::WidthTooLarge),
-        "Memory" => Some(TemplateError::Memory),
-        rest => unexpected(rest, at),
+        "WidthTooLarge" => TemplateError::WidthTooLarge,
+        "Memory" => TemplateError::Memory,
+        rest => unexpected(rest, at)?,
     };
-    match error {
-        Some(error) => {
-            got.number(error);
-            got.text(" ");
-            got.refusal(error.into());
-        }
-        None => got.bad(Bad::Step),
-    }
+    got.number(error);
+    got.text(" ");
+    got.refusal(error.into());
+    Ok(())
 }
 
 /// The error of a character in a state.
-fn unexpected(rest: &str, at: At) -> Option<TemplateError> {
+fn unexpected(rest: &str, at: At) -> Result<TemplateError, Bad> {
     let (spelled, state) = headed(rest);
-    match (unescaped(at.alloc, spelled), state_of(state)) {
-        (Ok(text), Some(state)) => match text.as_str().chars().next() {
-            Some(next) => Some(TemplateError::Unexpected { next, state }),
-            None => None,
-        },
-        _ => None,
+    let state = match state {
+        "MaybeOpen" => TemplateState::MaybeOpen,
+        "DoubleClose" => TemplateState::DoubleClose,
+        "Align" => TemplateState::Align,
+        "Width" => TemplateState::Width,
+        _ => return Err(Bad::Step),
+    };
+    match unescaped(at.alloc, spelled)?.as_str().chars().next() {
+        Some(next) => Ok(TemplateError::Unexpected { next, state }),
+        None => Err(Bad::Step),
     }
 }
 
-fn state_of(name: &str) -> Option<TemplateState> {
-    match name {
-        "MaybeOpen" => Some(TemplateState::MaybeOpen),
-        "DoubleClose" => Some(TemplateState::DoubleClose),
-        "Align" => Some(TemplateState::Align),
-        "Width" => Some(TemplateState::Width),
-        _ => None,
-    }
-}
-
-fn named(name: &str) -> Option<Refusal> {
+fn named(name: &str) -> Result<Refusal, Bad> {
     for (named, refusal) in NAMED {
         if *named == name {
-            return Some(*refusal);
+            return Ok(*refusal);
         }
     }
-    None
+    Err(Bad::Step)
 }

@@ -1,20 +1,18 @@
 //! Long texts, by their runs.
 use crate::{formats, lines};
-use scripts::got::Got;
+use scripts::got::{Bad, Got};
 use scripts::row::{At, headed};
 
 /// Appends the result of a step by its runs of one character, separated by spaces: how often, and the character. `runs STEP`.
-pub fn counted(rest: &str, at: At, got: &mut Got) {
+pub fn counted(rest: &str, at: At, got: &mut Got) -> Result<(), Bad> {
     let (name, rest) = headed(rest);
     let mut long = Got::new(at.alloc);
     match name {
-        "format" => formats::shown(rest, &mut long),
-        _ => lines::shown(name, rest, at, &mut long),
+        "format" => formats::shown(rest, &mut long)?,
+        _ => lines::shown(name, rest, at, &mut long)?,
     }
-    match long.fault() {
-        None => push_runs(long.as_str(), got),
-        Some(bad) => got.bad(bad),
-    }
+    push_runs(long.as_str(), got);
+    Ok(())
 }
 
 fn push_runs(text: &str, got: &mut Got) {

@@ -11,28 +11,25 @@ pub struct Table(Box<MultiState>);
 
 /// `table`: one without bars.
 pub fn begin(at: At) -> Result<Table, Bad> {
-    match at.boxed(MultiState::new(at.alloc)) {
-        Ok(table) => Ok(Table(table)),
-        Err(bad) => Err(bad),
-    }
+    Ok(Table(at.boxed(MultiState::new(at.alloc))?))
 }
 
 impl Table {
     /// `insert PLACE`, `remove PLACE`, `remove_first COUNT`; `order`, `slots` in that order, `slot NUMBER`.
-    pub fn step(&mut self, step: &str, got: &mut Got) {
-        let (name, word) = headed(step);
-        match (name, number::<u64>(word)) {
-            ("order", _) => got.numbers(self.0.order()),
-            ("slots", _) => push_slots(&self.0, got),
-            ("insert", Ok(place)) => match self.0.insert(place as usize) {
+    pub fn step(&mut self, step: &str, got: &mut Got) -> Result<(), Bad> {
+        match headed(step) {
+            ("order", "") => got.numbers(self.0.order()),
+            ("slots", "") => push_slots(&self.0, got),
+            ("insert", place) => match self.0.insert(number(place)?) {
                 Ok(number) => got.number(number),
                 Err(refusal) => got.refusal(refusal),
             },
-            ("remove", Ok(place)) => self.0.remove(place as usize),
-            ("remove_first", Ok(count)) => self.0.remove_first(count as usize),
-            ("slot", Ok(bar)) => push_slot(self.0.slot(bar), got),
-            _ => got.bad(Bad::Step),
+            ("remove", place) => self.0.remove(number(place)?),
+            ("remove_first", count) => self.0.remove_first(number(count)?),
+            ("slot", bar) => push_slot(self.0.slot(number(bar)?), got),
+            _ => return Err(Bad::Step),
         }
+        Ok(())
     }
 }
 

@@ -7,38 +7,31 @@ use indicatif_text::columns::{Drawn, Refusal};
 use scripts::got::{Bad, Got};
 use scripts::lone::bar_of;
 use scripts::row::{At, Words};
-use scripts::spelling::{number, unescaped};
+use scripts::spelling::{flag, number, unescaped};
 
 /// A target on a stream of bytes.
 type Target = ProgressDrawTarget<Term<Vec<u8>>>;
 
 /// `stream NAME ATTENDED TERM`, of 4 rows and 10 columns, where the name is `stdout`, `stderr` or `bar`, `-` is for no `TERM` and `''` for
 /// an empty one: whether a target there is hidden; for `bar` the answer of a tick. After these a rate, in draws a second.
-pub fn asked(rest: &str, at: At, got: &mut Got) {
+pub fn asked(rest: &str, at: At, got: &mut Got) -> Result<(), Bad> {
     let mut words = Words::of(rest);
     let name = words.word();
-    match facts(&mut words, (4, 10), at) {
-        Ok(facts) => match name {
-            "bar" => match ticked(facts, at) {
-                Ok(answer) => got.answer(answer),
-                Err(bad) => got.bad(bad),
-            },
-            _ => match target(name, facts, (words.rest(), at)) {
-                Ok(target) if target.is_hidden() => got.text("hidden"),
-                Ok(_) => got.text("shown"),
-                Err(bad) => got.bad(bad),
-            },
-        },
-        Err(bad) => got.bad(bad),
+    let facts = facts(&mut words, (4, 10), at)?;
+    match name {
+        "bar" => got.answer(ticked(facts, at)?),
+        _ => got.text(match target(name, facts, (words.rest(), at))?.is_hidden() {
+            true => "hidden",
+            false => "shown",
+        }),
     }
+    Ok(())
 }
 
 /// Facts of a stream with this size: the next words, `ATTENDED TERM`.
 pub fn facts(words: &mut Words<'_>, (rows, cols): (u16, u16), at: At) -> Result<Facts, Bad> {
-    let attended = words.flag();
-    let name = words.word();
-    words.done(())?;
-    let term = match name {
+    let attended = flag(words.word())?;
+    let term = match words.word() {
         "-" => None,
         "''" => Some(String::new(at.alloc)),
         text => Some(unescaped(at.alloc, text)?),
@@ -53,22 +46,24 @@ pub fn facts(words: &mut Words<'_>, (rows, cols): (u16, u16), at: At) -> Result<
 
 /// A target on this stream, with the rate of a word; without a limit if there is no word, or `-`.
 fn target(name: &str, facts: Facts, (rate, at): (&str, At)) -> Result<Target, Bad> {
-    let rate = match rate {
-        "" | "-" => None,
-        _ => Some(number(rate)?),
-    };
     let writer = Vec::new(at.alloc);
-    let made = match (name, rate) {
-        ("stdout", None) => Ok(ProgressDrawTarget::stdout(writer, facts, at.now)),
-        ("stderr", None) => Ok(ProgressDrawTarget::stderr(writer, facts, at.now)),
-        ("stdout", Some(rate)) => ProgressDrawTarget::stdout_with_hz(writer, facts, rate, at.now),
-        ("stderr", Some(rate)) => ProgressDrawTarget::stderr_with_hz(writer, facts, rate, at.now),
+    Ok(match (name, rate) {
+        ("stdout", "" | "-") => ProgressDrawTarget::stdout(writer, facts, at.now),
+        ("stderr", "" | "-") => ProgressDrawTarget::stderr(writer, facts, at.now),
+        ("stdout", rate) => ProgressDrawTarget::stdout_with_hz(
+            writer,
+            facts,
+            number(rate)?,
+            at.now,
+        )?,
+        ("stderr", rate) => ProgressDrawTarget::stderr_with_hz(
+            writer,
+            facts,
+            number(rate)?,
+            at.now,
+        )?,
         _ => return Err(Bad::Step),
-    };
-    match made {
-        Ok(target) => Ok(target),
-        Err(refusal) => Err(Bad::Refused(refusal)),
-    }
+    })
 }
 
 /// The answer of a tick of a bar on a terminal in memory in place of the stream.

@@ -7,17 +7,15 @@ use scripts::spelling::unescaped;
 
 /// Appends the parts of `parse TEMPLATE`, separated by ` | `: `L TEXT`, `N` for a newline, or `P KEY ALIGNMENT WIDTH ! STYLE STYLE`, with
 /// `-` for what isn't there and styles as the numbers that they write.
-pub fn parsed(rest: &str, at: At, got: &mut Got) {
-    match unescaped(at.alloc, rest) {
-        Ok(text) => match Template::parse(at.alloc, text.as_str()) {
-            Ok(template) => push_parts(&template, at, got),
-            Err(error) => got.bad(Bad::Refused(error.into())),
-        },
-        Err(bad) => got.bad(bad),
+pub fn parsed(rest: &str, at: At, got: &mut Got) -> Result<(), Bad> {
+    let text = unescaped(at.alloc, rest)?;
+    match Template::parse(at.alloc, text.as_str()) {
+        Ok(template) => push_parts(&template, at, got),
+        Err(error) => Err(Bad::Refused(error.into())),
     }
 }
 
-fn push_parts(template: &Template, at: At, got: &mut Got) {
+fn push_parts(template: &Template, at: At, got: &mut Got) -> Result<(), Bad> {
     let mut follows = false;
     for part in template.parts() {
         if follows {
@@ -42,11 +40,12 @@ fn push_parts(template: &Template, at: At, got: &mut Got) {
                 got.text(key);
                 push_layout(align, width, got);
                 got.text(if truncate { " !" } else { " -" });
-                push_numbers(style, at, got);
-                push_numbers(alternative, at, got);
+                push_numbers(style, at, got)?;
+                push_numbers(alternative, at, got)?;
             }
         }
     }
+    Ok(())
 }
 
 fn push_layout(align: Alignment, width: Option<u16>, got: &mut Got) {
@@ -62,16 +61,13 @@ fn push_layout(align: Alignment, width: Option<u16>, got: &mut Got) {
 }
 
 /// Appends the numbers of a style, separated by commas: those that it writes around an empty text, except the last.
-fn push_numbers(style: Option<Style>, at: At, got: &mut Got) {
+fn push_numbers(style: Option<Style>, at: At, got: &mut Got) -> Result<(), Bad> {
     let mut written = String::new(at.alloc);
-    let done = match style {
-        Some(style) => style.apply_to(true, "", &mut written),
-        None => Ok(()),
-    };
-    match done {
-        Ok(()) => push_sequences(written.as_str(), got),
-        Err(refusal) => got.bad(Bad::Refused(refusal)),
+    if let Some(style) = style {
+        style.apply_to(true, "", &mut written)?;
     }
+    push_sequences(written.as_str(), got);
+    Ok(())
 }
 
 fn push_sequences(written: &str, got: &mut Got) {
@@ -96,30 +92,21 @@ fn push_sequences(written: &str, got: &mut Got) {
 /// - `painted WORDS TEXT`, `unpainted WORDS TEXT`: a text in this style, with colours and without.
 /// - `opened WORDS`: whether sequences are written, and the text.
 /// - `same_style WORDS WORDS`; `no_style WORDS`: whether the style is that of no words.
-pub fn styled(name: &str, rest: &str, at: At, got: &mut Got) {
+pub fn styled(name: &str, rest: &str, at: At, got: &mut Got) -> Result<(), Bad> {
     let (words, rest) = headed(rest);
     let style = Style::from_dotted_str(words);
     match name {
-        "opened" => open(style, got),
-        "same_style" => got.flag(style == Style::from_dotted_str(rest)),
-        "no_style" => got.flag(style == Style::new()),
-        "painted" | "unpainted" => match unescaped(at.alloc, rest) {
-            Ok(text) => {
-                let done = style.apply_to(name == "painted", text.as_str(), got.room());
-                got.done(done);
-            }
-            Err(bad) => got.bad(bad),
-        },
-        _ => got.bad(Bad::Step),
-    }
-}
-
-fn open(style: Style, got: &mut Got) {
-    match style.open(true, got.room()) {
-        Ok(is_open) => {
+        "opened" => {
+            let is_open = style.open(true, got.room())?;
             got.text(" ");
             got.flag(is_open);
         }
-        Err(refusal) => got.bad(Bad::Refused(refusal)),
+        "same_style" => got.flag(style == Style::from_dotted_str(rest)),
+        "no_style" => got.flag(style == Style::new()),
+        _ => {
+            let text = unescaped(at.alloc, rest)?;
+            style.apply_to(name == "painted", text.as_str(), got.room())?;
+        }
     }
+    Ok(())
 }

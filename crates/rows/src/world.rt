@@ -8,10 +8,8 @@ use crate::{
 use indicatif_text::columns::Moment;
 use meter_parts::bytes_said;
 use scripts::got::{Bad, Got};
-use scripts::play::{Tally, World, play_rows};
 use scripts::row::{At, headed, timed};
 use std::alloc::Global;
-use std::io::{self, BufRead};
 use std::mem::replace;
 
 /// A world that steps are played on.
@@ -31,14 +29,14 @@ enum On {
     Style(styles::Styled),
 }
 
-/// Answers a question that needs no world; whether the step with this name is one. `--size TEXT`: the bytes of a text, as the option of
-/// `meter` reads it; `-` if it is no number.
-fn asked(name: &str, rest: &str, at: At, got: &mut Got) -> bool {
-    match name {
-        "bars" => program::played(rest, at, got),
+/// Answers a question that needs no world, if the step with this name is one. `--size TEXT`: the bytes of a text, as the option of `meter`
+/// reads it; `-` if it is no number.
+fn asked(name: &str, rest: &str, at: At, got: &mut Got) -> Option<Result<(), Bad>> {
+    Some(match name {
+        "bars" => program::ran(rest, at, got),
         "stream" => streams::asked(rest, at, got),
         "format" => formats::shown(rest, got),
-        "--size" => got.optional(bytes_said(rest)),
+        "--size" => Ok(got.optional(bytes_said(rest))),
         "columns"
         | "width"
         | "parameter"
@@ -61,36 +59,33 @@ fn asked(name: &str, rest: &str, at: At, got: &mut Got) -> bool {
         "hides" => memory::hides(rest, at, got),
         "said" | "placed" | "coloured" | "laid" => lines::shown(name, rest, at, got),
         "runs" => runs::counted(rest, at, got),
-        _ => return false,
-    }
-    true
-}
-
-/// The world that the step with this name begins.
-fn begun(name: &str, rest: &str, at: At) -> Option<Result<On, Bad>> {
-    Some(match name {
-        "lone" => on!(Lone, lone::begin(rest, at)),
-        "record" => on!(Record, records::begin(rest, at)),
-        "board" => on!(Board, boards::begin(rest, at)),
-        "recorded" => on!(Recorded, recorded::begin(rest, at)),
-        "term" => on!(Term, terminals::begin(rest, at)),
-        "table" => on!(Slots, slots::begin(at)),
-        "cells" => on!(Cells, cells::begin(rest, at)),
-        "memory" => on!(Memory, memory::begin(rest, at)),
-        "noted" => on!(Noted, noted::begin(rest, at)),
-        "engine" => on!(Engine, engines::begin(rest, at)),
-        "style" | "default_bar" | "default_spinner" => {
-            on!(Style, styles::begin(name, rest, at))
-        },
         _ => return None,
     })
 }
 
+/// The world that the step with this name begins.
+fn begun(name: &str, rest: &str, at: At) -> Result<Option<On>, Bad> {
+    Ok(Some(match name {
+        "lone" => On::Lone(lone::begin(rest, at)?),
+        "record" => On::Record(records::begin(rest, at)?),
+        "board" => On::Board(boards::begin(rest, at)?),
+        "recorded" => On::Recorded(recorded::begin(rest, at)?),
+        "term" => On::Term(terminals::begin(rest, at)?),
+        "table" => On::Slots(slots::begin(at)?),
+        "cells" => On::Cells(cells::begin(rest, at)?),
+        "memory" => On::Memory(memory::begin(rest, at)?),
+        "noted" => On::Noted(noted::begin(rest, at)?),
+        "engine" => On::Engine(engines::begin(rest, at)?),
+        "style" | "default_bar" | "default_spinner" => On::Style(styles::begin(name, rest, at)?),
+        _ => return Ok(None),
+    }))
+}
+
 impl On {
     /// Makes a step, or reads something.
-    fn step(&mut self, step: &str, at: At, got: &mut Got) {
+    fn step(&mut self, step: &str, at: At, got: &mut Got) -> Result<(), Bad> {
         match self {
-            On::Nothing => got.bad(Bad::Step),
+            On::Nothing => Err(Bad::Step),
             On::Lone(world) => world.step(step, at, got),
             On::Record(world) => world.step(step, at, got),
             On::Board(world) => world.step(step, at, got),
@@ -109,8 +104,10 @@ impl On {
     /// the bar of a screen.
     fn turned(self, step: &str, at: At) -> Result<On, Bad> {
         match (self, headed(step)) {
-            (On::Record(record), ("shown", rest)) => on!(Lone, lone::showing(record.0, rest, at)),
-            (On::Lone(world), ("ended", "")) => on!(Term, Box::into_inner(world).ended()),
+            (On::Record(record), ("shown", rest)) => Ok(On::Lone(lone::showing(
+                record.0, rest, at,
+            )?)),
+            (On::Lone(world), ("ended", "")) => Ok(On::Term(Box::into_inner(world).ended()?)),
             _ => Err(Bad::Step),
         }
     }
@@ -118,62 +115,51 @@ impl On {
 
 /// The world, and the moment of the last step.
 #[derive(Drop)]
-struct Stage {
+pub struct World {
     at: At,
     on: On,
 }
 
-/// Plays the rows of a reader on a new stage, and prints each that differs under this name.
-pub fn play_on_new_stage<R: Print + Alloc<A = Global>, L: BufRead + Drop>(
-    rt: &R,
-    path: &str,
-    lines: L,
-) -> io::Result<Tally> {
-    let at = At {
-        alloc: rt.alloc(),
-        now: 0,
-    };
-    let mut stage = Stage {
-        at,
-        on: On::Nothing,
-    };
-    play_rows(rt, path, lines, &mut stage)
-}
-
-impl Stage {
-    /// Continues with the current world, at this moment or that of the last step: makes a step, or reads something.
-    fn go_on(&mut self, step: &str, moment: Option<Moment>, got: &mut Got) {
-        self.at.now = moment.unwrap_or(self.at.now);
-        match headed(step).0 {
-            "ended" | "shown" => match replace(&mut self.on, On::Nothing).turned(step, self.at) {
-                Ok(on) => self.on = on,
-                Err(bad) => got.bad(bad),
-            },
-            _ => self.on.step(step, self.at, got),
+impl World {
+    /// One with nothing on it.
+    pub fn new(alloc: Global) -> World {
+        World {
+            at: At { alloc, now: 0 },
+            on: On::Nothing,
         }
     }
-}
 
-impl World for Stage {
-    /// Begins another world, at this moment or at 0, if the step does so; otherwise continues with the current one.
-    fn play(&mut self, step: &str, got: &mut Got) -> Result<(), Bad> {
+    /// Makes a step, and appends what it gives. It begins another world, at this moment or at 0, where the step does so; else it goes on with
+    /// what is there.
+    pub fn play(&mut self, step: &str, got: &mut Got) -> Result<(), Bad> {
         let (step, moment) = timed(step);
         let (name, rest) = headed(step);
-        if asked(name, rest, self.at, got) {
-            return Ok(());
+        if let Some(done) = asked(name, rest, self.at, got) {
+            return done;
         }
         let at = At {
             now: moment.unwrap_or(0),
             ..self.at
         };
-        match begun(name, rest, at) {
-            Some(Ok(on)) => {
+        match begun(name, rest, at)? {
+            Some(on) => {
                 self.on = on;
                 self.at = at;
+                Ok(())
             }
-            Some(Err(bad)) => got.bad(bad),
             None => self.go_on(step, moment, got),
         }
-        Ok(())
+    }
+
+    /// Continues with the current world, at this moment or that of the last step: makes a step, or reads something.
+    fn go_on(&mut self, step: &str, moment: Option<Moment>, got: &mut Got) -> Result<(), Bad> {
+        self.at.now = moment.unwrap_or(self.at.now);
+        match headed(step).0 {
+            "ended" | "shown" => {
+                self.on = replace(&mut self.on, On::Nothing).turned(step, self.at)?;
+                Ok(())
+            }
+            _ => self.on.step(step, self.at, got),
+        }
     }
 }

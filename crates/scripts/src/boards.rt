@@ -18,17 +18,16 @@ pub fn bar_id(text: &str) -> Result<BarId, Bad> {
         Some(rest) => (MARK + 1, rest),
         None => (MARK, text),
     };
-    let number = number(digits)?;
-    Ok(BarId { mark, number })
+    Ok(BarId {
+        mark,
+        number: number(digits)?,
+    })
 }
 
 /// The bar of a step, as in `0: tick`, and the rest.
 pub fn of_bar(text: &str) -> Option<(BarId, &str)> {
     let (bar, rest) = text.split_once(": ")?;
-    match bar_id(bar) {
-        Ok(id) => Some((id, rest)),
-        Err(_) => None,
-    }
+    Some((bar_id(bar).ok()?, rest))
 }
 
 /// The call of a step: one of the board, or after a bar's number and `: ` one of that bar.
@@ -66,28 +65,13 @@ pub fn placed<'a>(name: &str, rest: &'a str) -> Result<(InsertLocation, &'a str)
     let mut words = Words::of(rest);
     let place = match name {
         "add" => InsertLocation::End,
-        "insert" => InsertLocation::Index(words.number()),
-        "back" => InsertLocation::FromBack(words.number()),
-        "before" => InsertLocation::Before(next_bar(&mut words)),
-        "after" => InsertLocation::After(next_bar(&mut words)),
-        _ => {
-            words.spoil();
-            InsertLocation::End
-        }
+        "insert" => InsertLocation::Index(words.number()?),
+        "back" => InsertLocation::FromBack(words.number()?),
+        "before" => InsertLocation::Before(bar_id(words.word())?),
+        "after" => InsertLocation::After(bar_id(words.word())?),
+        _ => return Err(Bad::Step),
     };
-    words.done((place, words.rest()))
-}
-
-/// The bar of the next word.
-fn next_bar(words: &mut Words<'_>) -> BarId {
-    let id = bar_id(words.word());
-    words.value(
-        id,
-        BarId {
-            mark: MARK,
-            number: 0,
-        },
-    )
+    Ok((place, words.rest()))
 }
 
 /// The call that inserts a bar.
@@ -106,8 +90,8 @@ pub fn candidate(at: At, text: &str) -> Result<Candidate<NoTracker>, Bad> {
         (Some(id), _) => Ok(Candidate::Member(bar_id(id)?)),
         (_, Some(rest)) => {
             let mut words = Words::of(rest);
-            let len = words.number();
-            new_bar(at, words.rest(), words.done(Some(len))?)
+            let len = words.number()?;
+            new_bar(at, words.rest(), Some(len))
         }
         (None, None) => new_bar(at, text, None),
     }
@@ -121,7 +105,7 @@ fn new_bar(at: At, bar: &str, len: Option<u64>) -> Result<Candidate<NoTracker>, 
 pub fn push_answer(answer: Answer, got: &mut Got) {
     match answer {
         Answer::Id(id) => got.number(id.number),
-        Answer::Done => got.text("done"),
+        Answer::Accepted => got.text("done"),
         Answer::Drawn(drawn) => got.answer(Ok(drawn)),
         Answer::Refused(refusal) => got.refusal(refusal),
     }

@@ -18,21 +18,6 @@ const WORDED: [&str; 6] = [
     "abandon_with_message",
 ];
 
-/// The commands on a bar's numbers and times; `update` has two numbers.
-pub const COUNTING: [&str; 11] = [
-    "dec",
-    "set_position",
-    "update",
-    "set_length",
-    "unset_length",
-    "inc_length",
-    "dec_length",
-    "with_position",
-    "reset_eta",
-    "reset_elapsed",
-    "reset",
-];
-
 /// The command of a step.
 pub fn command(alloc: Global, step: &str) -> Result<Command, Bad> {
     match step.split_once(' ') {
@@ -42,7 +27,7 @@ pub fn command(alloc: Global, step: &str) -> Result<Command, Bad> {
 }
 
 /// The command with this name, which has no arguments.
-pub fn bare(name: &str) -> Result<Command, Bad> {
+fn bare(name: &str) -> Result<Command, Bad> {
     match name {
         "tick" => Ok(BarCommand::Tick),
         "ticker_tick" => Ok(BarCommand::TickerTick),
@@ -52,10 +37,7 @@ pub fn bare(name: &str) -> Result<Command, Bad> {
         "reset" => Ok(BarCommand::Reset),
         "finish_using_style" => Ok(BarCommand::FinishUsingStyle),
         "force_draw" => Ok(BarCommand::ForceDraw),
-        _ => match plain_finish(name) {
-            Ok(finish) => Ok(BarCommand::Finish(finish)),
-            Err(bad) => Err(bad),
-        },
+        _ => Ok(BarCommand::Finish(plain_finish(name)?)),
     }
 }
 
@@ -98,20 +80,13 @@ fn with_argument(alloc: Global, name: &str, rest: &str) -> Result<Command, Bad> 
 
 /// The style with a template; after `chars=CHARS ` with these progress characters.
 fn styled(alloc: Global, text: &str) -> Result<Command, Bad> {
-    let style = match text.strip_prefix("chars=") {
-        Some(rest) => with_chars(alloc, rest),
-        None => templated(alloc, text),
+    let Some(rest) = text.strip_prefix("chars=") else {
+        return Ok(BarCommand::SetStyle(templated(alloc, text)?));
     };
-    match style {
-        Ok(style) => Ok(BarCommand::SetStyle(style)),
-        Err(bad) => Err(bad),
-    }
-}
-
-fn with_chars(alloc: Global, text: &str) -> Result<ProgressStyle<NoTracker>, Bad> {
-    let (chars, template) = headed(text);
+    let (chars, template) = headed(rest);
     let chars = unescaped(alloc, chars)?;
-    Ok(templated(alloc, template)?.progress_chars(chars.as_str())?)
+    let style = templated(alloc, template)?.progress_chars(chars.as_str())?;
+    Ok(BarCommand::SetStyle(style))
 }
 
 fn templated(alloc: Global, template: &str) -> Result<ProgressStyle<NoTracker>, Bad> {
@@ -125,15 +100,12 @@ fn saying(name: &str, text: String) -> Result<Command, Bad> {
         "set_prefix" => Ok(BarCommand::SetPrefix(text)),
         "with_message" => Ok(BarCommand::WithMessage(text)),
         "with_prefix" => Ok(BarCommand::WithPrefix(text)),
-        _ => match finish_saying(name, text) {
-            Ok(finish) => Ok(BarCommand::Finish(finish)),
-            Err(bad) => Err(bad),
-        },
+        _ => Ok(BarCommand::Finish(finish_saying(name, text)?)),
     }
 }
 
 /// The command with this name and a number.
-pub fn by_number(name: &str, number: u64) -> Result<Command, Bad> {
+fn by_number(name: &str, number: u64) -> Result<Command, Bad> {
     match name {
         "inc" => Ok(BarCommand::Inc(number)),
         "dec" => Ok(BarCommand::Dec(number)),
@@ -154,10 +126,10 @@ fn updating(text: &str) -> Result<Command, Bad> {
     let Some((pos, len)) = text.split_once(' ') else {
         return Err(Bad::Step);
     };
-    match (optional(pos), optional(len)) {
-        (Ok(pos), Ok(len)) => Ok(BarCommand::Update(Change { pos, len })),
-        _ => Err(Bad::Step),
-    }
+    Ok(BarCommand::Update(Change {
+        pos: optional(pos)?,
+        len: optional(len)?,
+    }))
 }
 
 // ---- calls by their names

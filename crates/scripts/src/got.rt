@@ -32,12 +32,11 @@ impl<V: Drop> From<AllocFailed<V>> for Bad {
     }
 }
 
-/// The results of steps, as one text, separated by `; `. If a step has none, the text says why, and the first such fault is kept. Want of
-/// memory is kept too, and makes the row differ.
+/// The results of steps, as one text, separated by `; `. If a step has none, the text says why. Want of memory is kept, and makes the row
+/// differ.
 #[derive(Drop)]
 pub struct Got {
     text: String,
-    fault: Option<Bad>,
     is_new: bool,
     is_lost: bool,
 }
@@ -47,7 +46,6 @@ impl Got {
     pub fn new(alloc: Global) -> Got {
         Got {
             text: String::new(alloc),
-            fault: None,
             is_new: true,
             is_lost: false,
         }
@@ -56,7 +54,6 @@ impl Got {
     /// Clears the results.
     pub fn clear(&mut self) {
         self.text.clear();
-        self.fault = None;
         self.is_new = true;
         self.is_lost = false;
     }
@@ -69,11 +66,6 @@ impl Got {
     /// The results of the steps, without escapes.
     pub fn as_str(&self) -> &str {
         self.text.as_str()
-    }
-
-    /// The first fault of a step, if any.
-    pub fn fault(&self) -> Option<Bad> {
-        self.fault
     }
 
     /// Whether a part of it got no memory.
@@ -100,21 +92,6 @@ impl Got {
             self.part();
             let done = self.text.push_str(text);
             self.note(done);
-        }
-    }
-
-    /// Appends a text, or why there is none.
-    pub fn text_of(&mut self, text: Result<String, Refusal>) {
-        match text {
-            Ok(text) => self.text(text.as_str()),
-            Err(refusal) => self.bad(Bad::Refused(refusal)),
-        }
-    }
-
-    /// Appends why a call was refused, if it was.
-    pub fn done(&mut self, done: Result<(), Refusal>) {
-        if let Err(refusal) = done {
-            self.bad(Bad::Refused(refusal));
         }
     }
 
@@ -179,7 +156,6 @@ impl Got {
 
     /// Appends why a step has no result.
     pub fn bad(&mut self, bad: Bad) {
-        self.fault = self.fault.or(Some(bad));
         match bad {
             Bad::Step => self.text("no such step"),
             Bad::Refused(refusal) => self.refusal(refusal),
@@ -191,14 +167,6 @@ impl Got {
         for row in rows {
             self.text(row.as_str());
             self.text("\n");
-        }
-    }
-
-    /// Appends texts, each followed by a newline, or why there are none.
-    pub fn rows_of(&mut self, rows: Result<Vec<String>, Refusal>) {
-        match rows {
-            Ok(rows) => self.rows(&rows),
-            Err(refusal) => self.bad(Bad::Refused(refusal)),
         }
     }
 

@@ -1,12 +1,11 @@
 //! Calls of a lone bar, bars in rows, and readings of a bar.
 use crate::commands::command;
 use crate::got::{Bad, Got};
-use crate::row::At;
+use crate::row::{At, headed};
 use crate::spelling::{number, unescaped};
 use indicatif_bar::lone::LoneCall;
 use indicatif_bar::state::{Ask, BarState, Fraction, ProgressState, Rate};
 use indicatif_bar::style::{NoTracker, ProgressStyle};
-use indicatif_term::target::LineType;
 use indicatif_text::columns::Moment;
 use std::alloc::Global;
 use std::convert::AsStr;
@@ -55,70 +54,48 @@ pub fn lone_call(alloc: Global, text: &str) -> Result<LoneCall<NoTracker>, Bad> 
     }
 }
 
-/// Reads something from a bar's record; whether the text is such a reading.
-pub fn read_bar(bar: &Bar, text: &str, now: Moment, got: &mut Got) -> bool {
+/// Reads something from a bar's record; whether the text is such a reading. `lines COLS`: the lines, each followed by a newline.
+pub fn read_bar(bar: &Bar, text: &str, now: Moment, got: &mut Got) -> Result<bool, Bad> {
     let state = bar.state();
-    match text {
-        "message" => got.text(bar.message()),
-        "prefix" => got.text(bar.prefix()),
-        "tab_width" => got.number(bar.tab_width()),
-        "state" => push_state(bar, now, got),
-        "pos" => got.number(state.pos()),
-        "len" => got.optional(state.len()),
-        "ticks" => got.number(state.ticks()),
-        "finished" => got.flag(state.is_finished()),
-        "reached" => push_reached(state, got),
-        "fraction" => push_fraction(state.fraction(), got),
-        "rate" => push_rate(state.per_sec(now), got),
-        "per_sec" => push_speed(state.per_sec(now), got),
-        "eta" => got.number(state.eta(now)),
-        "duration" => got.number(state.duration(now)),
-        "elapsed" => got.number(state.elapsed(now)),
-        _ => return read_lines(bar, text, now, got),
+    match headed(text) {
+        ("message", "") => got.text(bar.message()),
+        ("prefix", "") => got.text(bar.prefix()),
+        ("tab_width", "") => got.number(bar.tab_width()),
+        ("state", "") => got.text(name_of(bar, now)?),
+        ("pos", "") => got.number(state.pos()),
+        ("len", "") => got.optional(state.len()),
+        ("ticks", "") => got.number(state.ticks()),
+        ("finished", "") => got.flag(state.is_finished()),
+        ("reached", "") => push_reached(state, got),
+        ("fraction", "") => push_fraction(state.fraction(), got),
+        ("rate", "") => push_rate(state.per_sec(now), got),
+        ("per_sec", "") => push_speed(state.per_sec(now), got),
+        ("eta", "") => got.number(state.eta(now)),
+        ("duration", "") => got.number(state.duration(now)),
+        ("elapsed", "") => got.number(state.elapsed(now)),
+        ("lines", columns) => push_lines(bar, number(columns)?, now, got)?,
+        _ => return Ok(false),
     }
-    true
-}
-
-/// `lines COLS`: the lines, each followed by a newline.
-fn read_lines(bar: &Bar, text: &str, now: Moment, got: &mut Got) -> bool {
-    let Some(columns) = text.strip_prefix("lines ") else {
-        return false;
-    };
-    match number(columns) {
-        Ok(columns) => push_lines(bar, columns, now, got),
-        Err(bad) => got.bad(bad),
-    }
-    true
+    Ok(true)
 }
 
 /// Appends the lines for `columns` columns, each followed by a newline.
-pub fn push_lines(bar: &Bar, columns: u16, now: Moment, got: &mut Got) {
-    match bar.lines(now, columns) {
-        Ok(lines) => push_each(&lines, got),
-        Err(refusal) => got.bad(Bad::Refused(refusal)),
-    }
-}
-
-fn push_each(lines: &[LineType], got: &mut Got) {
-    for line in lines {
+pub fn push_lines(bar: &Bar, columns: u16, now: Moment, got: &mut Got) -> Result<(), Bad> {
+    let lines = bar.lines(now, columns)?;
+    for line in &lines {
         got.text(line.as_str());
         got.text("\n");
     }
+    Ok(())
 }
 
 /// `progress`, or for a finished bar whether it has lines: `visible`, `hidden`.
-fn push_state(bar: &Bar, now: Moment, got: &mut Got) {
-    match bar.state().is_finished() {
-        false => got.text("progress"),
-        true => match bar.lines(now, 1) {
-            Ok(lines) => got.text(if lines.is_empty() {
-                "hidden"
-            } else {
-                "visible"
-            }),
-            Err(refusal) => got.bad(Bad::Refused(refusal)),
-        },
-    }
+fn name_of(bar: &Bar, now: Moment) -> Result<&'static str, Bad> {
+    Ok(match bar.state().is_finished() {
+        false => "progress",
+        true if bar.lines(now, 1)?.is_empty() => "hidden",
+        true => "visible",
+    })
 }
 
 /// Appends the position, the length, the ticks, and whether the bar is finished, separated by spaces.

@@ -1,15 +1,10 @@
-//! Files of rows, played line by line.
-use crate::got::{Bad, Got};
+//! Files of rows: which of their lines are rows, which steps a row makes, and which rows agree. Whoever plays them makes the steps, since a
+//! step may start a thread, which no method of a trait can.
+use crate::got::Got;
 use crate::row::Row;
 use crate::spelling::{Escaped, unescaped};
-use std::alloc::Global;
-use std::io::{self, BufRead};
-
-/// The world on which steps are played.
-pub trait World {
-    /// Makes a step, and appends its result.
-    fn play(&mut self, step: &str, got: &mut Got) -> Result<(), Bad>;
-}
+use std::alloc::{AllocError, Global};
+use std::io;
 
 /// How many rows agreed and differed.
 #[derive(Clone, Copy, Default, Drop)]
@@ -30,7 +25,7 @@ impl Tally {
     }
 
     /// Counts a row.
-    pub fn count(&mut self, agrees: bool) {
+    fn count(&mut self, agrees: bool) {
         let counted = if agrees {
             &mut self.passed
         } else {
@@ -40,141 +35,124 @@ impl Tally {
     }
 }
 
-/// The steps that come first in each row that begins with `+ `, and their expected results.
+/// The steps of a row, and what they are to give; what a row behind `given ` has comes first in each row behind `+ `.
 #[derive(Drop)]
-struct Given {
+struct Text {
     steps: String,
     wanted: String,
 }
 
-impl Given {
-    fn new(alloc: Global) -> Given {
-        Given {
+impl Text {
+    fn new(alloc: Global) -> Text {
+        Text {
             steps: String::new(alloc),
             wanted: String::new(alloc),
         }
     }
 
-    fn store(&mut self, alloc: Global, row: Row<'_>) -> Result<(), Bad> {
-        self.steps = String::from_str(alloc, row.steps)?;
-        self.wanted = String::from_str(alloc, row.wanted)?;
-        Ok(())
+    /// Has what this row has, and nothing before.
+    fn store(&mut self, row: Row<'_>) -> Result<(), AllocError> {
+        self.steps.clear();
+        self.wanted.clear();
+        self.add(row)
+    }
+
+    /// Has what this row has behind what was there.
+    fn add(&mut self, row: Row<'_>) -> Result<(), AllocError> {
+        add(&mut self.steps, row.steps)?;
+        add(&mut self.wanted, row.wanted)
+    }
+
+    fn row(&self) -> Row<'_> {
+        Row {
+            steps: self.steps.as_str(),
+            wanted: self.wanted.as_str(),
+        }
     }
 }
 
-/// A world, the result of its last row, and the steps that come first in rows.
+/// Appends a text, parted by `; ` from what stands before it.
+fn add(text: &mut String, more: &str) -> Result<(), AllocError> {
+    if !text.is_empty() && !more.is_empty() {
+        text.push_str("; ")?;
+    }
+    text.push_str(more)
+}
+
+/// The rows of a file, of which one after another is read, made and judged.
 #[derive(Drop)]
-struct Player<'a, W> {
+pub struct Player<'a> {
     alloc: Global,
-    world: &'a mut W,
-    got: Got,
-    given: Given,
+    path: &'a str,
+    line: u64,
+    given: Text,
+    row: Text,
+    tally: Tally,
 }
 
-impl<W: World> Player<'_, W> {
-    /// Plays a line, counts it if it is a row, and prints it if that differs.
-    fn plays<R: Print>(
-        &mut self,
-        rt: &R,
-        place: (&str, u64),
-        line: &str,
-        tally: &mut Tally,
-    ) -> io::Result<()> {
-        let Some(row) = Row::of(line) else {
-            return Ok(());
-        };
-        let agrees = self.agrees(row);
-        tally.count(agrees);
-        match agrees {
-            true => Ok(()),
-            false => print_row(rt, place, row, &self.got),
+impl<'a> Player<'a> {
+    /// Before the first line of this file.
+    pub fn new(alloc: Global, path: &'a str) -> Player<'a> {
+        Player {
+            alloc,
+            path,
+            line: 0,
+            given: Text::new(alloc),
+            row: Text::new(alloc),
+            tally: Tally::default(),
         }
     }
 
-    /// Whether a row has its expected result; `got` has the actual one.
-    fn agrees(&mut self, row: Row<'_>) -> bool {
+    /// Reads the next line; whether it is a row, whose steps are to be made.
+    pub fn reads(&mut self, line: &str) -> Result<bool, AllocError> {
+        self.line = self.line.saturating_add(1);
+        match Row::of(line) {
+            Some(row) => self.store(row)?,
+            None => return Ok(false),
+        }
+        Ok(true)
+    }
+
+    fn store(&mut self, row: Row<'_>) -> Result<(), AllocError> {
+        if let Some(steps) = row.steps.strip_prefix("+ ") {
+            self.row.store(self.given.row())?;
+            return self.row.add(Row { steps, ..row });
+        }
         if let Some(steps) = row.steps.strip_prefix("given ") {
-            let given = Row { steps, ..row };
-            return self.given.store(self.alloc, given).is_ok() && self.gives(given);
+            let row = Row { steps, ..row };
+            self.given.store(row)?;
+            return self.row.store(row);
         }
-        match row.steps.strip_prefix("+ ") {
-            Some(steps) => self.begins() && self.gives(Row { steps, ..row }),
-            None => self.gives(row),
+        self.row.store(row)
+    }
+
+    /// The steps of the row, parted by `; `.
+    pub fn steps(&self) -> &str {
+        self.row.steps.as_str()
+    }
+
+    /// Counts the row by what its steps gave, and prints it, with its file and its line, if it differs.
+    pub fn judge<R: Print>(&mut self, rt: &R, got: &Got) -> io::Result<()> {
+        let agrees = self.is_wanted(got);
+        self.tally.count(agrees);
+        if agrees {
+            return Ok(());
+        }
+        let (path, line, got) = (self.path, self.line, Escaped(got.as_str()));
+        let Row { steps, wanted } = self.row.row();
+        println!(rt; "{path}, line {line}: {steps}\n  wanted {wanted}\n  got {got}")
+    }
+
+    /// Whether this is what the row says.
+    fn is_wanted(&self, got: &Got) -> bool {
+        match unescaped(self.alloc, self.row.wanted.as_str()) {
+            Ok(wanted) => !got.is_lost() && got.as_str() == wanted.as_str(),
+            Err(_) => false,
         }
     }
 
-    /// Whether the steps that come first have their expected results.
-    fn begins(&mut self) -> bool {
-        let Given { steps, wanted } = &self.given;
-        play_steps(steps.as_str(), self.world, &mut self.got);
-        is_wanted(self.alloc, &self.got, wanted.as_str())
+    /// How many rows agreed and differed so far.
+    pub fn tally(&self) -> Tally {
+        self.tally
     }
-
-    /// Whether the steps of a row have their expected results.
-    fn gives(&mut self, row: Row<'_>) -> bool {
-        play_steps(row.steps, self.world, &mut self.got);
-        is_wanted(self.alloc, &self.got, row.wanted)
-    }
-}
-
-/// Makes steps one after another, with their results in `got`.
-fn play_steps<W: World>(steps: &str, world: &mut W, got: &mut Got) {
-    got.clear();
-    for step in steps.split("; ") {
-        got.begin();
-        if let Err(bad) = world.play(step, got) {
-            got.bad(bad);
-        }
-    }
-}
-
-/// Whether this is the expected result.
-pub fn is_wanted(alloc: Global, got: &Got, wanted: &str) -> bool {
-    match unescaped(alloc, wanted) {
-        Ok(wanted) => !got.is_lost() && got.as_str() == wanted.as_str(),
-        Err(_) => false,
-    }
-}
-
-/// Plays the rows of a reader, and prints each that differs under this name.
-pub fn play_rows<R: Print + Alloc<A = Global>, L: BufRead + Drop, W: World>(
-    rt: &R,
-    path: &str,
-    lines: L,
-    world: &mut W,
-) -> io::Result<Tally> {
-    let mut player = Player {
-        alloc: rt.alloc(),
-        world,
-        got: Got::new(rt.alloc()),
-        given: Given::new(rt.alloc()),
-    };
-    play_lines(rt, path, lines, &mut player)
-}
-
-fn play_lines<R: Print + Alloc<A = Global>, L: BufRead + Drop, W: World>(
-    rt: &R,
-    path: &str,
-    lines: L,
-    player: &mut Player<'_, W>,
-) -> io::Result<Tally> {
-    let mut tally = Tally::default();
-    let mut number: u64 = 0;
-    for line in lines.lines(rt.alloc()) {
-        number = number.saturating_add(1);
-        player.plays(rt, (path, number), line?.as_str(), &mut tally)?;
-    }
-    Ok(tally)
-}
-
-/// Prints a row that differs, with its file and its line, and the actual result.
-pub fn print_row<R: Print>(
-    rt: &R,
-    (path, number): (&str, u64),
-    row: Row<'_>,
-    got: &Got,
-) -> io::Result<()> {
-    let Row { steps, wanted } = row;
-    let got = Escaped(got.as_str());
-    println!(rt; "{path}, line {number}: {steps}\n  wanted {wanted}\n  got {got}")
 }

@@ -1,6 +1,6 @@
 //! A line of a file, its steps, and the words of a step.
 use crate::got::Bad;
-use crate::spelling::{flag, number, optional, unescaped};
+use crate::spelling::{number, optional, unescaped};
 use indicatif_text::columns::Moment;
 use std::alloc::Global;
 use std::str::FromStr;
@@ -42,10 +42,7 @@ pub struct At {
 impl At {
     /// A value in a box, so that each way out of a function drops it by one call.
     pub fn boxed<V: Drop>(self, value: V) -> Result<Box<V>, Bad> {
-        match Box::new(self.alloc, value) {
-            Ok(boxed) => Ok(boxed),
-            Err(failed) => Err(failed.into()),
-        }
+        Ok(Box::new(self.alloc, value)?)
     }
 }
 
@@ -65,13 +62,11 @@ pub fn headed(text: &str) -> (&str, &str) {
     text.split_once(' ').unwrap_or((text, ""))
 }
 
-/// The words of a step, read one after another. One that can't be read is remembered: then what was read has no meaning, and neither `done`
-/// nor `text` returns anything.
+/// The words of a step, read one after another.
 #[derive(Clone, Copy, Drop)]
 pub struct Words<'a> {
     rest: &'a str,
     parting: char,
-    is_bad: bool,
 }
 
 impl<'a> Words<'a> {
@@ -80,7 +75,6 @@ impl<'a> Words<'a> {
         Words {
             rest: text,
             parting: ' ',
-            is_bad: false,
         }
     }
 
@@ -89,7 +83,6 @@ impl<'a> Words<'a> {
         Words {
             rest: text,
             parting: '\t',
-            is_bad: false,
         }
     }
 
@@ -108,64 +101,21 @@ impl<'a> Words<'a> {
         word
     }
 
-    /// The value of a word, if it could be read; otherwise this.
-    pub fn value<V: Drop>(&mut self, read: Result<V, Bad>, otherwise: V) -> V {
-        match read {
-            Ok(value) => value,
-            Err(_) => {
-                self.is_bad = true;
-                otherwise
-            }
-        }
-    }
-
     /// The next word as a number.
-    pub fn number<N: FromStr + Default + Drop>(&mut self) -> N
+    pub fn number<N: FromStr>(&mut self) -> Result<N, Bad>
     where
         N::Err: Drop,
     {
-        let word = self.word();
-        self.value(number(word), N::default())
-    }
-
-    /// The rest as a number.
-    pub fn last<N: FromStr + Default + Drop>(&mut self) -> N
-    where
-        N::Err: Drop,
-    {
-        self.value(number(self.rest), N::default())
+        number(self.word())
     }
 
     /// The next word as a number, or `-` for none.
-    pub fn optional(&mut self) -> Option<u64> {
-        let word = self.word();
-        self.value(optional(word), None)
+    pub fn optional(&mut self) -> Result<Option<u64>, Bad> {
+        optional(self.word())
     }
 
-    /// The next word as a flag: `yes` or `no`.
-    pub fn flag(&mut self) -> bool {
-        let word = self.word();
-        self.value(flag(word), false)
-    }
-
-    /// Notes that a word can't be read.
-    pub fn spoil(&mut self) {
-        self.is_bad = true;
-    }
-
-    /// This, if all words could be read.
-    pub fn done<V: Drop>(self, value: V) -> Result<V, Bad> {
-        match self.is_bad {
-            true => Err(Bad::Step),
-            false => Ok(value),
-        }
-    }
-
-    /// The rest as a text, with its escapes replaced, if all words could be read.
+    /// The rest as a text, with its escapes replaced.
     pub fn text(self, alloc: Global) -> Result<String, Bad> {
-        match self.is_bad {
-            true => Err(Bad::Step),
-            false => unescaped(alloc, self.rest),
-        }
+        unescaped(alloc, self.rest)
     }
 }

@@ -63,15 +63,12 @@ pub struct Look {
 
 impl Look {
     /// Appends the answer of a call, and after a space the rows on the screen, if any.
-    pub fn push(self, answer: Result<Drawn, Refusal>, got: &mut Got) {
-        match self.contents {
-            Ok(contents) => {
-                got.answer(answer);
-                got.text(if contents.is_empty() { "" } else { " " });
-                got.text(contents.as_str());
-            }
-            Err(refusal) => got.bad(Bad::Refused(refusal)),
-        }
+    pub fn push(self, answer: Result<Drawn, Refusal>, got: &mut Got) -> Result<(), Bad> {
+        let contents = self.contents?;
+        got.answer(answer);
+        got.text(if contents.is_empty() { "" } else { " " });
+        got.text(contents.as_str());
+        Ok(())
     }
 }
 
@@ -236,14 +233,10 @@ pub type Behind = Term<Wire>;
 #[derive(Drop)]
 pub struct Target(pub ProgressDrawTarget<Behind>);
 
-/// A new screen with the size of the next words, `ROWS COLS`, and the terminal that writes to it.
+/// A new screen with the size of the next words, `ROWS COLS`, and the terminal that writes to it. If its size has no rows or no columns, the
+/// screen has one.
 pub fn terminal(words: &mut Words<'_>, at: At) -> Result<(Rc<Screen>, Behind), Bad> {
-    let size = (words.number(), words.number());
-    before_screen(words.done(size)?, at)
-}
-
-/// A terminal that writes to a new screen. If its size has no rows or no columns, the screen has one.
-fn before_screen((rows, cols): (u16, u16), at: At) -> Result<(Rc<Screen>, Behind), Bad> {
+    let (rows, cols): (u16, u16) = (words.number()?, words.number()?);
     let screen = Screen::new(at.alloc, rows.max(1), cols.max(1))?;
     let wire = Wire(screen.clone()?);
     Ok((screen, Term::new(wire, rows, cols)))
@@ -251,9 +244,8 @@ fn before_screen((rows, cols): (u16, u16), at: At) -> Result<(Rc<Screen>, Behind
 
 /// The size of the words `ROWS COLS`.
 pub fn size(words: &str) -> Result<(u16, u16), Bad> {
-    let mut words = Words::of(words);
-    let size = (words.number(), words.last());
-    words.done(size)
+    let (rows, cols) = headed(words);
+    Ok((number(rows)?, number(cols)?))
 }
 
 /// A new screen of the next words, `ROWS COLS RATE`, and the target that draws on it; a rate of 0 means no limit. `hidden`: a hidden
@@ -265,72 +257,51 @@ pub fn begin(words: &mut Words<'_>, at: At) -> Result<(Rc<Screen>, Target), Bad>
         let screen = Screen::new(at.alloc, 1, 1)?;
         return Ok((screen, Target(ProgressDrawTarget::hidden())));
     }
-    let size = (words.number(), words.number());
-    let rate = words.number();
-    let (screen, term) = before_screen(words.done(size)?, at)?;
-    let target = match rate {
-        0 => Ok(ProgressDrawTarget::term_like(term)),
-        rate => ProgressDrawTarget::term_like_with_hz(term, rate, at.now),
+    let (screen, term) = terminal(words, at)?;
+    let target = match words.number()? {
+        0 => ProgressDrawTarget::term_like(term),
+        rate => ProgressDrawTarget::term_like_with_hz(term, rate, at.now)?,
     };
-    match target {
-        Ok(target) => Ok((screen, Target(target))),
-        Err(refusal) => Err(Bad::Refused(refusal)),
-    }
+    Ok((screen, Target(target)))
 }
 
 /// Reads a screen, puts bytes there, or makes its writer fail; whether the step asks for that.
-pub fn look_at(screen: &Screen, step: &str, at: At, got: &mut Got) -> bool {
-    match step {
-        "shows" => got.text_of(screen.contents()),
-        "picture" => got.rows_of(screen.picture()),
-        "rows" => push_filled(screen.picture(), got),
-        "cursor" => {
-            if let Some((row, column)) = screen.cursor() {
-                got.number(row);
-                got.text(" ");
-                got.number(column);
-            }
-        }
-        "written" => screen.push_written(got),
-        "bytes" => got.number(screen.counts.get().bytes),
-        "writes" => got.number(screen.counts.get().writes),
-        "flushes" => got.number(screen.counts.get().flushes),
-        "writes_over_bytes" => {
+pub fn look_at(screen: &Screen, step: &str, at: At, got: &mut Got) -> Result<bool, Bad> {
+    match headed(step) {
+        ("shows", "") => got.text(screen.contents()?.as_str()),
+        ("picture", "") => got.rows(&screen.picture()?),
+        ("rows", "") => got.rows(filled(&screen.picture()?)),
+        ("cursor", "") => push_cursor(screen.cursor(), got),
+        ("written", "") => screen.push_written(got),
+        ("bytes", "") => got.number(screen.counts.get().bytes),
+        ("writes", "") => got.number(screen.counts.get().writes),
+        ("flushes", "") => got.number(screen.counts.get().flushes),
+        ("writes_over_bytes", "") => {
             let Counts { bytes, writes, .. } = screen.counts.get();
             got.number(writes.saturating_sub(bytes));
         }
-        "row_count" => push_count(screen.contents(), got),
-        _ => return named(screen, headed(step), at, got),
+        ("row_count", "") => got.number(screen.contents()?.as_str().split('\n').count()),
+        ("row", row) => push_row(screen, number(row)?, got)?,
+        ("feed", text) => feed(screen, &unescaped_bytes(at.alloc, text)?)?,
+        ("ends", text) => push_ends(screen, unescaped(at.alloc, text)?.as_str(), got)?,
+        (name, rest) => return limit(screen, name, rest),
     }
-    true
+    Ok(true)
 }
 
-/// Appends the number of rows of a text.
-fn push_count(contents: Result<String, Refusal>, got: &mut Got) {
-    match contents {
-        Ok(contents) => got.number(contents.as_str().split('\n').count()),
-        Err(refusal) => got.bad(Bad::Refused(refusal)),
+/// Appends the row and the column of a cursor, if there is one.
+fn push_cursor(cursor: Option<(u16, u16)>, got: &mut Got) {
+    if let Some((row, column)) = cursor {
+        got.number(format_args!("{row} {column}"));
     }
 }
 
 /// `row N`: a row of the window, counted from 1; nothing past its end.
-fn push_row(screen: &Screen, number_of_row: &str, got: &mut Got) {
-    match (number::<usize>(number_of_row), screen.contents()) {
-        (Ok(row), Ok(contents)) => {
-            let before = row.saturating_sub(1);
-            got.text(contents.as_str().split('\n').nth(before).unwrap_or(""));
-        }
-        (Err(bad), _) => got.bad(bad),
-        (_, Err(refusal)) => got.bad(Bad::Refused(refusal)),
-    }
-}
-
-/// Appends the rows up to the last one that isn't empty.
-pub fn push_filled(rows: Result<Vec<String>, Refusal>, got: &mut Got) {
-    match rows {
-        Ok(rows) => got.rows(filled(&rows)),
-        Err(refusal) => got.bad(Bad::Refused(refusal)),
-    }
+fn push_row(screen: &Screen, row: usize, got: &mut Got) -> Result<(), Bad> {
+    let contents = screen.contents()?;
+    let before = row.saturating_sub(1);
+    got.text(contents.as_str().split('\n').nth(before).unwrap_or(""));
+    Ok(())
 }
 
 /// The rows up to the last one that isn't empty.
@@ -344,28 +315,15 @@ pub fn filled(rows: &[String]) -> &[String] {
     rows.get(..count).unwrap_or(rows)
 }
 
-/// Reads a row, or the end of the rows; puts bytes there, or makes the writer fail; whether the step asks for that.
-fn named(screen: &Screen, (name, rest): (&str, &str), at: At, got: &mut Got) -> bool {
-    match name {
-        "row" => push_row(screen, rest, got),
-        "feed" => feed(screen, rest, at, got),
-        "ends" => push_ends(screen, rest, at, got),
-        _ => return limit(screen, name, rest, got),
-    }
-    true
-}
-
 /// `ends TEXT`: whether the rows of this text are the last ones down to the cursor's.
-fn push_ends(screen: &Screen, text: &str, at: At, got: &mut Got) {
-    match (unescaped(at.alloc, text), screen.picture(), screen.cursor()) {
-        (Ok(text), Ok(rows), Some((row, _))) => {
-            let rows = rows.get(..=usize::from(row)).unwrap_or(&rows);
-            got.flag(are_last(rows, text.as_str()));
-        }
-        (Err(bad), _, _) => got.bad(bad),
-        (_, Err(refusal), _) => got.bad(Bad::Refused(refusal)),
-        (_, _, None) => got.bad(Bad::Step),
-    }
+fn push_ends(screen: &Screen, text: &str, got: &mut Got) -> Result<(), Bad> {
+    let Some((row, _)) = screen.cursor() else {
+        return Err(Bad::Step);
+    };
+    let rows = screen.picture()?;
+    let rows = rows.get(..=usize::from(row)).unwrap_or(&rows);
+    got.flag(are_last(rows, text));
+    Ok(())
 }
 
 /// Whether the last of these rows are those of a text.
@@ -382,48 +340,38 @@ fn are_last(rows: &[String], text: &str) -> bool {
 }
 
 /// `feed TEXT`: bytes from elsewhere.
-fn feed(screen: &Screen, text: &str, at: At, got: &mut Got) {
-    match unescaped_bytes(at.alloc, text) {
-        Ok(bytes) => {
-            if screen.feed(&bytes).is_err() {
-                got.bad(Bad::Step);
-            }
-        }
-        Err(bad) => got.bad(bad),
+fn feed(screen: &Screen, bytes: &[u8]) -> Result<(), Bad> {
+    match screen.feed(bytes) {
+        Ok(()) => Ok(()),
+        Err(_) => Err(Bad::Step),
     }
 }
 
 /// `takes N`: a call of the writer takes at most N bytes. `fails_call N`: the Nth of its calls from now on fails, flushes included. `halts
-/// AT KIND TIMES`: calls halt after AT bytes.
-fn limit(screen: &Screen, name: &str, rest: &str, got: &mut Got) -> bool {
+/// AT KIND TIMES`: calls halt after AT bytes. Whether the step is one of these.
+fn limit(screen: &Screen, name: &str, rest: &str) -> Result<bool, Bad> {
     let mut words = Words::of(rest);
     let mut limits = screen.limits.get();
     match name {
-        "takes" => limits.takes = words.last(),
-        "fails_call" => limits.fails_call = words.last(),
+        "takes" => limits.takes = words.number()?,
+        "fails_call" => limits.fails_call = words.number()?,
         "halts" => {
-            limits.halts_at = words.number();
-            limits.halt = next_halt(&mut words);
-            limits.halts = words.last();
+            limits.halts_at = words.number()?;
+            limits.halt = halt_of(words.word())?;
+            limits.halts = words.number()?;
         }
-        _ => return false,
+        _ => return Ok(false),
     }
-    match words.done(()) {
-        Ok(()) => screen.limits.set(limits),
-        Err(bad) => got.bad(bad),
-    }
-    true
+    screen.limits.set(limits);
+    Ok(true)
 }
 
-/// The way to halt of the next word: `nothing`, `BrokenPipe` or `Interrupted`.
-fn next_halt(words: &mut Words<'_>) -> Halt {
-    match words.word() {
-        "nothing" => Halt::Nothing,
-        "BrokenPipe" => Halt::Failure(ErrorKind::BrokenPipe),
-        "Interrupted" => Halt::Failure(ErrorKind::Interrupted),
-        _ => {
-            words.spoil();
-            Halt::Nothing
-        }
+/// The way to halt of a word.
+fn halt_of(word: &str) -> Result<Halt, Bad> {
+    match word {
+        "nothing" => Ok(Halt::Nothing),
+        "BrokenPipe" => Ok(Halt::Failure(ErrorKind::BrokenPipe)),
+        "Interrupted" => Ok(Halt::Failure(ErrorKind::Interrupted)),
+        _ => Err(Bad::Step),
     }
 }

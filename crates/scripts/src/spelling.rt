@@ -1,6 +1,6 @@
 //! Numbers and escapes.
 use crate::got::Bad;
-use std::alloc::{AllocError, Global};
+use std::alloc::Global;
 use std::fmt;
 use std::str::FromStr;
 
@@ -17,10 +17,9 @@ where
 
 /// A number, or `-` for none.
 pub fn optional(text: &str) -> Result<Option<u64>, Bad> {
-    match (text, number(text)) {
-        ("-", _) => Ok(None),
-        (_, Ok(number)) => Ok(Some(number)),
-        (_, Err(bad)) => Err(bad),
+    match text {
+        "-" => Ok(None),
+        _ => Ok(Some(number(text)?)),
     }
 }
 
@@ -36,106 +35,82 @@ pub fn flag(text: &str) -> Result<bool, Bad> {
 /// The text with its escapes replaced: `\n`, `\t`, `\r`, `\0`, `\e`, `\s` for a space, `\u{HEX}` for a character, `\xHH` for a byte, and
 /// `\\`.
 pub fn unescaped(alloc: Global, text: &str) -> Result<String, Bad> {
-    match unescaped_bytes(alloc, text) {
-        Ok(bytes) => match String::from_utf8(bytes) {
-            Ok(text) => Ok(text),
-            Err(_) => Err(Bad::Step),
-        },
-        Err(bad) => Err(bad),
+    match String::from_utf8(unescaped_bytes(alloc, text)?) {
+        Ok(text) => Ok(text),
+        Err(_) => Err(Bad::Step),
     }
 }
 
 /// The bytes of a text with its escapes replaced, which may not be UTF-8.
 pub fn unescaped_bytes(alloc: Global, text: &str) -> Result<Vec<u8>, Bad> {
     let mut bytes = Vec::new(alloc);
-    let mut place = Place::Plain;
-    for c in text.chars() {
-        place = read(place, c, &mut bytes);
+    let mut rest = text;
+    for _ in 0..text.len() {
+        let (plain, escape) = match rest.split_once('\\') {
+            Some(parts) => parts,
+            None => break,
+        };
+        bytes.extend_from_slice(plain.as_bytes())?;
+        rest = push_escape(escape, &mut bytes)?;
     }
-    match place {
-        Place::Plain => Ok(bytes),
-        _ => Err(Bad::Step),
-    }
+    bytes.extend_from_slice(rest.as_bytes())?;
+    Ok(bytes)
 }
 
-/// The place in an escape.
-#[derive(Clone, Copy)]
-enum Place {
-    /// Outside.
-    Plain,
-    /// After a backslash.
-    Begun,
-    /// After `\u`.
-    Named,
-    /// After `\u{` and the digits of this number.
-    Number(u32),
-    /// After `\x`.
-    Byte,
-    /// After `\x` and this digit.
-    HalfByte(u32),
-    /// After an invalid escape, or one that there was no memory for.
-    Lost,
+/// Appends what the escape at the front of a text stands for, behind its backslash; the text behind it.
+fn push_escape<'a>(text: &'a str, bytes: &mut Vec<u8>) -> Result<&'a str, Bad> {
+    let mut chars = text.chars();
+    let byte = match chars.next() {
+        Some('u') => return push_char(chars.as_str(), bytes),
+        Some('x') => return push_byte(chars.as_str(), bytes),
+        Some('n') => b'\n',
+        Some('t') => b'\t',
+        Some('r') => b'\r',
+        Some('0') => 0,
+        Some('e') => 0x1B,
+        Some('s') => b' ',
+        Some('\\') => b'\\',
+        _ => return Err(Bad::Step),
+    };
+    bytes.push(byte)?;
+    Ok(chars.as_str())
 }
 
-/// Reads a character at a place, and appends the character or byte that ends with it.
-fn read(place: Place, c: char, bytes: &mut Vec<u8>) -> Place {
-    match (place, c) {
-        (Place::Plain, '\\') => Place::Begun,
-        (Place::Plain, c) => push(Some(c), bytes),
-        (Place::Begun, 'u') => Place::Named,
-        (Place::Begun, 'x') => Place::Byte,
-        (Place::Begun, c) => push(lettered(c), bytes),
-        (Place::Named, '{') => Place::Number(0),
-        (Place::Number(number), '}') => push(char::from_u32(number), bytes),
-        (Place::Number(_) | Place::Byte | Place::HalfByte(_), c) => read_digit(place, c, bytes),
-        _ => Place::Lost,
-    }
-}
-
-fn read_digit(place: Place, c: char, bytes: &mut Vec<u8>) -> Place {
-    match (place, c.to_digit(16)) {
-        (Place::Number(number), Some(digit)) => {
-            Place::Number(number.saturating_mul(16).saturating_add(digit))
-        }
-        (Place::Byte, Some(digit)) => Place::HalfByte(digit),
-        (Place::HalfByte(first), Some(digit)) => {
-            match u8::try_from(first.saturating_mul(16).saturating_add(digit)) {
-                Ok(byte) => pushed(bytes.extend_from_slice(&[byte])),
-                Err(_) => Place::Lost,
-            }
-        }
-        _ => Place::Lost,
-    }
-}
-
-/// Appends a character, if there is one.
-fn push(c: Option<char>, bytes: &mut Vec<u8>) -> Place {
+/// Appends the character with the number between braces.
+fn push_char<'a>(text: &'a str, bytes: &mut Vec<u8>) -> Result<&'a str, Bad> {
+    let Some((digits, behind)) = text.split_once('}') else {
+        return Err(Bad::Step);
+    };
+    let Some(digits) = digits.strip_prefix('{') else {
+        return Err(Bad::Step);
+    };
+    let Some(c) = char::from_u32(hexadecimal(digits)?) else {
+        return Err(Bad::Step);
+    };
     let mut buffer = [0; 4];
-    match c {
-        Some(c) => pushed(bytes.extend_from_slice(c.encode_utf8(&mut buffer).as_bytes())),
-        None => Place::Lost,
-    }
+    bytes.extend_from_slice(c.encode_utf8(&mut buffer).as_bytes())?;
+    Ok(behind)
 }
 
-fn pushed(done: Result<(), AllocError>) -> Place {
-    match done {
-        Ok(()) => Place::Plain,
-        Err(_) => Place::Lost,
-    }
+/// Appends the byte with the number of two digits.
+fn push_byte<'a>(text: &'a str, bytes: &mut Vec<u8>) -> Result<&'a str, Bad> {
+    let (Some(digits), Some(behind)) = (text.get(..2), text.get(2..)) else {
+        return Err(Bad::Step);
+    };
+    let [byte, _, _, _] = hexadecimal(digits)?.to_le_bytes();
+    bytes.push(byte)?;
+    Ok(behind)
 }
 
-/// The character of the escape with this letter.
-fn lettered(letter: char) -> Option<char> {
-    match letter {
-        'n' => Some('\n'),
-        't' => Some('\t'),
-        'r' => Some('\r'),
-        '0' => Some('\0'),
-        'e' => Some('\u{1B}'),
-        's' => Some(' '),
-        '\\' => Some('\\'),
-        _ => None,
+fn hexadecimal(digits: &str) -> Result<u32, Bad> {
+    let mut number: u32 = 0;
+    for c in digits.chars() {
+        match c.to_digit(16) {
+            Some(digit) => number = number.saturating_mul(16).saturating_add(digit),
+            None => return Err(Bad::Step),
+        }
     }
+    Ok(number)
 }
 
 /// A text with its escapes, as in rows. Format options are ignored.

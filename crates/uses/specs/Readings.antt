@@ -30,3 +30,7 @@ logged_rows w text = flat_map (rows_of w) (text_lines (logged_lines text))
 -- rows stand among others, one right below the other
 abbrev pub StandAmong : List (List Cell) → List (List Cell) → Type 0
 StandAmong rows all = (front : List (List Cell)) × (rest : List (List Cell)) × (all ≡ front ++ rows ++ rest)
+
+-- rows stand among others, and these further down
+abbrev pub StandInOrder : List (List Cell) → List (List Cell) → List (List Cell) → Type 0
+StandInOrder rows later all = (front : List (List Cell)) × (between : List (List Cell)) × (rest : List (List Cell)) × (all ≡ front ++ rows ++ between ++ later ++ rest)

@@ -44,12 +44,12 @@ pub fn kept_of_a_clear(alloc: Global) -> Result<usize, Refusal>
     }
 }
 
-/// Clears the rows of a board with a history. The board makes the call itself, so the answer is that of a draw, and never `Done`.
+/// Clears the rows of a board with a history. The board makes the call itself, so the answer is that of a draw, and never `Accepted`.
 pub fn answer_of_a_clear<K: ProgressTracker, T: TermLike + Drop>(
     history: &mut Recorded<K, T>,
     now: Moment,
 ) -> Answer
-    ensures { result ≢ Answer.Done }
+    ensures { result ≢ Answer.Accepted }
 {
     history.replays();
     history.apply(Call::Clear, now).0
@@ -113,8 +113,8 @@ pub fn unforced_are_few<K: ProgressTracker, T: TermLike + Drop>(history: &Record
     what_a_history_says::<K, T>();
 }
 
-/// The texts of the rows of a board's terminal. If it showed an opening when the history began, the history is a run on it, and no call was
-/// broken off, they are the untouched rows and those of the run's lists.
+/// The texts of the rows of a board's terminal. If it showed an opening when the history began, the history is a run on it, no call was
+/// broken off, and all texts are plain, they are the untouched rows and those of the run's lists.
 ///
 /// Refused: `Memory`, also if the board is hidden.
 pub fn picture_kept<K: ProgressTracker>(

@@ -53,7 +53,7 @@ pub fn taken_back_alone<
 }
 
 /// The history of a board that was shared, where this is its only owner. Whichever threads called: if the board began with twenty draws a
-/// second, it has made at most 20 that weren't forced, and one more for each 50 milliseconds.
+/// second, it has made at most 20 that weren't forced, and one more for each 50 milliseconds from the limiter's making to the last of them.
 pub fn history_of<T: TermLike + Drop, C: Clock + Drop, R: Wait + Clone + Drop, K: ProgressTracker>(
     board: MultiProgress<T, C, R, K>,
 ) -> Option<Recorded<K, T>>

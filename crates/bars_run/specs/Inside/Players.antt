@@ -13,8 +13,8 @@ use Rattle.bars_run.specs.declared.arguments.Asked.{Asked}
 use Rattle.bars_run.specs.declared.fault.Fault.{Fault}
 use Rattle.bars_run.specs.declared.fault.Fault.TheVariants.{BadCommand, Line}
 use Rattle.bars_run.specs.Arguments.{HasCells}
-use Rattle.bars_run.specs.Commands.{Spelled, lines_of, spelled, each}
-use Rattle.bars_run.specs.Plays.{Bar, Step, machine, sizing, step_of, script_of, played, rows_after, any_refused, SizesHaveCells, IsPlain}
+use Rattle.bars_run.specs.Commands.{Spelled, input_lines, spelled, each}
+use Rattle.bars_run.specs.Plays.{Bar, Step, machine, sizing, script_step, script_of, script_outcome, rows_after, any_refused, SizesHaveCells, IsPlain}
 
 -- a board in memory
 abbrev pub Played : Type 0
@@ -37,7 +37,7 @@ Makes step old new =
 
 -- a command has a step, and that was made
 abbrev pub Obeys : Spelled → Played → Played → Type 0
-Obeys command old new = (step : Step) × (step_of command ≡ Some step) × Makes step old new
+Obeys command old new = (step : Step) × (script_step command ≡ Some step) × Makes step old new
 
 -- these lines were played on a new board, and no call was refused
 pub record HasPlayed (asked : Asked) (lines : List (List ℕ)) (b : Played) : Type 0 where
@@ -46,7 +46,7 @@ pub record HasPlayed (asked : Asked) (lines : List (List ℕ)) (b : Played) : Ty
   pub commands : List Spelled
   pub commands_are : each spelled lines ≡ Some commands
   pub steps : List Step
-  pub steps_are : each step_of commands ≡ Some steps
+  pub steps_are : each script_step commands ≡ Some steps
   -- the steps with their answers
   pub made : List Step
   pub made_are : map unanswered made ≡ script_of asked steps
@@ -58,12 +58,12 @@ pub record HasPlayed (asked : Asked) (lines : List (List ℕ)) (b : Played) : Ty
 -- the rows that stand after the lines of an input were played
 pub record Stands (asked : Asked) (input : List ℕ) (texts : List (List ℕ)) : Type 0 where
   pub commands : List Spelled
-  pub commands_are : each spelled (lines_of input) ≡ Some commands
+  pub commands_are : each spelled (input_lines input) ≡ Some commands
   pub steps : List Step
-  pub steps_are : each step_of commands ≡ Some steps
+  pub steps_are : each script_step commands ≡ Some steps
   pub cells : HasCells asked.size
   pub sizes : SizesHaveCells steps
-  pub done : IsFalse (any_refused (played asked steps).0)
+  pub done : IsFalse (any_refused (script_outcome asked steps).0)
   pub shown : All IsPlain commands → (blank : ℕ) × (texts ≡ map row_text (rows_after asked steps) ++ replicate blank [])
 
 -- why the line with this number wasn't played

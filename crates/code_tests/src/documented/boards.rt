@@ -2,7 +2,9 @@
 use crate::checks::Granted;
 use indicatif_bar::state::{BarCommand, BarState};
 use indicatif_bar::style::{NoTracker, ProgressStyle};
-use indicatif_board::multi::{Answer, BarId, Board, Call, Candidate, InsertLocation};
+use indicatif_board::multi::{
+    Answer, BarId, Board, Call, Candidate, Entry, InsertLocation, Recorded, Size,
+};
 use indicatif_term::cells::InMemoryTerm;
 use indicatif_term::target::ProgressDrawTarget;
 use indicatif_text::columns::{Drawn, Refusal};
@@ -112,17 +114,46 @@ fn answers_of_calls(rt: HostRuntime) {
     same!(rt; board.bar(id).granted(rt).message(), "copying");
     log_and_clear(rt, alloc, &mut board);
     let (answer, removed) = board.apply(Call::Remove(id), now);
-    same!(rt; answer, Answer::Done);
+    same!(rt; answer, Answer::Accepted);
     holds!(rt; removed.is_some());
-    same!(rt; board.call(Call::Remove(id), now), Answer::Done);
+    same!(rt; board.call(Call::Remove(id), now), Answer::Accepted);
 }
 
 fn log_and_clear(rt: &impl Abort, alloc: Global, board: &mut Bars) {
     let now = 0;
     let text = String::from_str(alloc, "log").granted(rt);
     same!(rt; board.call(Call::Log(text), now), Answer::Drawn(Drawn::Yes));
+    let call = Call::<NoTracker>::Clear;
+    let again = call.try_clone(alloc).granted(rt);
+    same!(rt; board.call(again, now), Answer::Drawn(Drawn::Yes));
     let answer = board.call(Call::Clear, now);
     let again = answer.same();
     same!(rt; answer, Answer::Drawn(Drawn::Yes));
     same!(rt; again, Answer::Drawn(Drawn::Yes));
+}
+
+/// A history that begins on a terminal with a rate, and one with an entry.
+#[test]
+fn histories(rt: HostRuntime) {
+    let rt = &rt;
+    let (alloc, now) = (rt.alloc(), 5);
+    let term = InMemoryTerm::new(alloc, 4, 10).granted(rt);
+    let target = ProgressDrawTarget::term_like_with_hz(term, 20, 0).granted(rt);
+    let record: Recorded<NoTracker, _> = Recorded::new(alloc, target, 7);
+    same!(rt; record.opening().size, Some(Size { columns: 10, rows: 4 }));
+    let opening = record.opening();
+    same!(rt; (opening.mark, opening.limiter.is_some()), (7, true));
+    let term = InMemoryTerm::new(alloc, 4, 10).granted(rt);
+    let mut record = Recorded::new(alloc, ProgressDrawTarget::term_like(term), 1);
+    let (answer, none) = record.apply(Call::Clear, now);
+    let recorded = record.entries();
+    is_one_entry(rt, recorded, &answer);
+}
+
+/// Ends the test if there are other entries than one with this answer.
+fn is_one_entry(rt: &impl Abort, entries: &[Entry<NoTracker>], answer: &Answer) {
+    match entries {
+        [entry] => same!(rt; &entry.answer, answer),
+        _ => same!(rt; entries.len(), 1),
+    }
 }

@@ -2,7 +2,8 @@
 use crate::checks::Granted;
 use indicatif_term::cells::InMemoryTerm;
 use indicatif_term::target::{
-    DEFAULT_RATE, Engine, Keep, LineType, MultiProgressAlignment, RateLimiter, Segment,
+    DEFAULT_RATE, Engine, Keep, LineType, MultiProgressAlignment, ProgressDrawTarget, RateLimiter,
+    Segment,
 };
 use std::alloc::Global;
 use std::process::Abort;
@@ -68,4 +69,13 @@ fn draws_of_a_limiter(rt: HostRuntime) {
     same!(rt; count, 20);
     let mut copied = before;
     holds!(rt; !copied.allow(0));
+}
+
+#[test]
+fn engine_of_a_target(rt: HostRuntime) {
+    let rt = &rt;
+    let alloc = rt.alloc();
+    let term = InMemoryTerm::new(alloc, 2, 3).granted(rt);
+    let (engine, limiter) = Engine::opened_on(alloc, ProgressDrawTarget::term_like(term));
+    same!(rt; (engine.is_some(), limiter.is_some()), (true, false));
 }

@@ -4,36 +4,23 @@ use indicatif_term::cells::{Cells, InMemoryTerm};
 use indicatif_term::target::{Resize, TermLike};
 
 #[test]
-fn terminals_with_nothing_on_them(rt: HostRuntime) {
+fn cells_after_bytes(rt: HostRuntime) {
     let rt = &rt;
     let cells = Cells::new(rt.alloc(), 65535, 65535).granted(rt);
     same!(rt; cells.cursor(), (0, 0));
     let term = InMemoryTerm::new(rt.alloc(), 24, 80).granted(rt);
     same!(rt; term.cursor(), (0, 0));
-}
-
-#[test]
-fn cells_after_bytes(rt: HostRuntime) {
-    let rt = &rt;
     let mut cells = Cells::new(rt.alloc(), 2, 4).granted(rt);
     cells.feed(b"ab\r\ncd\x1B[1A!").granted(rt);
     same!(rt; cells.cursor(), (0, 3));
-}
-
-#[test]
-fn cells_of_a_full_row_and_of_a_scrolled_one(rt: HostRuntime) {
-    let rt = &rt;
+    // a full row, and one that scrolled away
     let mut cells = Cells::new(rt.alloc(), 2, 2).granted(rt);
     cells.feed(b"ab").granted(rt);
     same!(rt; cells.cursor(), (0, 2));
     let mut cells = Cells::new(rt.alloc(), 1, 3).granted(rt);
     cells.feed(b"a\r\nb ").granted(rt);
     same!(rt; cells.cursor(), (0, 2));
-}
-
-#[test]
-fn cells_with_written_spaces(rt: HostRuntime) {
-    let rt = &rt;
+    // written spaces
     let mut cells = Cells::new(rt.alloc(), 3, 3).granted(rt);
     cells.feed(b"a \r\n ").granted(rt);
     same!(rt; cells.cursor(), (1, 1));
@@ -72,22 +59,13 @@ fn texts_and_moves_of_a_terminal(rt: HostRuntime) {
     same!(rt; term.cursor(), (0, 0));
     term.write_str("a  \r\n\r\n ").granted(rt);
     same!(rt; term.cursor(), (2, 1));
-}
-
-#[test]
-fn character_behind_a_full_row(rt: HostRuntime) {
-    let rt = &rt;
+    // a character behind a full row
     let mut term = InMemoryTerm::new(rt.alloc(), 2, 2).granted(rt);
     term.write_str("ab").granted(rt);
     same!(rt; term.cursor(), (0, 2));
     term.write_str("c").granted(rt);
     same!(rt; term.cursor(), (1, 1));
-}
-
-/// A row that is emptied, and then one that scrolls away.
-#[test]
-fn rows_that_go(rt: HostRuntime) {
-    let rt = &rt;
+    // a row that is emptied, and then one that scrolls away
     let mut term = InMemoryTerm::new(rt.alloc(), 2, 3).granted(rt);
     term.write_line("ab").granted(rt);
     term.move_cursor_up(1).granted(rt);
@@ -95,11 +73,7 @@ fn rows_that_go(rt: HostRuntime) {
     same!(rt; term.cursor(), (0, 0));
     term.write_str("a\r\nb\r\nc").granted(rt);
     same!(rt; term.cursor(), (1, 1));
-}
-
-#[test]
-fn terminal_of_a_new_size(rt: HostRuntime) {
-    let rt = &rt;
+    // another size
     let mut term = InMemoryTerm::new(rt.alloc(), 4, 10).granted(rt);
     term.write_str("progress").granted(rt);
     term.resize(4, 5).granted(rt);

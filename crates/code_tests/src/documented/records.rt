@@ -1,8 +1,8 @@
-//! Examples of a bar's record, its style and a tracker. `values` has those of spare lines, `keyed` that of your own key.
+//! Examples of a bar's record, its style and a tracker. `spare_lines` has those of a room of lines, `shared_keys` that of a key of one's own.
 ghost use Rattle.std.specs.Prelude.{◌-◌, if◌then◌else◌, codes, decimal, nat_lt, string_bytes};
 
 use crate::checks::Granted;
-use crate::values::is_shown;
+use crate::spare_lines::is_shown;
 use indicatif_bar::state::{Ask, BarCommand, BarState, Change, ProgressFinish, ProgressState};
 use indicatif_bar::style::{FnTracker, NoTracker, ProgressStyle, ProgressTracker, TellsText};
 use indicatif_text::columns::{Moment, Refusal};

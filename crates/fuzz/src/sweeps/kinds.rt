@@ -6,9 +6,9 @@ use indicatif_text::columns::Refusal;
 use scripts::judged::judge::{Finding, Judge};
 use scripts::judged::on_bar::OnBar;
 use scripts::judged::on_board::OnBoard;
-use scripts::judged::played::{Stage, played};
+use scripts::judged::played::{Caller, played};
 use scripts::judged::record::{Behind, Point, Record, Size};
-use scripts::judged::refused::Stages;
+use scripts::judged::refused::Callers;
 use scripts::judged::script::{BOARD, LONE, SHARED, SIZED_BOARD, SIZED_LONE, Said, Step};
 use std::rc::Rc;
 use std::sync::Wait;
@@ -98,25 +98,25 @@ impl<R: Wait + Copy + Clone + Drop> Drop for Player<R> {
     }
 }
 
-impl<R: Wait + Copy + Clone + Drop> Stage for Player<R> {
+impl<R: Wait + Copy + Clone + Drop> Caller for Player<R> {
     fn make(&mut self, step: Step) -> Said {
         match self {
-            Player::Board(stage) => stage.make(step),
-            Player::Bar(stage) => stage.make(step),
-            Player::Shared(stage) => stage.make(step),
-            Player::Loop(stage) => stage.goes_on(),
+            Player::Board(caller) => caller.make(step),
+            Player::Bar(caller) => caller.make(step),
+            Player::Shared(caller) => caller.make(step),
+            Player::Loop(caller) => caller.goes_on(),
         }
     }
 
     fn order(&self) -> &[u64] {
         match self {
-            Player::Board(stage) => stage.order(),
+            Player::Board(caller) => caller.order(),
             Player::Bar(_) | Player::Shared(_) | Player::Loop(_) => &[],
         }
     }
 }
 
-/// Makes the stages of a kind, on terminals of a size.
+/// Makes the callers of a kind, on terminals of a size.
 #[derive(Drop)]
 pub struct Players<R> {
     pub rt: R,
@@ -124,7 +124,7 @@ pub struct Players<R> {
     pub size: Size,
 }
 
-impl<R: Runs> Stages for Players<R> {
+impl<R: Runs> Callers for Players<R> {
     type Made = Player<R>;
 
     fn on(&self, record: &Rc<Record>) -> Result<Player<R>, Refusal> {
@@ -153,19 +153,19 @@ pub fn run<R: Runs>(rt: R, case: Case) -> Result<(u64, Point), Finding> {
     let Case { kind, size, .. } = case;
     let record = Record::new(rt.alloc(), case.plan, ROOM)?;
     let mut judge = Judge::new(rt.alloc(), size, case.look)?;
-    let mut stage = Players { rt, kind, size }.on(&record)?;
-    judged(&mut stage, &record, kind, &mut judge)
+    let mut caller = Players { rt, kind, size }.on(&record)?;
+    judged(&mut caller, &record, kind, &mut judge)
 }
 
-fn judged<S: Stage>(
-    stage: &mut S,
+fn judged<S: Caller>(
+    caller: &mut S,
     record: &Record,
     kind: Kind,
     judge: &mut Judge,
 ) -> Result<(u64, Point), Finding> {
-    let failed = played(stage, record, kind.script(), judge)?;
+    let failed = played(caller, record, kind.script(), judge)?;
     let point = record.point();
     record.heal();
-    played(stage, record, kind.last(), judge)?;
+    played(caller, record, kind.last(), judge)?;
     Ok((failed, point))
 }

@@ -5,7 +5,7 @@ use crate::sweeps::sweep::Runs;
 use indicatif_text::columns::Refusal;
 use scripts::judged::judge::Finding;
 use scripts::judged::record::{Plan, Record, Size};
-use scripts::judged::refused::{Notes, Run, Stages, Where, noted};
+use scripts::judged::refused::{Callers, Notes, Run, Where, noted};
 use std::alloc::Global;
 use std::rc::Rc;
 
@@ -30,25 +30,25 @@ pub fn record_of(alloc: Global, room: usize) -> Result<Rc<Record>, Refusal> {
     }
 }
 
-/// Plays a script, and notes what its calls do; whether there was memory for its stage.
-fn note<M: Stages>(stages: &M, record: &Rc<Record>, notes: &mut Notes) -> Result<bool, Finding> {
-    let mut stage = match stages.on(record) {
-        Ok(stage) => stage,
+/// Plays a script, and notes what its calls do; whether there was memory for its caller.
+fn note<M: Callers>(callers: &M, record: &Rc<Record>, notes: &mut Notes) -> Result<bool, Finding> {
+    let mut caller = match callers.on(record) {
+        Ok(caller) => caller,
         Err(Refusal::Memory) => return Ok(false),
         Err(_) => return Err(Finding::Answer),
     };
-    noted(&mut stage, record, stages.script(), notes)?;
+    noted(&mut caller, record, callers.script(), notes)?;
     Ok(true)
 }
 
 /// Plays a script, and judges it; again if the judge gets no memory.
-fn played_by<M: Stages>(alloc: Global, stages: &M, playing: &Playing) -> Result<Where, Finding> {
+fn played_by<M: Callers>(alloc: Global, callers: &M, playing: &Playing) -> Result<Where, Finding> {
     let record = record_of(alloc, playing.room)?;
     let mut notes = match Notes::new(alloc) {
         Ok(notes) => notes,
         Err(_) => Notes::new(alloc)?,
     };
-    if !note(stages, &record, &mut notes)? {
+    if !note(callers, &record, &mut notes)? {
         return Ok(Where::Unmade);
     }
     if !playing.is_judged {
@@ -57,7 +57,7 @@ fn played_by<M: Stages>(alloc: Global, stages: &M, playing: &Playing) -> Result<
     let run = Run {
         alloc,
         size: playing.size,
-        stages,
+        callers,
         record: &record,
         notes: &notes,
     };

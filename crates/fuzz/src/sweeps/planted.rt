@@ -4,7 +4,7 @@ use crate::sweeps::sweep::{LARGEST, Runs};
 use indicatif_text::columns::{Drawn, Refusal};
 use scripts::judged::judge::Finding;
 use scripts::judged::on_board::OnBoard;
-use scripts::judged::played::Stage;
+use scripts::judged::played::Caller;
 use scripts::judged::record::{Behind, Plan, Record, Size, Wire};
 use scripts::judged::refused::{Notes, Run, Where, noted};
 use scripts::judged::script::{Said, Step};
@@ -36,65 +36,60 @@ pub struct Planted {
 /// The answer of a call that got no memory.
 const REFUSED: Said = Err(Refusal::Memory);
 
+/// A wrong body whose call says that it got no memory.
+macro_rules! refused {
+    ($kind:ident, $at:expr, $name:expr, $body:expr) => {
+        Planted {
+            name: $name,
+            kind: Kind::$kind,
+            at: &$at,
+            body: $body,
+            said: REFUSED,
+        }
+    };
+}
+
 /// The first two do what a call that gets no memory may do: nothing, or what it does before its draw. The last six are for a script with
 /// sizes: a draw without lines comes before the calls with the numbers 29 to 32, so that rows are kept.
 pub const PLANTED: &[Planted] = &[
-    Planted {
-        name: "a draw does nothing",
-        kind: Kind::Board,
-        at: &[4],
-        body: Body::Nothing,
-        said: REFUSED,
-    },
-    Planted {
-        name: "a message is set",
-        kind: Kind::Board,
-        at: &[8],
-        body: Body::Makes(Step::Told(2, "c")),
-        said: REFUSED,
-    },
-    Planted {
-        name: "a draw writes a byte first",
-        kind: Kind::Board,
-        at: &[4],
-        body: Body::Writes("\r"),
-        said: REFUSED,
-    },
-    Planted {
-        name: "a draw empties a row above",
-        kind: Kind::Board,
-        at: &[4],
-        body: Body::Writes("\x1B[9A\r\x1B[2K"),
-        said: REFUSED,
-    },
-    Planted {
-        name: "a bar is taken in",
-        kind: Kind::Board,
-        at: &[2],
-        body: Body::Makes(Step::Add("bb")),
-        said: REFUSED,
-    },
-    Planted {
-        name: "a bar is taken out",
-        kind: Kind::Board,
-        at: &[13],
-        body: Body::Makes(Step::Remove(0)),
-        said: REFUSED,
-    },
-    Planted {
-        name: "a bar is told to keep its rows",
-        kind: Kind::Board,
-        at: &[10],
-        body: Body::Makes(Step::Keep(1)),
-        said: REFUSED,
-    },
-    Planted {
-        name: "another message is set",
-        kind: Kind::Board,
-        at: &[8],
-        body: Body::Makes(Step::Told(2, "z")),
-        said: REFUSED,
-    },
+    refused!(Board, [4], "a draw does nothing", Body::Nothing),
+    refused!(
+        Board,
+        [8],
+        "a message is set",
+        Body::Makes(Step::Told(2, "c"))
+    ),
+    refused!(Board, [4], "a draw writes a byte first", Body::Writes("\r")),
+    refused!(
+        Board,
+        [4],
+        "a draw empties a row above",
+        Body::Writes("\x1B[9A\r\x1B[2K")
+    ),
+    refused!(
+        Board,
+        [2],
+        "a bar is taken in",
+        Body::Makes(Step::Add("bb"))
+    ),
+    refused!(
+        Board,
+        [13],
+        "a bar is taken out",
+        Body::Makes(Step::Remove(0))
+    ),
+    refused!(
+        Board,
+        [10],
+        "a bar is told to keep its rows",
+        Body::Makes(Step::Keep(1))
+    ),
+    refused!(
+        Board,
+        [8],
+        "another message is set",
+        Body::Makes(Step::Told(2, "z"))
+    ),
     Planted {
         name: "a log does nothing and says that it drew",
         kind: Kind::Board,
@@ -102,48 +97,27 @@ pub const PLANTED: &[Planted] = &[
         body: Body::Nothing,
         said: Ok(Drawn::Yes),
     },
-    Planted {
-        name: "a size does nothing",
-        kind: Kind::Sized,
-        at: &[2],
-        body: Body::Nothing,
-        said: REFUSED,
-    },
-    Planted {
-        name: "a size is taken",
-        kind: Kind::Sized,
-        at: &[2],
-        body: Body::Makes(WIDE),
-        said: REFUSED,
-    },
-    Planted {
-        name: "two sizes do nothing",
-        kind: Kind::Sized,
-        at: &[2, 7],
-        body: Body::Nothing,
-        said: REFUSED,
-    },
-    Planted {
-        name: "two sizes do nothing while rows are kept",
-        kind: Kind::Sized,
-        at: &[29, 30],
-        body: Body::Nothing,
-        said: REFUSED,
-    },
-    Planted {
-        name: "a size is taken while rows are kept",
-        kind: Kind::Sized,
-        at: &[30],
-        body: Body::Makes(WIDE),
-        said: REFUSED,
-    },
-    Planted {
-        name: "a draw does nothing while rows are kept",
-        kind: Kind::Sized,
-        at: &[32],
-        body: Body::Nothing,
-        said: REFUSED,
-    },
+    refused!(Sized, [2], "a size does nothing", Body::Nothing),
+    refused!(Sized, [2], "a size is taken", Body::Makes(WIDE)),
+    refused!(Sized, [2, 7], "two sizes do nothing", Body::Nothing),
+    refused!(
+        Sized,
+        [29, 30],
+        "two sizes do nothing while rows are kept",
+        Body::Nothing
+    ),
+    refused!(
+        Sized,
+        [30],
+        "a size is taken while rows are kept",
+        Body::Makes(WIDE)
+    ),
+    refused!(
+        Sized,
+        [32],
+        "a draw does nothing while rows are kept",
+        Body::Nothing
+    ),
 ];
 
 /// A size on which the bars have as many rows as on the largest terminal, filled with more blanks.
@@ -158,7 +132,7 @@ struct OnPlanted {
     made: usize,
 }
 
-impl Stage for OnPlanted {
+impl Caller for OnPlanted {
     fn make(&mut self, step: Step) -> Said {
         let at = self.made;
         self.made = at.saturating_add(1);
@@ -189,7 +163,7 @@ pub fn found<R: Runs>(rt: R, planted: &'static Planted) -> Result<Where, Finding
     let record = Record::new(rt.alloc(), Plan::Never, 4096)?;
     let mut notes = Notes::new(rt.alloc())?;
     note(rt.alloc(), planted, &record, &mut notes)?;
-    let stages = Players {
+    let callers = Players {
         rt,
         kind: planted.kind,
         size: LARGEST,
@@ -197,7 +171,7 @@ pub fn found<R: Runs>(rt: R, planted: &'static Planted) -> Result<Where, Finding
     let run = Run {
         alloc: rt.alloc(),
         size: LARGEST,
-        stages: &stages,
+        callers: &callers,
         record: &record,
         notes: &notes,
     };
@@ -211,11 +185,11 @@ fn note(
     record: &Rc<Record>,
     notes: &mut Notes,
 ) -> Result<(), Finding> {
-    let mut stage = OnPlanted {
+    let mut caller = OnPlanted {
         board: OnBoard::new(alloc, LARGEST.terminal(record)?)?,
         record: record.clone()?,
         planted,
         made: 0,
     };
-    noted(&mut stage, record, planted.kind.script(), notes)
+    noted(&mut caller, record, planted.kind.script(), notes)
 }

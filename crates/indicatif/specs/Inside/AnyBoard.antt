@@ -9,7 +9,7 @@ use Rattle.indicatif_term.specs.Lists.{opening_lists}
 use Rattle.indicatif_term.specs.DrawTargets.{term_of, limiter_of}
 use Rattle.indicatif_bar.specs.Trackers.{Tracking}
 use Rattle.indicatif_bar.specs.Commands.{BarRecord}
-use Rattle.indicatif_board.specs.Boards.{BoardState, Id, Location, Entrant, Answer, Given, Done, Drew, Refused, Clear, Insert, Remove, drawn_of}
+use Rattle.indicatif_board.specs.Boards.{BoardState, Id, Location, Entrant, Answer, Given, Accepted, Drew, Refused, Clear, Insert, Remove, drawn_of}
 use Rattle.indicatif_board.specs.Multi.{LeadsBy, IsIn, RecordsStay, terminal_of, moves_of}
 use Rattle.indicatif_board.specs.Recorded.{Record, AddsCall}
 use Rattle.indicatif_board.specs.declared.multi.Board.{Board}
@@ -26,7 +26,7 @@ BoardMakes {K} {T} m view (Recorded old) call now answer new =
 -- why a call was refused, if it was
 abbrev pub refused_with : Answer → Option Refusal
 refused_with (Refused e) = Some e
-refused_with Done = None
+refused_with Accepted = None
 refused_with (Given id) = None
 refused_with (Drew drawn) = None
 

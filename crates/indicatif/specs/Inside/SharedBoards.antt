@@ -5,7 +5,7 @@ use Rattle.indicatif_text.specs.declared.refusal.Refusal.TheVariants.{Memory, Fo
 use Rattle.indicatif_text.specs.declared.refusal.Drawn.{Drawn}
 use Rattle.indicatif_bar.specs.Commands.{BarRecord, Command}
 use Rattle.indicatif_bar.specs.Lone.{LoneCall, Obey, Log as LogAlone, Clear as ClearAlone}
-use Rattle.indicatif_board.specs.Boards.{BoardState, Call, Insert, Remove, Drop, Log, BarLog, Clear, Redraw, Align, Tell, Location, Before, After, Entrant, New, Old, Id, Answer, Given, Done, Drew, Refused, drawn_of}
+use Rattle.indicatif_board.specs.Boards.{BoardState, Call, Insert, Remove, Drop, Log, BarLog, Clear, Redraw, Align, Tell, Location, Before, After, Entrant, New, Old, Id, Answer, Given, Accepted, Drew, Refused, drawn_of}
 use Rattle.indicatif.specs.Fronts.{of_no_draw, of_a_draw, of_a_clear, has_no_bar, bar_answers}
 
 -- a call of a board whose bars have trackers of this type; a state of one
@@ -25,7 +25,7 @@ on_board id ClearAlone = Clear
 abbrev pub given_by : Answer → Result Id Refusal
 given_by (Given id) = Ok id
 given_by (Refused e) = Err e
-given_by Done = Err Memory
+given_by Accepted = Err Memory
 given_by (Drew drawn) = Err Memory
 
 -- a bar of another board was to be removed; a missing bar is no refusal

@@ -35,7 +35,7 @@ impl<W> UntilGone<W> {
         }
     }
 
-    /// The writer behind it.
+    /// The writer whose reader may go away.
     pub fn get_ref(&self) -> &W
         ensures { result.now ≡ self.now.writer }
     {

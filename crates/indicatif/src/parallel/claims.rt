@@ -41,12 +41,12 @@ impl Claims {
         }
     }
 
-    /// How many parts there are.
+    /// How many parts of the list threads take.
     pub fn parts(&self) -> usize {
         self.items.div_ceil(self.each)
     }
 
-    /// The next part, if one is left.
+    /// The next part of the list, if one is left.
     pub fn take(&self) -> Option<Claim>
         ensures { IfSome result (λ part. part.end ≤ self.now.items) }
     {
@@ -71,7 +71,7 @@ impl Claims {
         }
     }
 
-    /// Marks the items of this part as met.
+    /// Marks the items of this claimed part as met.
     pub fn tell(&self, part: &Claim) {
         let count = part.end - part.start;
         self.met.fetch_add(count as u64, Ordering::SeqCst);

@@ -42,7 +42,7 @@ pub struct Course<P: Drop> {
 }
 
 impl<P: Moves + Drop> Course<P> {
-    /// Before the first block of a list of `items` items.
+    /// A course before the first block of a list of `items` items.
     pub fn new<R: Threads>(rt: &R, bar: P, items: usize) -> Course<P>
         ensures bar { result.bar ≡ bar }
         ensures done { result.done ≡ 0 }
@@ -78,7 +78,7 @@ impl<P: Moves + Drop> Course<P> {
         }
     }
 
-    /// Advances the bar to `met` items, if it may stop within a block; otherwise to the end of the last block that they fill.
+    /// Advances the bar on its course to `met` items, if it may stop within a block; otherwise to the end of the last block that they fill.
     fn follow(&mut self, met: usize)
         ensures within { (self.new.done ≡ self.old.done) ⊎ (self.new.done ≤ met) }
         ensures goes { GoesOn P.stands P.leads self.old.done self.old.bar self.new.done self.new.bar }

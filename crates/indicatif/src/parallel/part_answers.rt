@@ -57,7 +57,7 @@ impl<A: Drop> PartAnswers<A> {
     }
 }
 
-/// The answers of `f` at these items.
+/// The answers of `f` at these items of a part.
 pub fn answers_of<T, A: Drop, F: Fn(&T) -> A>(
     alloc: Global,
     items: &[T],
@@ -73,7 +73,7 @@ pub fn answers_of<T, A: Drop, F: Fn(&T) -> A>(
     Ok(made)
 }
 
-/// The results of two threads, the first one's in front.
+/// The answers of two threads together, the first one's in front.
 pub fn together<X: Drop>(
     first: Result<Vec<X>, AllocError>,
     second: Result<Vec<X>, AllocError>,

@@ -1,6 +1,9 @@
 //! Pieces of work that threads do, with a bar.
 //!
-//! - `crew`: threads that do the same work at the same time; `pieces`: pieces, of which each thread takes the next, and their results.
+//! `run_workers` and `Gate` are here. The modules below are private:
+//!
+//! - `crew`: `Work`, what several threads do at the same time: all are started before one begins, and joined.
+//! - `pieces`: `Pieces`, of which each thread takes the next; their results, gathered and put in order.
 ghost use Rattle.std.specs.Prelude.{◌≡◌, ◌≤◌, ℕ, IfOk, IfErr, OnOk, length, ◌⊎◌, ◌↔◌, Err};
 ghost use Rattle.std.specs.List.{AllZip};
 ghost use Rattle.std.specs.Fn.{FnReturnsAt};
@@ -91,7 +94,7 @@ pub fn run_workers<
     answers.ok_or(Refusal::Memory)
 }
 
-/// As `run_workers`, with a bar of your own type, or one that isn't shared.
+/// Works on pieces as `run_workers`, with a bar of your own type, or one that isn't shared.
 ///
 /// ```
 /// let made = run_workers_with(&rt, alloc, pieces.as_slice(), |x: &u32| x.wrapping_mul(2), &Open, &mut bar)?;

@@ -38,7 +38,7 @@ fn found_of<K: Tracks, F: FnOnce(&ProgressState) -> A, A>(
 }
 
 impl<K: Tracks, T: TermLike + Drop, C: Clock + Drop> AnyBar<K, T, C> {
-    /// What the closure returns for the bar's state; `None` if its board hasn't the bar.
+    /// What the closure returns for the state of the bar there; `None` if its board hasn't the bar.
     pub fn read<R: Wait, F: FnOnce(&ProgressState) -> A, A>(&self, rt: &R, f: F) -> Option<A>
         requires { F.IsAlwaysCallable f }
         ensures { ReadsBy (FnOnceReturnsAt F.FnOnce f) self.now result }
@@ -52,7 +52,7 @@ impl<K: Tracks, T: TermLike + Drop, C: Clock + Drop> AnyBar<K, T, C> {
         }
     }
 
-    /// Whether the bar is finished, or its board hasn't it.
+    /// Whether the bar there is finished, or its board hasn't it.
     pub fn is_finished<R: Wait>(&self, rt: &R) -> bool
         ensures { (result ≡ false) → IsUnfinished self.now }
     {
@@ -60,7 +60,7 @@ impl<K: Tracks, T: TermLike + Drop, C: Clock + Drop> AnyBar<K, T, C> {
         finished.unwrap_or(true)
     }
 
-    /// The tab width; 8 if its board hasn't the bar.
+    /// The tab width of the bar there; 8 if its board hasn't the bar.
     pub fn tab_width<R: Wait>(&self, rt: &R) -> usize {
         match self {
             AnyBar::Alone(bar) => bar.bar().tab_width(),
@@ -71,7 +71,7 @@ impl<K: Tracks, T: TermLike + Drop, C: Clock + Drop> AnyBar<K, T, C> {
         }
     }
 
-    /// A copy of the message.
+    /// A copy of the message of the bar there.
     pub fn message<R: Wait>(&self, rt: &R, alloc: Global) -> Result<String, Refusal>
         ensures { IfErr result (λ e. IsUntold self.now e) }
     {
@@ -85,7 +85,7 @@ impl<K: Tracks, T: TermLike + Drop, C: Clock + Drop> AnyBar<K, T, C> {
         }
     }
 
-    /// A copy of the prefix.
+    /// A copy of the prefix of the bar there.
     pub fn prefix<R: Wait>(&self, rt: &R, alloc: Global) -> Result<String, Refusal>
         ensures { IfErr result (λ e. IsUntold self.now e) }
     {
@@ -99,7 +99,7 @@ impl<K: Tracks, T: TermLike + Drop, C: Clock + Drop> AnyBar<K, T, C> {
         }
     }
 
-    /// A style equal to the bar's; that of a new bar if its board hasn't the bar.
+    /// A style equal to that of the bar there; that of a new bar if its board hasn't the bar.
     pub fn style<R: Wait>(&self, rt: &R, alloc: Global) -> Result<ProgressStyle<K>, Refusal>
         ensures style { IfOk result (λ style. LooksSo self.now style) }
         ensures memory { IfErr result (λ e. e ≡ Refusal.Memory) }
@@ -113,7 +113,7 @@ impl<K: Tracks, T: TermLike + Drop, C: Clock + Drop> AnyBar<K, T, C> {
         }
     }
 
-    /// Whether the target is hidden; on a board, the board's target.
+    /// Whether the target of the bar there is hidden; on a board, the board's target.
     pub fn is_hidden<R: Wait>(&self, rt: &R) -> bool {
         match self {
             AnyBar::Alone(bar) => bar.is_hidden(),
@@ -121,7 +121,7 @@ impl<K: Tracks, T: TermLike + Drop, C: Clock + Drop> AnyBar<K, T, C> {
         }
     }
 
-    /// Lends the terminal to `f`; `None` if the target is hidden.
+    /// Lends the terminal of the bar there to `f`; `None` if the target is hidden.
     pub fn with_term<R: Wait, F: FnOnce(Option<&T>) -> A, A>(&self, rt: &R, f: F) -> A
         requires { F.IsAlwaysCallable f }
         ensures { (shown : _) × F.post f shown result }
@@ -139,7 +139,7 @@ impl<K: Tracks, T: TermLike + Drop, C: Clock + Drop> AnyBar<K, T, C> {
         }
     }
 
-    /// The bar's number on its board; `None` if it stands alone.
+    /// The number of the bar there on its board; `None` if it stands alone.
     pub fn id(&self) -> Option<BarId> {
         match self {
             AnyBar::Alone(_) => None,
@@ -147,7 +147,7 @@ impl<K: Tracks, T: TermLike + Drop, C: Clock + Drop> AnyBar<K, T, C> {
         }
     }
 
-    /// Its board; `None` if it stands alone, or there is no memory for another owner of the board.
+    /// The board of the bar there; `None` if it stands alone, or there is no memory for another owner of the board.
     pub fn board(&self) -> Option<SharedBoard<K, T, C>> {
         match self {
             AnyBar::Alone(_) => None,

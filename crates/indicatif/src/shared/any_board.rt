@@ -31,7 +31,7 @@ pub enum AnyBoard<K: Tracks, T: Drop> {
 
 /// A call follows one of `order`, or of `replays`, which tells that the board is in some state: clauses speak of that.
 impl<K: Tracks, T: TermLike + Drop> AnyBoard<K, T> {
-    /// Makes a call. A bar that is removed or refused is dropped.
+    /// Makes a call of the board there. A bar that is removed or refused is dropped.
     pub fn call(&mut self, call: Call<K>, now: Moment) -> Answer
         ensures made { BoardMakes K.means T.view self.old (call_of call) now (answer_of result) self.new }
         ensures can { SharedAnswers K (call_of call) (answer_of result) }
@@ -48,7 +48,7 @@ impl<K: Tracks, T: TermLike + Drop> AnyBoard<K, T> {
         }
     }
 
-    /// A call that draws.
+    /// Makes a call that draws, of the board there.
     pub fn draw(&mut self, call: Call<K>, now: Moment) -> Result<Drawn, Refusal>
         ensures made { BoardDraws K.means T.view self.old (call_of call) now result self.new }
         ensures can { SharedDraws K (call_of call) result }
@@ -56,7 +56,7 @@ impl<K: Tracks, T: TermLike + Drop> AnyBoard<K, T> {
         drawn_of(self.call(call, now))
     }
 
-    /// A call of a bar on the board. Its text is copied, by `alloc`, only if a history keeps it.
+    /// Makes a call of a bar on the board there. Its text is copied, by `alloc`, only if a history keeps it.
     pub fn tell<S: Text>(
         &mut self,
         id: BarId,
@@ -84,7 +84,7 @@ impl<K: Tracks, T: TermLike + Drop> AnyBoard<K, T> {
         }
     }
 
-    /// Lines of text above the bars. The text is copied, by `alloc`, only if a history keeps it.
+    /// Writes lines of text above the bars of the board there. The text is copied, by `alloc`, only if a history keeps it.
     pub fn println(&mut self, text: &str, alloc: Global, now: Moment) -> Result<Drawn, Refusal>
         ensures made { BoardDraws K.means T.view self.old (Log text.now) now result self.new }
         ensures can { SharedDraws K (Log text.now) result }
@@ -118,7 +118,7 @@ impl<K: Tracks, T: TermLike + Drop> AnyBoard<K, T> {
         }
     }
 
-    /// A call for the history, if there was memory for it: otherwise nothing is done.
+    /// Makes a call that a history keeps, if there was memory for it: otherwise nothing is done.
     fn draw_kept(&mut self, kept: Result<Call<K>, Refusal>, now: Moment) -> Result<Drawn, Refusal>
         ensures made { IfOk kept (λ call. BoardDraws K.means T.view self.old (call_of call) now result self.new) }
         ensures can { IfOk kept (λ call. SharedDraws K (call_of call) result) }
@@ -130,7 +130,7 @@ impl<K: Tracks, T: TermLike + Drop> AnyBoard<K, T> {
         }
     }
 
-    /// Inserts a bar.
+    /// Inserts a bar on the board there.
     pub fn insert(
         &mut self,
         at: InsertLocation,
@@ -144,7 +144,7 @@ impl<K: Tracks, T: TermLike + Drop> AnyBoard<K, T> {
         id_given(self.call(Call::Insert { at, candidate }, now))
     }
 
-    /// Removes a bar from the order and returns it; `None` if it isn't there.
+    /// Removes a bar from the order of the board there and returns it; `None` if it isn't there.
     pub fn remove(&mut self, id: BarId, now: Moment) -> Result<Option<BarState<K>>, Refusal>
         ensures made { MatchResult result (λ _. BoardRemoves K.means T.view self.old (id_of id) now None self.new) (λ e. BoardRemoves K.means T.view self.old (id_of id) now (Some e) self.new) }
         ensures can { IfErr result (λ e. SharedAnswers K (Remove (id_of id)) (Refused e)) }
@@ -204,7 +204,7 @@ impl<K: Tracks, T: TermLike + Drop> AnyBoard<K, T> {
         }
     }
 
-    /// The board.
+    /// The board there, its history aside.
     pub fn as_board(&self) -> &Board<K, T> {
         match self {
             AnyBoard::Open(board) => board,
@@ -272,7 +272,7 @@ fn call_of_bar<K: Tracks, S: Text>(
 /// What a board with its history answered.
 type Answered<K> = (Answer, Option<BarState<K>>);
 
-/// The answer; a bar that came back is dropped.
+/// The answer of a board with its history; a bar that came back is dropped.
 fn answer_alone<K: Drop>(answered: Answered<K>) -> Answer
     ensures { result ≡ answered.0 }
 {
@@ -286,7 +286,7 @@ fn bar_unless_refused<K: Drop>(answered: Answered<K>) -> Result<Option<BarState<
     let (answer, bar) = answered;
     match answer {
         Answer::Refused(refusal) => Err(refusal),
-        Answer::Id(_) | Answer::Done | Answer::Drawn(_) => Ok(bar),
+        Answer::Id(_) | Answer::Accepted | Answer::Drawn(_) => Ok(bar),
     }
 }
 
@@ -295,7 +295,7 @@ fn drawn_of(answer: Answer) -> Result<Drawn, Refusal>
     ensures { result ≡ drawn_of (answer_of answer) }
 {
     match answer {
-        Answer::Id(_) | Answer::Done => Ok(Drawn::Limited),
+        Answer::Id(_) | Answer::Accepted => Ok(Drawn::Limited),
         Answer::Drawn(drawn) => Ok(drawn),
         Answer::Refused(refusal) => Err(refusal),
     }
@@ -309,6 +309,6 @@ fn id_given(answer: Answer) -> Result<BarId, Refusal>
     match answer {
         Answer::Id(id) => Ok(id),
         Answer::Refused(refusal) => Err(refusal),
-        Answer::Done | Answer::Drawn(_) => Err(Refusal::Memory),
+        Answer::Accepted | Answer::Drawn(_) => Err(Refusal::Memory),
     }
 }

@@ -38,7 +38,7 @@ pub fn written_if_hidden<W: Write>(
     drawn
 }
 
-/// Writes a text and a line end, in one write if the writer takes all.
+/// Writes a text and a line end to a writer, in one write if the writer takes all.
 fn write_line<W: Write>(alloc: Global, text: &str, out: &mut W) -> Result<(), Refusal>
     ensures written { IfOk result (λ _. Appends (W.contents out.old) (W.contents out.new) (text.now ++ 0x0a ∷ [])) }
     ensures refused { IfErr result (λ e. CanDraw (Err e)) }

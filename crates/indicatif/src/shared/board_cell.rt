@@ -21,7 +21,7 @@ pub struct BoardCell<K: Tracks, T: Drop, C> {
 pub type SharedBoard<K, T, C> = Arc<BoardCell<K, T, C>, Global>;
 
 impl<K: Tracks, T: Drop, C> BoardCell<K, T, C> {
-    /// Puts a board into a lock.
+    /// Puts a board into its lock, with what waits for a pause.
     pub fn new(board: LockedBoard<K, T, C>) -> BoardCell<K, T, C> {
         BoardCell {
             lock: Mutex::new(board),
@@ -29,7 +29,7 @@ impl<K: Tracks, T: Drop, C> BoardCell<K, T, C> {
         }
     }
 
-    /// Takes the board out of its lock.
+    /// Takes the board out of its `BoardCell`.
     pub fn into_inner(self) -> LockedBoard<K, T, C> {
         let BoardCell { lock, resumed: _ } = self;
         lock.into_inner()
@@ -72,7 +72,7 @@ impl<K: Tracks, T: TermLike + Drop, C: Clock + Drop> BoardCell<K, T, C> {
         self.run(rt, pause, f)
     }
 
-    /// `suspend` at this moment.
+    /// Clears the board, calls `f`, and draws the board again, at this moment.
     pub fn suspend_at<R: Wait, F: FnOnce() -> A, A>(
         &self,
         rt: &R,

@@ -1,4 +1,6 @@
 //! What the lock of a shared bar protects.
+//!
+//! - `told`: the bar's plain line, if its target is hidden and a line is due.
 ghost use Rattle.std.specs.Prelude.{◌≡◌, ◌≢◌, ◌<◌, ◌-◌, ℕ, Some, None, Ok, Err, true, false, IsTrue, IsFalse, IfOk, IfErr, MatchResult};
 ghost use Rattle.std.specs.Fn.{FnOnceReturnsAt};
 ghost use Rattle.indicatif_term.specs.DrawTargets.{term_of};
@@ -67,12 +69,12 @@ impl<K: Tracks, T: Drop, C> LockedBar<K, T, C> {
         }
     }
 
-    /// Whether it is in a pause of its own: then calls that draw wait.
+    /// Whether the bar is in a pause of its own: then calls that draw wait.
     pub fn is_paused(&self) -> bool {
         self.paused
     }
 
-    /// Adds an owner; refuses if there is none left, or the count is at its maximum.
+    /// Adds an owner of the bar; refuses if there is none left, or the count is at its maximum.
     pub fn join(&mut self) -> bool
         ensures { OwnerJoins result self.old.owners self.new.owners }
     {
@@ -83,7 +85,7 @@ impl<K: Tracks, T: Drop, C> LockedBar<K, T, C> {
         true
     }
 
-    /// Removes an owner.
+    /// Removes an owner of the bar.
     fn leave(&mut self)
         ensures owners { self.new.owners ≡ self.old.owners - 1 }
         ensures bar { self.new.bar ≡ self.old.bar }
@@ -104,7 +106,7 @@ pub enum Halt<K: Tracks, T: Drop, C> {
 
 /// A call of a bar that stands alone follows one of `bar`, which tells that it is in some state: clauses speak of that.
 impl<K: Tracks, T: TermLike + Drop, C: Clock + Drop> LockedBar<K, T, C> {
-    /// A call of the bar.
+    /// Makes a call of the bar under the lock.
     pub fn tell<R: Wait, S: Text>(
         &mut self,
         rt: &R,
@@ -128,7 +130,8 @@ impl<K: Tracks, T: TermLike + Drop, C: Clock + Drop> LockedBar<K, T, C> {
         }
     }
 
-    /// Sets whether a ticker is installed. It asks for no draw, and so doesn't wait for the end of a pause of its board.
+    /// Sets whether a ticker is installed on the bar under the lock. It asks for no draw, and so doesn't wait for the end of a pause of its
+    /// board.
     fn set_ticker<R: Wait>(&mut self, rt: &R, installed: bool) -> Result<Drawn, Refusal>
         ensures bar { BarMakes K.means T.view self.old.bar (Lone.Obey (SetTicker installed)) result self.new.bar }
         ensures ticker { self.new.ticker ≡ self.old.ticker }
@@ -143,7 +146,7 @@ impl<K: Tracks, T: TermLike + Drop, C: Clock + Drop> LockedBar<K, T, C> {
         }
     }
 
-    /// Changes the position, unless the bar or its board is in a pause.
+    /// Changes the position of the bar under the lock, unless the bar or its board is in a pause.
     #[inline(always)]
     pub fn move_by<R: Wait>(
         &mut self,
@@ -165,7 +168,7 @@ impl<K: Tracks, T: TermLike + Drop, C: Clock + Drop> LockedBar<K, T, C> {
         }
     }
 
-    /// Moves the position `n` further, as `seeks` says; counts from 0 if its board hasn't the bar.
+    /// Moves the position of the bar under the lock `n` further, as `seeks` says; counts from 0 if its board hasn't the bar.
     pub fn place_after<R: Wait>(
         &mut self,
         rt: &R,
@@ -236,7 +239,7 @@ impl<K: Tracks, T: TermLike + Drop, C: Clock + Drop> LockedBar<K, T, C> {
         }
     }
 
-    /// Forces a draw of the bar, or of all bars of its board.
+    /// Forces a draw of the bar under the lock, or of all bars of its board.
     fn redraw<R: Wait>(&mut self, rt: &R, now: Moment) -> Result<Drawn, Refusal>
         ensures { BarRedraws K.means T.view self.old.bar result self.new.bar }
     {
@@ -281,7 +284,8 @@ impl<K: Tracks, T: TermLike + Drop, C: Clock + Drop> LockedBar<K, T, C> {
         }
     }
 
-    /// Installs the ticker with this number in place of any other. If that is refused, the ticker stays as it is.
+    /// Installs the ticker with this number on the bar under the lock, in place of any other. If that is refused, the ticker stays as it
+    /// is.
     pub fn install_ticker<R: Wait>(&mut self, rt: &R, number: u64) -> Result<(), Refusal>
         requires { number < self.old.ticker.next }
         ensures installed { IfOk result (λ _. (self.new.ticker.installed ≡ Some number)
@@ -294,7 +298,7 @@ impl<K: Tracks, T: TermLike + Drop, C: Clock + Drop> LockedBar<K, T, C> {
         Ok(())
     }
 
-    /// Removes the ticker. If that is refused, the ticker stays as it is.
+    /// Removes the ticker of the bar under the lock. If that is refused, the ticker stays as it is.
     pub fn disable_ticker<R: Wait>(&mut self, rt: &R) -> Result<(), Refusal>
         ensures disabled { IfOk result (λ _. (self.new.ticker.installed ≡ None)
             × ((drawn : _) × BarMakes K.means T.view self.old.bar (Lone.Obey (SetTicker false)) (Ok drawn) self.new.bar)) }
@@ -306,7 +310,8 @@ impl<K: Tracks, T: TermLike + Drop, C: Clock + Drop> LockedBar<K, T, C> {
         Ok(())
     }
 
-    /// Whether the ticker with this number goes on: it is the installed one, the bar is not finished, and it has an owner.
+    /// Whether the ticker with this number goes on to tick the bar under the lock: it is the installed one, the bar is not finished, and it
+    /// has an owner.
     pub fn ticks_by<R: Wait>(&self, rt: &R, number: u64) -> bool
         ensures installed { (result ≡ true) → self.now.ticker.installed ≡ Some number }
         ensures owned { (result ≡ true) → 0 < self.now.owners }
@@ -315,7 +320,8 @@ impl<K: Tracks, T: TermLike + Drop, C: Clock + Drop> LockedBar<K, T, C> {
         self.awaits(number) && !self.bar.is_finished(rt)
     }
 
-    /// Whether the ticker with this number waits for its next tick: it is the installed one, and the bar has an owner.
+    /// Whether the ticker with this number waits for the next tick of the bar under the lock: it is the installed one, and the bar has an
+    /// owner.
     pub fn awaits(&self, number: u64) -> bool
         ensures installed { (result ≡ true) → self.now.ticker.installed ≡ Some number }
         ensures owned { (result ≡ true) → 0 < self.now.owners }
@@ -323,14 +329,14 @@ impl<K: Tracks, T: TermLike + Drop, C: Clock + Drop> LockedBar<K, T, C> {
         self.ticker.is_installed(number) && self.owners > 0
     }
 
-    /// The bar.
+    /// The bar under the lock.
     pub fn bar(&self) -> &AnyBar<K, T, C>
         ensures { result.now ≡ self.now.bar }
     {
         &self.bar
     }
 
-    /// The nanoseconds that are left, at the rate up to the current moment.
+    /// The nanoseconds that are left, at the rate up to the moment of the bar's clock.
     #[tactic(auto, using(crate::proofs::FrontLemmas::no_eta))]
     pub fn eta<R: Wait>(&mut self, rt: &R) -> u64
         ensures measure { Measures eta self.old.bar result }
@@ -341,7 +347,7 @@ impl<K: Tracks, T: TermLike + Drop, C: Clock + Drop> LockedBar<K, T, C> {
         told.unwrap_or(0)
     }
 
-    /// The rate up to the current moment.
+    /// The rate up to the moment of the bar's clock.
     #[tactic(auto, using(crate::proofs::FrontLemmas::no_rate))]
     pub fn per_sec<R: Wait>(&mut self, rt: &R) -> Rate
         ensures measure { Measures per_sec self.old.bar result }
@@ -352,7 +358,7 @@ impl<K: Tracks, T: TermLike + Drop, C: Clock + Drop> LockedBar<K, T, C> {
         told.unwrap_or(NO_RATE)
     }
 
-    /// The nanoseconds that the whole work takes.
+    /// The nanoseconds that the whole work takes, at the rate up to the moment of the bar's clock.
     #[tactic(auto, using(crate::proofs::FrontLemmas::no_duration))]
     pub fn duration<R: Wait>(&mut self, rt: &R) -> u64
         ensures measure { Measures duration self.old.bar result }
@@ -363,7 +369,7 @@ impl<K: Tracks, T: TermLike + Drop, C: Clock + Drop> LockedBar<K, T, C> {
         told.unwrap_or(0)
     }
 
-    /// The nanoseconds since the start.
+    /// The nanoseconds from the start to the moment of the bar's clock.
     #[tactic(auto, using(crate::proofs::FrontLemmas::no_elapsed))]
     pub fn elapsed<R: Wait>(&mut self, rt: &R) -> u64
         ensures measure { Measures elapsed self.old.bar result }
@@ -374,15 +380,15 @@ impl<K: Tracks, T: TermLike + Drop, C: Clock + Drop> LockedBar<K, T, C> {
         told.unwrap_or(0)
     }
 
-    /// Replaces the bar; the old one is dropped.
+    /// Replaces the bar under the lock; the old one is dropped.
     fn stand(&mut self, bar: AnyBar<K, T, C>)
         ensures { self.new.bar ≡ bar }
     {
         self.bar = bar;
     }
 
-    /// Sets the target; the old one is dropped. A board's bar leaves its board first, whose other bars a forced draw shows, and stands
-    /// alone afterwards; the answer is that of the draw. If it can't leave, it keeps its place.
+    /// Sets the target of the bar under the lock; the old one is dropped. A board's bar leaves its board first, whose other bars a forced
+    /// draw shows, and stands alone afterwards; the answer is that of the draw. If it can't leave, it keeps its place.
     pub fn set_draw_target<R: Wait>(
         &mut self,
         rt: &R,
@@ -404,7 +410,8 @@ impl<K: Tracks, T: TermLike + Drop, C: Clock + Drop> LockedBar<K, T, C> {
         }
     }
 
-    /// As `set_draw_target`, but a bar that stands alone is cleared first, whatever the clear answers; the answer is that of the clear.
+    /// Sets the target of the bar under the lock as `set_draw_target`, but a bar that stands alone is cleared first, whatever the clear
+    /// answers; the answer is that of the clear.
     pub fn move_to<R: Wait>(
         &mut self,
         rt: &R,
@@ -448,7 +455,7 @@ impl<K: Tracks, T: TermLike + Drop, C: Clock + Drop> LockedBar<K, T, C> {
         }
     }
 
-    /// Inserts the bar on a board. A bar that is on one keeps its place.
+    /// Inserts the bar under the lock on a board. A bar that is on one keeps its place.
     #[tactic(auto, using(crate::proofs::AnswerLemmas::not_taken, crate::proofs::FrontLemmas::memory_missing))]
     pub fn take_in<R: Wait>(
         &mut self,
@@ -473,7 +480,7 @@ impl<K: Tracks, T: TermLike + Drop, C: Clock + Drop> LockedBar<K, T, C> {
         Ok(())
     }
 
-    /// Removes the bar from a board; it stands alone afterwards, and is hidden. One that stands alone is unchanged.
+    /// Removes the bar under the lock from a board; it stands alone afterwards, and is hidden. One that stands alone is unchanged.
     #[tactic(auto, using(crate::proofs::AnswerLemmas::removed_so))]
     pub fn take_out<R: Wait>(&mut self, rt: &R, board: &BoardCell<K, T, C>) -> Result<(), Refusal>
         ensures { IfErr result MemoryOrForeign }
@@ -494,7 +501,7 @@ impl<K: Tracks, T: TermLike + Drop, C: Clock + Drop> LockedBar<K, T, C> {
 }
 
 impl<K: Tracks, T: Drop, C: Drop> LockedBar<K, T, C> {
-    /// Takes the bar out of its lock; its clock is dropped.
+    /// Takes the bar out of what its lock protects; its clock is dropped.
     pub fn into_bar(self) -> AnyBar<K, T, C>
         ensures { result ≡ self.bar }
     {
@@ -509,7 +516,7 @@ impl<K: Tracks, T: Drop, C: Drop> LockedBar<K, T, C> {
     }
 }
 
-/// Clears the rows of a bar that stands alone.
+/// Begins a pause of a bar that stands alone: clears its rows.
 fn pause_of<K: Tracks, T: TermLike + Drop>(bar: &mut LoneBar<K, T>, now: Moment) -> Pause
     ensures made { MadeBy K.means T.view bar.old bar.new Lone.Clear now result.cleared }
     ensures now { result.now ≡ now }

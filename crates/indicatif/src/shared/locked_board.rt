@@ -29,14 +29,14 @@ impl<K: Tracks, T: Drop, C> LockedBoard<K, T, C> {
         }
     }
 
-    /// Whether it is in a pause: then calls that draw wait.
+    /// Whether the board is in a pause: then calls that draw wait.
     pub fn is_paused(&self) -> bool {
         self.paused
     }
 }
 
 impl<K: Tracks, T: Drop, C: Drop> LockedBoard<K, T, C> {
-    /// Takes the board out of its lock; its clock is dropped.
+    /// Takes the board out of what its lock protects; its clock is dropped.
     pub fn into_board(self) -> AnyBoard<K, T>
         ensures { result ≡ self.board }
     {
@@ -50,7 +50,7 @@ impl<K: Tracks, T: Drop, C: Drop> LockedBoard<K, T, C> {
 }
 
 impl<K: Tracks, T: Drop, C: Clone> LockedBoard<K, T, C> {
-    /// A copy of its clock.
+    /// A copy of the board's clock.
     ///
     /// Refused: `Memory`.
     pub fn clock(&self) -> Result<C, Refusal>
@@ -61,14 +61,14 @@ impl<K: Tracks, T: Drop, C: Clone> LockedBoard<K, T, C> {
 }
 
 impl<K: Tracks, T: TermLike + Drop, C: Clock + Drop> LockedBoard<K, T, C> {
-    /// The moment of its clock.
+    /// The moment of the board's clock.
     pub fn now(&mut self) -> Moment
         ensures { self.new.board ≡ self.old.board }
     {
         self.clock.now()
     }
 
-    /// Begins a pause: the bars' rows are cleared.
+    /// Begins a pause of the board: the bars' rows are cleared.
     pub fn pause(&mut self) -> Pause
         ensures { BoardDraws K.means T.view self.old.board Clear result.now result.cleared self.new.board }
     {
@@ -76,7 +76,7 @@ impl<K: Tracks, T: TermLike + Drop, C: Clock + Drop> LockedBoard<K, T, C> {
         self.pause_at(now)
     }
 
-    /// `suspend` at this moment.
+    /// Begins a pause of the board at this moment, as `pause`.
     #[tactic(auto, unfolding(crate::specs::Inside::SharedBoards::SharedDraws))]
     pub fn pause_at(&mut self, now: Moment) -> Pause
         ensures made { BoardDraws K.means T.view self.old.board Clear now result.cleared self.new.board }
@@ -87,8 +87,8 @@ impl<K: Tracks, T: TermLike + Drop, C: Clock + Drop> LockedBoard<K, T, C> {
         Pause { now, cleared }
     }
 
-    /// Ends a pause by a forced draw, at the moment at which the pause began. If the clear was refused, nothing is drawn, and the answer is
-    /// that refusal.
+    /// Ends a pause of the board by a forced draw, at the moment at which the pause began. If the clear was refused, nothing is drawn, and
+    /// the answer is that refusal.
     #[tactic(auto, using(crate::proofs::AnswerLemmas::clear_is_draw), unfolding(crate::specs::Inside::SharedBoards::SharedDraws))]
     pub fn resume(&mut self, pause: Pause) -> Result<Drawn, Refusal>
         ensures drawn { IfOk pause.cleared (λ _. BoardDraws K.means T.view self.old.board Redraw pause.now result self.new.board) }

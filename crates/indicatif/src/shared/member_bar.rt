@@ -42,7 +42,7 @@ impl<K: Tracks, T: Drop, C: Drop> Drop for MemberBar<K, T, C> {
     }
 }
 
-/// The changes that a closure returns for the bar's state, or why there is no bar.
+/// The changes that a closure returns for the state of a board's bar, or why the board hasn't it.
 fn change_by<K: Tracks, F: FnOnce(&ProgressState) -> Change>(
     bar: Result<&BarState<K>, Refusal>,
     f: F,
@@ -90,7 +90,7 @@ fn updated<K: Tracks, T: TermLike + Drop, F: FnOnce(&ProgressState) -> Change>(
     tell_change(board, id, change, alloc, now)
 }
 
-/// A bar's position, or 0 if there is no bar.
+/// The position of a board's bar, or 0 if there is no bar.
 fn position_of<K: Tracks>(bar: Result<&BarState<K>, Refusal>) -> u64 {
     match bar {
         Ok(bar) => bar.state().pos(),
@@ -98,7 +98,7 @@ fn position_of<K: Tracks>(bar: Result<&BarState<K>, Refusal>) -> u64 {
     }
 }
 
-/// What a closure returns for a state.
+/// What a closure returns for the state of a board's bar.
 pub fn told_of<F: FnOnce(&ProgressState) -> A, A>(shown: &ProgressState, f: F) -> A
     requires { F.IsAlwaysCallable f }
     ensures { FnOnceReturnsAt F.FnOnce f shown.now result }
@@ -118,7 +118,7 @@ pub enum Leaving<K: Tracks> {
 
 /// Each call is handed back if the board is in a pause.
 impl<K: Tracks, T: TermLike + Drop, C: Clock + Drop> MemberBar<K, T, C> {
-    /// Sets whether a ticker is installed, also in a pause, since it asks for no draw.
+    /// Tells the board whether a ticker of the bar is installed, also in a pause, since it asks for no draw.
     pub fn set_ticker<R: Wait>(
         &self,
         rt: &R,
@@ -142,7 +142,7 @@ impl<K: Tracks, T: TermLike + Drop, C: Clock + Drop> MemberBar<K, T, C> {
         self.board.lock(rt).board.draw(Call::Redraw, now)
     }
 
-    /// A command that makes the changes that the closure returns for the bar's state. If the board hasn't the bar, the closure isn't called.
+    /// Makes the changes that the closure returns for the state of a board's bar. If the board hasn't the bar, the closure isn't called.
     pub fn update<R: Wait, F: FnOnce(&ProgressState) -> Change>(
         &self,
         rt: &R,
@@ -160,7 +160,7 @@ impl<K: Tracks, T: TermLike + Drop, C: Clock + Drop> MemberBar<K, T, C> {
         }
     }
 
-    /// A change of the bar's position. It isn't inlined, so that a step of a bar that stands alone clears no room for a command.
+    /// Changes the position of a board's bar. It isn't inlined, so that a step of a bar that stands alone clears no room for a command.
     #[inline(never)]
     pub fn move_by<R: Wait>(
         &self,
@@ -179,7 +179,7 @@ impl<K: Tracks, T: TermLike + Drop, C: Clock + Drop> MemberBar<K, T, C> {
         }
     }
 
-    /// Moves the bar's position `n` further, as `seeks` says; counts from 0 if the board hasn't the bar.
+    /// Moves the position of a board's bar `n` further, as `seeks` says; counts from 0 if the board hasn't the bar.
     pub fn place_after<R: Wait>(
         &self,
         rt: &R,
@@ -211,7 +211,7 @@ impl<K: Tracks, T: TermLike + Drop, C: Clock + Drop> MemberBar<K, T, C> {
         }
     }
 
-    /// Removes the bar from the order and forces a draw of the others.
+    /// Removes the bar from its board's order and forces a draw of the others.
     pub fn leave<R: Wait>(&self, rt: &R, now: Moment) -> Leaving<K>
         ensures { LeavesSo result }
     {

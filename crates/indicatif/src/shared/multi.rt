@@ -84,7 +84,7 @@ impl<T: TermLike + Drop, C: Clock + Drop, R: Wait + Clone + Drop> MultiProgress<
         MultiProgress::keyed(rt, alloc, Setup { target, clock }, mark)
     }
 
-    /// As `new`, but the board keeps its history, which grows with each call; `with_record` lends it.
+    /// A board as `new` makes it, but it keeps its history, which grows with each call; `with_record` lends it.
     ///
     /// Refused: `Memory`; nothing is made, and the arguments are dropped.
     pub fn recorded(
@@ -106,7 +106,7 @@ impl<T: TermLike + Drop, C: Clock + Drop, R: Wait + Clone + Drop, K: Tracks> Mul
     R,
     K,
 > {
-    /// As `new`, for bars whose styles have keys of your own.
+    /// A board as `new` makes it, for bars whose styles have keys of your own.
     ///
     /// ```
     /// let board: Several<R> = MultiProgress::keyed(rt, alloc, setup(alloc)?, 1)?; // MultiProgress<InMemoryTerm, StepClock, R, Left>
@@ -121,7 +121,7 @@ impl<T: TermLike + Drop, C: Clock + Drop, R: Wait + Clone + Drop, K: Tracks> Mul
         MultiProgress::shared(rt, alloc, LockedBoard::new(board, clock))
     }
 
-    /// As `keyed`, but the board keeps its history, which grows with each call; `with_record` lends it.
+    /// A board as `keyed` makes it, but it keeps its history, which grows with each call; `with_record` lends it.
     ///
     /// Refused: `Memory`; nothing is made, and the arguments are dropped.
     pub fn keyed_recorded(
@@ -137,7 +137,7 @@ impl<T: TermLike + Drop, C: Clock + Drop, R: Wait + Clone + Drop, K: Tracks> Mul
         MultiProgress::shared(rt, alloc, LockedBoard::new(board, clock))
     }
 
-    /// The allocator of its texts.
+    /// The allocator of the board's texts.
     pub(crate) fn alloc(&self) -> Global {
         self.alloc
     }
@@ -150,7 +150,7 @@ impl<T: TermLike + Drop, C: Clock + Drop, R: Wait + Clone + Drop, K: Tracks> Mul
         (board, alloc, rt)
     }
 
-    /// Puts a board into a lock.
+    /// A board that threads share, put into its lock.
     fn shared(rt: R, alloc: Global, board: LockedBoard<K, T, C>) -> Result<Self, Refusal>
         ensures { IfErr result (λ e. e ≡ Refusal.Memory) }
     {
@@ -228,7 +228,7 @@ impl<T: TermLike + Drop, C: Clock + Drop, R: Wait + Clone + Drop, K: Tracks> Mul
         }
     }
 
-    /// Inserts a bar at a place.
+    /// Inserts a bar at a place of the board's order.
     #[tactic(auto, using(crate::proofs::FrontLemmas::memory_missing))]
     fn take_in(
         &self,
@@ -268,9 +268,10 @@ impl<T: TermLike + Drop, C: Clock + Drop, R: Wait + Clone + Drop, K: Tracks> Mul
         locked.board.println(text, self.alloc, now)
     }
 
-    /// The same, and a receipt of the entry that the board's history keeps of it, whatever was answered; `None` where the board keeps no
-    /// history, or this has no room for the entry. The history tells whether it holds a receipt (`Recorded::holds`), also once other threads
-    /// have logged: to one who asks in `with_record`, or behind `into_inner`. What follows then says law `what_a_receipt_says`.
+    /// Writes the text's lines above the bars, as `println`, and returns a receipt of the entry that the board's history keeps of it,
+    /// whatever was answered; `None` where the board keeps no history, or this has no room for the entry. The history tells whether it
+    /// holds a receipt (`Recorded::holds`), also once other threads have logged: to one who asks in `with_record`, or behind `into_inner`.
+    /// What follows then says law `what_a_receipt_says`.
     ///
     /// ```
     /// let (drawn, receipt) = board.println_with_receipt("a.txt");
@@ -374,7 +375,7 @@ impl<T: TermLike + Drop, C: Clock + Drop, R: Wait + Clone + Drop, K: Tracks> Mul
         self.board.turn(&self.rt).board.set_move_cursor(on)
     }
 
-    /// Whether the target is hidden: nothing is drawn until another is set.
+    /// Whether the board's target is hidden: nothing is drawn until another is set.
     pub fn is_hidden(&self) -> bool {
         self.board.lock(&self.rt).board.as_board().is_hidden()
     }
@@ -489,7 +490,7 @@ pub trait RecordReader<T: Drop, K: Tracks> {
     /// What it states about what it finds in a history, if there is one; nothing by default.
     ghost finds: { Self → Option (Record K T) → Self.Found → Type 0 } = { λ _ _ _. Unit {0} };
 
-    /// What it finds in a history, if there is one.
+    /// What a `RecordReader` finds in the history that it is lent, if there is one.
     fn read(self, history: Option<&Recorded<K, T>>) -> Self::Found
         requires { IfSome history (λ r. IsOneRun K.means r.now) }
         ensures { finds self (option_map (λ r. r.now) history.entry) result };

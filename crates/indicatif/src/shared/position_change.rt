@@ -22,7 +22,7 @@ pub enum PositionChange {
 }
 
 impl PositionChange {
-    /// As the command of a bar on a board.
+    /// The change of the position, as the command of a bar on a board.
     pub fn command<K, S>(self) -> BarCommand<K, S>
         ensures { (bytes : S → List ℕ) → command_as bytes result ≡ position_command self }
     {
@@ -33,7 +33,7 @@ impl PositionChange {
         }
     }
 
-    /// Moves a bar that stands alone.
+    /// Makes the change of the position, of a bar that stands alone.
     #[inline(always)]
     pub fn apply_to<K: Tracks, T: TermLike + Drop>(
         self,

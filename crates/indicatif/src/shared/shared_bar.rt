@@ -23,7 +23,7 @@ pub struct SharedBar<K: Tracks, T: Drop, C> {
 }
 
 impl<K: Tracks, T: TermLike + Drop, C: Clock + Drop> SharedBar<K, T, C> {
-    /// Waits until the bar isn't in a pause of its own, and locks it: for calls that draw or change it.
+    /// Waits for the bar's turn, until it isn't in a pause of its own, and locks it: for calls that draw or change it.
     pub fn turn<R: Wait>(&self, rt: &R) -> MutexGuard<'_, LockedBar<K, T, C>> {
         let locked = self.lock.lock(rt);
         if !locked.is_paused() {
@@ -33,7 +33,7 @@ impl<K: Tracks, T: TermLike + Drop, C: Clock + Drop> SharedBar<K, T, C> {
             .wait_while(rt, locked, |locked| locked.is_paused())
     }
 
-    /// Makes the changes that the closure returns for the bar's state; then as a tick.
+    /// Waits for the bar's turn, and makes the changes that the closure returns for the bar's state; then as a tick.
     pub fn update<R: Wait, F: FnOnce(&ProgressState) -> Change>(
         &self,
         rt: &R,
@@ -54,7 +54,7 @@ impl<K: Tracks, T: TermLike + Drop, C: Clock + Drop> SharedBar<K, T, C> {
         unreachable!()
     }
 
-    /// Moves the position `n` further, as `seeks` says.
+    /// Waits for the bar's turn, and moves the position `n` further, as `seeks` says.
     pub fn place_after<R: Wait>(
         &self,
         rt: &R,
@@ -73,7 +73,7 @@ impl<K: Tracks, T: TermLike + Drop, C: Clock + Drop> SharedBar<K, T, C> {
         unreachable!()
     }
 
-    /// Sets the target; the rows on the old one stay.
+    /// Waits for the bar's turn, and sets the target; the rows on the old one stay.
     #[tactic(auto, using(crate::proofs::FrontLemmas::place_turns))]
     pub fn set_draw_target<R: Wait>(
         &self,
@@ -94,7 +94,7 @@ impl<K: Tracks, T: TermLike + Drop, C: Clock + Drop> SharedBar<K, T, C> {
         unreachable!()
     }
 
-    /// Sets the target; the rows on the old one are cleared.
+    /// Waits for the bar's turn, and sets the target; the rows on the old one are cleared.
     #[tactic(auto, using(crate::proofs::FrontLemmas::place_moves))]
     pub fn move_to<R: Wait>(&self, rt: &R, target: ProgressDrawTarget<T>) -> Result<Drawn, Refusal>
         ensures { CanMove result }

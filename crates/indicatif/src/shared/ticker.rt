@@ -21,7 +21,7 @@ impl Ticker {
         }
     }
 
-    /// A number that no ticker had; `None` if there is none left, and then nothing has changed.
+    /// A number for a ticker, which none had; `None` if there is none left, and then nothing has changed.
     pub fn begin(&mut self) -> Option<u64>
         ensures some { IfSome result (λ n. (n ≡ self.old.next) × (self.new.next ≡ n + 1)) }
         ensures none { result ≡ None → self.new ≡ self.old }

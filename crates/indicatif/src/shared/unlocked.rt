@@ -32,7 +32,7 @@ pub enum UnlockedBar<K: Tracks, T: Drop> {
 ///
 /// ```
 /// let Ok(UnlockedBoard::Recorded(record)) = board.into_inner() else { .. };
-/// let entries = record.entries(); // all calls that were made under the lock
+/// let entries = record.entries(); // the calls that were made under the lock
 /// ```
 #[derive(Drop)]
 pub enum UnlockedBoard<K: Tracks, T: Drop> {
@@ -49,7 +49,7 @@ impl<T: TermLike + Drop, C: Clock + Drop, R: Wait + Clone + Drop, K: Tracks> Pro
     K,
 > {
     /// Takes the bar out of its lock, if this is the only owner: nothing is drawn, the bar isn't finished, and its clock is dropped.
-    /// Everything proved about a `LoneBar` holds for it afterwards. For a bar on a board you get its number, which names it in the board's
+    /// Everything proved about a `LoneBar` in any state holds for it afterwards. For a bar on a board you get its number, which names it in the board's
     /// own calls; the board still has it, even if its last owner is gone in this way.
     ///
     /// Otherwise it returns the owner, and nothing has changed. A weak reference counts as an owner here. So does the thread of a steady
@@ -74,7 +74,7 @@ impl<T: TermLike + Drop, C: Clock + Drop, R: Wait + Clone + Drop, K: Tracks> Mul
 > {
     /// Takes the board out of its lock, if this is the only owner: nothing is drawn, and its clock is dropped. A board that keeps its
     /// history comes with it; the history is one run, whichever threads made its calls. So everything proved about a `Board` or a
-    /// `Recorded`, and the law `what_a_history_says`, hold for what was shared.
+    /// `Recorded` in any state, and the law `what_a_history_says`, hold for what was shared; but what its terminal shows isn't known.
     ///
     /// Otherwise it returns the board unchanged. Each clone is an owner. So is each bar on the board, until its own last owner is gone, or
     /// takes it out of its lock (`ProgressBar::into_inner`).

@@ -129,7 +129,8 @@ impl<
     R: Wait + Clone + Drop,
     K: Tracks,
 > ProgressBarIter<I, ProgressBar<W, C, R, K>> {
-    /// Sets the bar's position. The rate counts it with the next step: `ProgressBar::with_position` says what to do about that.
+    /// Sets the position of the wrapper's shared bar. The rate counts it with the next step: `ProgressBar::with_position` says what to do
+    /// about that.
     ///
     /// Refused: only on a board, as each command there.
     pub fn with_position(self, position: u64) -> Result<Self, Refusal>
@@ -145,7 +146,7 @@ impl<
         }
     }
 
-    /// Sets what finishes the bar at the end.
+    /// Sets what finishes the wrapper's shared bar at the end.
     ///
     /// Refused: only on a board, as each command there.
     pub fn with_finish(self, finish: ProgressFinish) -> Result<Self, Refusal>
@@ -161,7 +162,7 @@ impl<
         }
     }
 
-    /// Sets the bar's style.
+    /// Sets the style of the wrapper's shared bar.
     ///
     /// Refused: `Memory`; on a board, as each command there.
     pub fn with_style(self, style: ProgressStyle<K>) -> Result<Self, Refusal>
@@ -174,7 +175,7 @@ impl<
         }
     }
 
-    /// Sets the bar's prefix.
+    /// Sets the prefix of the wrapper's shared bar.
     ///
     /// Refused: `Memory`; on a board, as each command there.
     pub fn with_prefix(self, text: &str) -> Result<Self, Refusal>
@@ -190,7 +191,7 @@ impl<
         }
     }
 
-    /// Sets the bar's message.
+    /// Sets the message of the wrapper's shared bar.
     ///
     /// Refused: `Memory`; on a board, as each command there.
     pub fn with_message(self, text: &str) -> Result<Self, Refusal>
@@ -206,7 +207,7 @@ impl<
         }
     }
 
-    /// Sets the time since the bar's start, in nanoseconds.
+    /// Sets the time since the start of the wrapper's shared bar, in nanoseconds.
     ///
     /// Refused: `ElapsedBeyondClock`, if that is more than the moment of its clock; on a board, as each command there.
     pub fn with_elapsed(self, nanos: u64) -> Result<Self, Refusal>

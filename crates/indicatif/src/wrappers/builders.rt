@@ -13,7 +13,8 @@ use indicatif_text::columns::{Clock, Drawn, Refusal};
 
 /// Each of these asks for no draw, and leaves `last_draw` unchanged.
 impl<I, K: Tracks, W: TermLike + Drop, C: Clock + Drop> ProgressBarIter<I, OwnedBar<K, W, C>> {
-    /// Sets the bar's position. The rate counts it with the next step: `ProgressBar::with_position` says what to do about that.
+    /// Sets the position of the wrapper's own bar. The rate counts it with the next step: `ProgressBar::with_position` says what to do
+    /// about that.
     pub fn with_position(self, position: u64) -> Self
         ensures { Built K.means W.view self (WithPosition position) result }
     {
@@ -23,7 +24,7 @@ impl<I, K: Tracks, W: TermLike + Drop, C: Clock + Drop> ProgressBarIter<I, Owned
         wrapped
     }
 
-    /// Sets what finishes the bar at the end.
+    /// Sets what finishes the wrapper's own bar at the end.
     pub fn with_finish(self, finish: ProgressFinish) -> Self
         ensures { Built K.means W.view self (WithFinish (finish_of finish)) result }
     {
@@ -39,7 +40,7 @@ impl<I: Drop, K: Tracks, W: TermLike + Drop, C: Clock + Drop> ProgressBarIter<
     I,
     OwnedBar<K, W, C>,
 > {
-    /// Sets the bar's style.
+    /// Sets the style of the wrapper's own bar.
     ///
     /// Refused: `Memory`.
     pub fn with_style(self, style: ProgressStyle<K>) -> Result<Self, Refusal>
@@ -51,7 +52,7 @@ impl<I: Drop, K: Tracks, W: TermLike + Drop, C: Clock + Drop> ProgressBarIter<
         wrapped.unless_refused(answer)
     }
 
-    /// Sets the bar's prefix.
+    /// Sets the prefix of the wrapper's own bar.
     ///
     /// Refused: `Memory`.
     pub fn with_prefix(self, text: &str) -> Result<Self, Refusal>
@@ -63,7 +64,7 @@ impl<I: Drop, K: Tracks, W: TermLike + Drop, C: Clock + Drop> ProgressBarIter<
         wrapped.unless_refused(answer)
     }
 
-    /// Sets the bar's message.
+    /// Sets the message of the wrapper's own bar.
     ///
     /// Refused: `Memory`.
     pub fn with_message(self, text: &str) -> Result<Self, Refusal>
@@ -75,7 +76,7 @@ impl<I: Drop, K: Tracks, W: TermLike + Drop, C: Clock + Drop> ProgressBarIter<
         wrapped.unless_refused(answer)
     }
 
-    /// Sets the time since the bar's start, in nanoseconds.
+    /// Sets the time since the start of the wrapper's own bar, in nanoseconds.
     ///
     /// Refused: `ElapsedBeyondClock`, if that is more than the moment of its clock.
     pub fn with_elapsed(self, nanos: u64) -> Result<Self, Refusal>

@@ -23,14 +23,14 @@ pub trait Moves {
     /// A move may lead from the first state to the second, with this answer.
     ghost leads: { Self → Move → Result Drawn Refusal → Self → Type 0 } = { λ _ _ _ _. ⊤ };
 
-    /// Advances the position by `n`, modulo 2^64.
+    /// Advances the bar's position by `n`, modulo 2^64.
     ///
     /// Refused: as a draw is.
     fn advance(&mut self, n: u64) -> Result<Drawn, Refusal>
         ensures led { leads self.old (Advance n) result self.new }
         ensures goes { Goes (stands self.old) (Advance n) result (stands self.new) };
 
-    /// Sets the position.
+    /// Sets the bar's position.
     ///
     /// Refused: as a draw is.
     fn place(&mut self, place: u64) -> Result<Drawn, Refusal>
@@ -68,11 +68,11 @@ pub trait Moves {
         false
     }
 
-    /// Its position.
+    /// The position of the bar that is moved.
     fn position(&self) -> u64
         ensures { IfSome (stands self.now) (λ bar. result ≡ bar.position) };
 
-    /// Whether it is finished.
+    /// Whether the bar that is moved is finished.
     fn finished(&self) -> bool
         ensures { IfSome (stands self.now) (λ bar. result ≡ bar.finished) };
 }

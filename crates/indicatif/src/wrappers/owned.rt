@@ -39,7 +39,7 @@ impl<K, T: Drop, C> OwnedBar<K, T, C> {
         OwnedBar { bar, clock }
     }
 
-    /// The bar.
+    /// The bar, without its clock.
     pub fn bar(&self) -> &LoneBar<K, T>
         ensures { result.now ≡ lone_of self.now }
     {
@@ -62,7 +62,8 @@ impl<K, T: Drop, C> Debug for OwnedBar<K, T, C> {
 }
 
 impl<K: Tracks, T: TermLike + Drop, C: Clock + Drop> OwnedBar<K, T, C> {
-    /// A bar with this length or none, in this style, on the setup's target, made at the moment of its clock. Nothing is drawn.
+    /// A bar with its clock, with this length or none, in this style, on the setup's target, made at the moment of its clock. Nothing is
+    /// drawn.
     ///
     /// Refused: `Memory`, only if the style has a tab width other than 8; nothing is made, and the arguments are dropped.
     pub fn styled(
@@ -82,7 +83,7 @@ impl<K: Tracks, T: TermLike + Drop, C: Clock + Drop> OwnedBar<K, T, C> {
 }
 
 impl<T: TermLike + Drop, C: Clock + Drop> OwnedBar<NoTracker, T, C> {
-    /// A bar as that of `styled`, with the template `{wide_bar} {pos}/{len}`.
+    /// A bar with its clock, as that of `styled`, with the template `{wide_bar} {pos}/{len}`.
     ///
     /// Refused: `Memory`; nothing is made, and the arguments are dropped.
     pub fn plain(alloc: Global, len: Option<u64>, setup: Setup<T, C>) -> Result<Self, Refusal>

@@ -22,12 +22,12 @@ use std::alloc::Global;
 /// while let Some(item) = wrapped.next() { .. }
 /// ```
 pub trait ProgressIterator: Iterator + Sized {
-    /// Wraps it with this bar.
+    /// Wraps the iterator with this bar.
     fn progress_with<P: Moves>(self, progress: P) -> ProgressBarIter<Self, P>
         ensures wraps { Wraps result self }
         ensures bar { result.progress ≡ progress };
 
-    /// Wraps it with a bar of this length.
+    /// Wraps the iterator with a bar of this length.
     ///
     /// Refused: `Memory`; the iterator and the setup are dropped.
     fn progress_count<W: TermLike + Drop, C: Clock + Drop>(
@@ -40,7 +40,7 @@ pub trait ProgressIterator: Iterator + Sized {
         ensures bar { IfOk result (λ w. BeginsPlain w.progress TICKS.now (Some len) setup.target) }
         ensures memory { IfErr result (λ e. e ≡ Refusal.Memory) };
 
-    /// Wraps it with a bar whose length is the number of items left.
+    /// Wraps the iterator with a bar whose length is the number of items left.
     ///
     /// Refused: `Memory`; the iterator and the setup are dropped.
     fn progress<W: TermLike + Drop, C: Clock + Drop>(
@@ -54,7 +54,7 @@ pub trait ProgressIterator: Iterator + Sized {
         ensures bar { IfOk result (λ w. BeginsPlain w.progress TICKS.now (Some (size (Self.remaining self))) setup.target) }
         ensures memory { IfErr result (λ e. e ≡ Refusal.Memory) };
 
-    /// Wraps it with a bar whose length is the number of items left, in this style.
+    /// Wraps the iterator with a bar whose length is the number of items left, in this style.
     ///
     /// Refused: `Memory`, only if the style has a tab width other than 8; the iterator and the setup are dropped.
     fn progress_with_style<K: Tracks, W: TermLike + Drop, C: Clock + Drop>(
@@ -69,8 +69,8 @@ pub trait ProgressIterator: Iterator + Sized {
         ensures bar { IfOk result (λ w. (now : ℕ) × Begins w.progress (new_bar style (Some (size (Self.remaining self))) now) setup.target) }
         ensures memory { IfErr result (λ e. (e ≡ Refusal.Memory) × IsFalse (8 == style.tab)) };
 
-    /// Wraps it with a bar whose length is the upper bound of the iterator's `size_hint`; if there is no such bound, `None`: nothing is
-    /// made, and the iterator is dropped. So the bar's length is never below the number of items.
+    /// Wraps the iterator with a bar whose length is the upper bound of the iterator's `size_hint`; if there is no such bound, `None`:
+    /// nothing is made, and the iterator is dropped. So the bar's length is never below the number of items.
     ///
     /// ```
     /// let Some(mut wrapped) = list.into_iter().try_progress(alloc, setup)? else { .. }; // of 3 items: `0/3` at first

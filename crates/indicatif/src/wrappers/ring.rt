@@ -28,7 +28,7 @@ impl<const N: usize> Model for MaxRingBuf<N> {
 }
 
 impl<const N: usize> MaxRingBuf<N> {
-    /// Without any place. A capacity of 0, or above 255, doesn't compile. Takes no memory.
+    /// A ring without any place. A capacity of 0, or above 255, doesn't compile. Takes no memory.
     pub fn new() -> Self
         requires { (0 < N) × (N < 256) }
         ensures { result ≡ [] }
@@ -39,7 +39,7 @@ impl<const N: usize> MaxRingBuf<N> {
         }
     }
 
-    /// Adds a place; it replaces the oldest if there are `N`.
+    /// Adds a place to the ring; it replaces the oldest if there are `N`.
     pub fn update(&mut self, place: u64)
         ensures { self.new ≡ take N (place ∷ self.old) }
     {

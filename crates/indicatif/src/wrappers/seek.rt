@@ -34,7 +34,7 @@ impl<const RESET: u8, const HISTORY: usize> Model for SeekMax<RESET, HISTORY> {
 }
 
 impl<const RESET: u8, const HISTORY: usize> SeekMax<RESET, HISTORY> {
-    /// Without a seek. A `HISTORY` of 0, or above 255, doesn't compile. Takes no memory.
+    /// The record of no seek. A `HISTORY` of 0, or above 255, doesn't compile. Takes no memory.
     pub fn new() -> Self
         requires { (0 < HISTORY) × (HISTORY < 256) }
         ensures { result ≡ no_seeks }

@@ -80,7 +80,7 @@ impl<T, P: Moves> ProgressBarIter<T, P> {
     }
 }
 
-/// Reads a bar's position, and sets it `n` further.
+/// Reads the position of a wrapper's bar, and sets it `n` further.
 fn place<P: Moves>(bar: &mut P, seeks: &mut SeekMax<5, 10>, n: u64) -> Result<Drawn, Refusal>
     ensures { PlacedAfter P.stands P.leads bar.old seeks.old n result bar.new seeks.new }
 {

@@ -332,7 +332,7 @@ impl<K: Tracks, T: TermLike + Drop> LoneBar<K, T> {
         self.obey_unless(asked, now)
     }
 
-    /// As `finish`, with this message, which shows only where the template has `{msg}` or `{wide_msg}`.
+    /// Finishes the bar as `finish`, with this message, which shows only where the template has `{msg}` or `{wide_msg}`.
     ///
     /// Refused: `Memory`, only if the message isn't empty; then nothing has changed. Otherwise as a draw.
     pub fn finish_with_message(&mut self, text: &str, now: Moment) -> Result<Drawn, Refusal>
@@ -342,7 +342,7 @@ impl<K: Tracks, T: TermLike + Drop> LoneBar<K, T> {
         self.obey_unless(asked, now)
     }
 
-    /// As `abandon`, with this message.
+    /// Finishes the bar as `abandon`, with this message.
     ///
     /// Refused: as `finish_with_message`.
     pub fn abandon_with_message(&mut self, text: &str, now: Moment) -> Result<Drawn, Refusal>

@@ -154,7 +154,7 @@ impl<K: Tracks> BarState<K> {
         self.ticker_tick(now)
     }
 
-    /// Ticks once more, up to 2^64 - 1, as a steady ticker does, and asks for a draw.
+    /// Ticks once more, up to 2^64 - 1, as a steady ticker does, and asks for a draw. Returns an `Ask`.
     pub fn ticker_tick(&mut self, now: Moment) -> Ask
         ensures { (self.new, result) ≡ obeyed K.means TickerTick self.old now }
     {
@@ -181,7 +181,7 @@ impl<K: Tracks> BarState<K> {
         Ask::Unforced
     }
 
-    /// Sets whether a steady ticker is installed; while one is, `tick` changes nothing. Asks for no draw.
+    /// Sets whether a steady ticker is installed; while one is, `tick` changes nothing. Returns `Ask::No`.
     pub fn set_ticker(&mut self, installed: bool, now: Moment) -> Ask
         ensures { (self.new, result) ≡ obeyed K.means (SetTicker installed) self.old now }
     {
@@ -199,7 +199,7 @@ impl<K: Tracks> BarState<K> {
         self.set_position(position, now)
     }
 
-    /// Subtracts `delta` from the position, modulo 2^64; otherwise as `inc`.
+    /// Subtracts `delta` from the position, modulo 2^64; otherwise as `inc`. Returns an `Ask`.
     #[inline(always)]
     pub fn dec(&mut self, delta: u64, now: Moment) -> Ask
         ensures { (self.new, result) ≡ obeyed K.means (Dec delta) self.old now }
@@ -208,7 +208,7 @@ impl<K: Tracks> BarState<K> {
         self.set_position(position, now)
     }
 
-    /// Sets the position; otherwise as `inc`.
+    /// Sets the position; otherwise as `inc`. Returns an `Ask`.
     #[inline(always)]
     pub fn set_position(&mut self, position: u64, now: Moment) -> Ask
         ensures { (self.new, result) ≡ obeyed K.means (SetPosition position) self.old now }
@@ -231,7 +231,7 @@ impl<K: Tracks> BarState<K> {
         Ask::No
     }
 
-    /// Adds what workers have counted to the position, modulo 2^64; otherwise as `inc`.
+    /// Adds what workers have counted to the position, modulo 2^64; otherwise as `inc`. Returns an `Ask`.
     #[inline(always)]
     pub fn absorb(&mut self, sum: u64, now: Moment) -> Ask
         ensures { (self.new, result) ≡ obeyed K.means (Inc sum) self.old now }
@@ -239,7 +239,7 @@ impl<K: Tracks> BarState<K> {
         self.inc(sum, now)
     }
 
-    /// Makes the changes that the closure returns for the bar's state; then as `tick`.
+    /// Makes the changes that the closure returns for the bar's state; then as `tick`. Returns an `Ask`.
     pub fn update<F: FnOnce(&ProgressState) -> Change>(&mut self, f: F, now: Moment) -> Ask
         requires { F.IsAlwaysCallable f }
         ensures { (change : Change) × FnOnceReturnsAt F.FnOnce f self.old.progress change
@@ -249,7 +249,7 @@ impl<K: Tracks> BarState<K> {
         self.set_change(change, now)
     }
 
-    /// Sets a position and a length, each if there is one; then as `tick`.
+    /// Sets a position and a length, each if there is one; then as `tick`. Returns an `Ask`.
     pub fn set_change(&mut self, change: Change, now: Moment) -> Ask
         ensures { (self.new, result) ≡ obeyed K.means (Update change.pos change.len) self.old now }
     {
@@ -327,7 +327,7 @@ impl<K: Tracks> BarState<K> {
         Ok(self.update_draw(now))
     }
 
-    /// Sets the style, and gives it the bar's tab width. Asks for no draw.
+    /// Sets the style, and gives it the bar's tab width. Returns `Ask::No`.
     ///
     /// Refused: `Memory`, if the style has another tab width; then nothing has changed, and the style is dropped.
     pub fn set_style(&mut self, style: ProgressStyle<K>, now: Moment) -> Result<Ask, Refusal>
@@ -342,7 +342,7 @@ impl<K: Tracks> BarState<K> {
         Ok(Ask::No)
     }
 
-    /// Sets the style; the next draw uses it. Otherwise as `set_style`.
+    /// Sets the style; the next draw uses it. Returns an `Ask`, otherwise as `set_style`.
     pub fn with_style(&mut self, style: ProgressStyle<K>, now: Moment) -> Result<Ask, Refusal>
         ensures done { IfOk result (λ ask. (self.new, ask) ≡ obeyed K.means (SetStyle style) self.old now) }
         ensures unchanged { OnErr result (self.new ≡ self.old) }
@@ -352,7 +352,7 @@ impl<K: Tracks> BarState<K> {
         self.set_style(style, now)
     }
 
-    /// Sets the position, for work that has already begun. Asks for no draw. The rate counts it with the next step, unless a tick and
+    /// Sets the position, for work that has already begun. Returns `Ask::No`. The rate counts it with the next step, unless a tick and
     /// `reset_eta` follow.
     pub fn with_position(&mut self, position: u64, now: Moment) -> Ask
         ensures { (self.new, result) ≡ obeyed K.means (WithPosition position) self.old now }
@@ -361,7 +361,7 @@ impl<K: Tracks> BarState<K> {
         Ask::No
     }
 
-    /// Sets the message, which shows only if the template has `{msg}` or `{wide_msg}`. Asks for no draw.
+    /// Sets the message, which shows only if the template has `{msg}` or `{wide_msg}`. Returns `Ask::No`.
     ///
     /// Refused: `Memory`, only if the text isn't empty; then nothing has changed.
     pub fn with_message(&mut self, text: &str, now: Moment) -> Result<Ask, Refusal>
@@ -374,7 +374,7 @@ impl<K: Tracks> BarState<K> {
         Ok(Ask::No)
     }
 
-    /// Sets the prefix, which shows only if the template has `{prefix}`. Asks for no draw.
+    /// Sets the prefix, which shows only if the template has `{prefix}`. Returns `Ask::No`.
     ///
     /// Refused: `Memory`, only if the text isn't empty; then nothing has changed.
     pub fn with_prefix(&mut self, text: &str, now: Moment) -> Result<Ask, Refusal>
@@ -395,7 +395,7 @@ impl<K: Tracks> BarState<K> {
         Ask::No
     }
 
-    /// Sets the tab width of the message, the prefix and the style, in spaces. Asks for no draw.
+    /// Sets the tab width of the message, the prefix and the style, in spaces. Returns `Ask::No`.
     ///
     /// Refused: `Memory`, only if the message or the prefix has a tab, or the style another tab width; then nothing has changed.
     pub fn with_tab_width(&mut self, tab: usize, now: Moment) -> Result<Ask, Refusal>
@@ -410,7 +410,7 @@ impl<K: Tracks> BarState<K> {
         Ok(Ask::No)
     }
 
-    /// Sets how many spaces a tab has in the message, the prefix and the style, and forces a draw.
+    /// Sets how many spaces a tab has in the message, the prefix and the style, and forces a draw. Returns `Ask::Forced`.
     ///
     /// Refused: as `with_tab_width`; then nothing has changed.
     pub fn set_tab_width(&mut self, tab: usize, now: Moment) -> Result<Ask, Refusal>
@@ -423,7 +423,7 @@ impl<K: Tracks> BarState<K> {
         Ok(Ask::Forced)
     }
 
-    /// Sets the time since the start, in nanoseconds, as `{elapsed}` shows it: for work that began before the bar. Asks for no draw.
+    /// Sets the time since the start, in nanoseconds, as `{elapsed}` shows it: for work that began before the bar. Returns `Ask::No`.
     ///
     /// Refused: `ElapsedBeyondClock`, exactly if that is more than the moment; then nothing has changed.
     pub fn set_elapsed(&mut self, nanos: u64, now: Moment) -> Result<Ask, Refusal>
@@ -439,7 +439,7 @@ impl<K: Tracks> BarState<K> {
         Ok(Ask::No)
     }
 
-    /// Sets the time since the start, as `set_elapsed`.
+    /// Sets the time since the start, as `set_elapsed`. Returns `Ask::No`.
     pub fn with_elapsed(&mut self, nanos: u64, now: Moment) -> Result<Ask, Refusal>
         ensures done { IfOk result (λ ask. (self.new, ask) ≡ obeyed K.means (SetElapsed nanos) self.old now) }
         ensures unchanged { OnErr result (self.new ≡ self.old) }
@@ -449,7 +449,7 @@ impl<K: Tracks> BarState<K> {
         self.set_elapsed(nanos, now)
     }
 
-    /// Counts the rate, and the time that is left, from now on: for instance after a pause. Asks for no draw.
+    /// Counts the rate, and the time that is left, from now on: for instance after a pause. Returns `Ask::No`.
     pub fn reset_eta(&mut self, now: Moment) -> Ask
         ensures { (self.new, result) ≡ obeyed K.means ResetEta self.old now }
     {
@@ -457,7 +457,7 @@ impl<K: Tracks> BarState<K> {
         Ask::No
     }
 
-    /// Counts the rate and the elapsed time from now on. Asks for no draw.
+    /// Counts the rate and the elapsed time from now on. Returns `Ask::No`.
     pub fn reset_elapsed(&mut self, now: Moment) -> Ask
         ensures { (self.new, result) ≡ obeyed K.means ResetElapsed self.old now }
     {
@@ -476,7 +476,7 @@ impl<K: Tracks> BarState<K> {
         self.asked()
     }
 
-    /// Finishes the bar at its length, if it has one, and forces a draw: the bar stays on the screen.
+    /// Finishes the bar at its length, if it has one, and forces a draw: the bar stays on the screen. Returns `Ask::Forced`.
     pub fn finish(&mut self, now: Moment) -> Ask
         ensures { (self.new, result) ≡ obeyed K.means (Finish AndLeave) self.old now }
     {
@@ -484,7 +484,8 @@ impl<K: Tracks> BarState<K> {
         Ask::Forced
     }
 
-    /// As `finish`, with this message, which shows only where the template has `{msg}` or `{wide_msg}`.
+    /// Finishes the bar as `finish`, with this message, which shows only where the template has `{msg}` or `{wide_msg}`. Returns
+    /// `Ask::Forced`.
     ///
     /// Refused: `Memory`, only if the message isn't empty; then nothing has changed.
     pub fn finish_with_message(&mut self, text: &str, now: Moment) -> Result<Ask, Refusal>
@@ -497,7 +498,8 @@ impl<K: Tracks> BarState<K> {
         Ok(self.finish(now))
     }
 
-    /// Finishes the bar at its length, if it has one, and forces a draw: the bar leaves the screen, and has no more lines.
+    /// Finishes the bar at its length, if it has one, and forces a draw: the bar leaves the screen, and has no more lines. Returns
+    /// `Ask::Forced`.
     pub fn finish_and_clear(&mut self, now: Moment) -> Ask
         ensures { (self.new, result) ≡ obeyed K.means (Finish AndClear) self.old now }
     {
@@ -505,7 +507,7 @@ impl<K: Tracks> BarState<K> {
         Ask::Forced
     }
 
-    /// Finishes the bar where it is, for work that is given up, and forces a draw: the bar stays on the screen.
+    /// Finishes the bar where it is, for work that is given up, and forces a draw: the bar stays on the screen. Returns `Ask::Forced`.
     pub fn abandon(&mut self, now: Moment) -> Ask
         ensures { (self.new, result) ≡ obeyed K.means (Finish Abandon) self.old now }
     {
@@ -513,7 +515,7 @@ impl<K: Tracks> BarState<K> {
         Ask::Forced
     }
 
-    /// As `abandon`, with this message.
+    /// Finishes the bar as `abandon`, with this message. Returns `Ask::Forced`.
     ///
     /// Refused: `Memory`, only if the message isn't empty; then nothing has changed.
     pub fn abandon_with_message(&mut self, text: &str, now: Moment) -> Result<Ask, Refusal>
@@ -543,7 +545,7 @@ impl<K: Tracks> BarState<K> {
         Ok(Ask::Forced)
     }
 
-    /// Finishes the bar by its stored finish (`with_finish`; the default is `AndClear`), and forces a draw.
+    /// Finishes the bar by its stored finish (`with_finish`; the default is `AndClear`), and forces a draw. Returns `Ask::Forced`.
     ///
     /// Refused: `Memory`, only if that finish has a message that isn't empty; then nothing has changed.
     pub fn finish_using_style(&mut self, now: Moment) -> Result<Ask, Refusal>
@@ -572,7 +574,7 @@ impl<K: Tracks> BarState<K> {
         self.finish_using_style(now)
     }
 
-    /// Forces a draw, and changes nothing of the bar.
+    /// Forces a draw, and changes nothing of the bar. Returns `Ask::Forced`.
     pub fn force_draw(&mut self, now: Moment) -> Ask
         ensures { (self.new, result) ≡ obeyed K.means ForceDraw self.old now }
     {
@@ -621,7 +623,7 @@ impl<K: Tracks> BarState<K> {
         }
     }
 
-    /// As `tell`, for a command with its own text.
+    /// Makes the command that this value names, as `tell`, with its own text.
     ///
     /// Refused: as `tell`.
     pub fn apply(&mut self, command: BarCommand<K>, now: Moment) -> Result<Ask, Refusal>

@@ -6,7 +6,7 @@ use crate::tracker::Tracks;
 use indicatif_text::columns::Refusal;
 
 impl<K: Tracks> BarState<K> {
-    /// A copy of the bar. Later commands of one don't change the other.
+    /// A copy of the bar's record. Later commands of one don't change the other.
     ///
     /// ```
     /// let before = bar.try_clone()?;

@@ -88,7 +88,7 @@ fn push_begun(
     }
 }
 
-/// Appends the bar of `width` columns.
+/// Appends the cells of a bar of `width` columns.
 pub(crate) fn push_bar(
     clusters: &Texts,
     rest: RestLook,

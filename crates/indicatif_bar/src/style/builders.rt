@@ -252,7 +252,7 @@ impl<K: Tracks> ProgressStyle<K> {
     }
 }
 
-/// A template, or the refusal of its text.
+/// A style's template, or the refusal of its text.
 fn parsed(alloc: Global, text: &str) -> Result<Template, Refusal>
     ensures parses { IfOk result (λ template. Parses (chars text.now) template) }
     ensures refused { IfErr result (λ e. (e ≡ Refusal.Memory)
@@ -264,7 +264,7 @@ fn parsed(alloc: Global, text: &str) -> Result<Template, Refusal>
     }
 }
 
-/// Copies of these trackers, under the same names.
+/// Copies of the style's trackers, under the same names.
 fn cloned_keys<K: Tracks>(alloc: Global, keys: &[(String, K)]) -> Result<Vec<(String, K)>, Refusal>
     ensures keys { IfOk result (λ v. entries v.items ≡ entries keys.now) }
     ensures memory { IfErr result (λ e. e ≡ Refusal.Memory) }
@@ -276,7 +276,7 @@ fn cloned_keys<K: Tracks>(alloc: Global, keys: &[(String, K)]) -> Result<Vec<(St
     Ok(all)
 }
 
-/// A copy of the tracker, under the same name.
+/// A copy of one of the style's trackers, under the same name.
 fn cloned_key<K: Tracks>(alloc: Global, key: &(String, K)) -> Result<(String, K), Refusal>
     ensures key { IfOk result (λ made. (string_bytes made.0 ≡ string_bytes key.now.0) × (made.1 ≡ key.now.1)) }
     ensures memory { IfErr result (λ e. e ≡ Refusal.Memory) }

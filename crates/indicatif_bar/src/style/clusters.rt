@@ -57,7 +57,7 @@ pub(crate) fn clusters_of(alloc: Global, text: &str) -> Result<Vec<String>, Refu
     Ok(all)
 }
 
-/// Copies of texts.
+/// Copies of borrowed texts.
 pub(crate) fn copied(alloc: Global, texts: &[&str]) -> Result<Vec<String>, Refusal>
     ensures texts { IfOk result (λ v. bytes_of_strings v.items ≡ map (λ text. text.now) texts.now) }
     ensures memory { IfErr result (λ e. e ≡ Refusal.Memory) }
@@ -69,7 +69,7 @@ pub(crate) fn copied(alloc: Global, texts: &[&str]) -> Result<Vec<String>, Refus
     Ok(all)
 }
 
-/// Copies of texts.
+/// Copies of owned texts.
 pub(crate) fn cloned(alloc: Global, texts: &[String]) -> Result<Vec<String>, Refusal>
     ensures texts { IfOk result (λ v. bytes_of_strings v.items ≡ bytes_of_strings texts.now) }
     ensures memory { IfErr result (λ e. e ≡ Refusal.Memory) }

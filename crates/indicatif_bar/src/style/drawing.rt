@@ -32,7 +32,7 @@ use indicatif_text::template::{Alignment, Template};
 use std::mem::replace;
 
 impl<K: Tracks> ProgressStyle<K> {
-    /// Appends a bar of `width` columns, in a placeholder's layout.
+    /// Appends a bar of `width` columns in the layout of its placeholder.
     fn push_bar(
         &self,
         placeholder: &Placeholder,
@@ -51,7 +51,7 @@ impl<K: Tracks> ProgressStyle<K> {
         push_bar(&self.clusters, rest, state.fraction(), columns, out)
     }
 
-    /// Appends the text of a key.
+    /// Appends the text of a key in this state.
     fn push_key(
         &self,
         key: Key,
@@ -87,7 +87,7 @@ impl<K: Tracks> ProgressStyle<K> {
         }
     }
 
-    /// The spinner's text.
+    /// The spinner's text in this state, finished or not.
     pub(crate) fn spinner_text(&self, state: &ProgressState) -> &str
         ensures { result.now ≡ (if is_finished state.now then final_tick_string self.now.tick_strings
             else tick_string self.now.tick_strings state.now.ticks) }
@@ -351,7 +351,7 @@ impl<K: Tracks> ProgressStyle<K> {
         Ok(())
     }
 
-    /// The lines, in memory of `spare`. If the style shows nothing, there are none.
+    /// The style's lines, laid out in memory of `spare`. If the style shows nothing, there are none.
     pub(crate) fn lines_in(
         &self,
         spare: &mut SpareLines,
@@ -370,7 +370,7 @@ impl<K: Tracks> ProgressStyle<K> {
         self.laid_out(spare, state, now, width)
     }
 
-    /// The lines, laid out step by step.
+    /// The style's lines, laid out step by step.
     fn laid_out(
         &self,
         spare: &mut SpareLines,
@@ -429,7 +429,7 @@ impl Line {
         }
     }
 
-    /// The finished line; the next one begins in this memory.
+    /// The line that was laid out, finished; the next one begins in this memory.
     fn end(&mut self, room: String) -> Line
         ensures ended { result ≡ self.old }
         ensures next { self.new ≡ record self.old { text = room } }

@@ -159,7 +159,7 @@ fn push_copied(text: &str, spare: &mut SpareLines, lines: &mut Vec<LineType>) ->
     Ok(())
 }
 
-/// Appends a line.
+/// Appends a line to the lines of a text.
 pub(crate) fn push_line(text: String, lines: &mut Vec<LineType>) -> Result<(), Refusal>
     ensures lines { OnOk result (map line_text lines.new.items ≡ map line_text lines.old.items ++ string_bytes text ∷ []) }
     ensures kind { IsTrue (list_all is_bar_line lines.old.items) → IsTrue (list_all is_bar_line lines.new.items) }

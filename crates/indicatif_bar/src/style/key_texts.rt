@@ -11,7 +11,7 @@ use indicatif_text::format::{
 };
 use itoa::Buffer;
 
-/// Appends a text.
+/// Appends the text of a key, such as a message.
 pub(crate) fn push_text(text: &str, out: &mut String) -> Result<(), Refusal>
     ensures text { OnOk result (string_bytes out.new ≡ string_bytes out.old ++ text.now) }
     ensures memory { IfErr result (λ e. e ≡ Refusal.Memory) }

@@ -85,7 +85,7 @@ fn blanks_before(align: Alignment, blanks: usize) -> usize
     }
 }
 
-/// Appends `text` `count` times.
+/// Appends `text` `count` times, from a ready run or by repetition.
 pub(crate) fn push_times(text: &str, count: usize, out: &mut String) -> Result<(), Refusal>
     ensures text { OnOk result (string_bytes out.new ≡ string_bytes out.old ++ times count text.now) }
     ensures memory { IfErr result (λ e. e ≡ Refusal.Memory) }

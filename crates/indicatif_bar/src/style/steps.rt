@@ -55,21 +55,22 @@ impl Placeholder {
         }
     }
 
-    /// The style of a bar's rest.
+    /// The placeholder's alternative style, that of a bar's rest.
     pub(crate) fn alternative_style(&self) -> Style
         ensures { numbers_of result ≡ unwrap_or (placeholder_layout self.now).alternative [] }
     {
         self.alternative.unwrap_or(Style::new())
     }
 
-    /// The style of the text.
+    /// The style of the placeholder's text.
     fn text_style(&self) -> Style
         ensures { numbers_of result ≡ unwrap_or (placeholder_layout self.now).style [] }
     {
         self.style.unwrap_or(Style::new())
     }
 
-    /// Appends the sequences that stand before the text, and returns whether there are any. The style isn't used if colours are off.
+    /// Appends the sequences that stand before the placeholder's text, and returns whether there are any. The style isn't used if colours
+    /// are off.
     #[inline(always)]
     pub(crate) fn open(&self, colours: bool, out: &mut String) -> Result<bool, Refusal>
         ensures bytes { OnOk result (string_bytes out.new ≡ string_bytes out.old
@@ -83,14 +84,14 @@ impl Placeholder {
         self.text_style().open(colours, out)
     }
 
-    /// Whether nothing is written around an empty text.
+    /// Whether nothing is written around the placeholder's text, if that is empty.
     pub(crate) fn is_bare(&self, colours: bool) -> bool
         ensures { result ≡ is_bare_layout colours (placeholder_layout self.now) }
     {
         self.width.unwrap_or(0) == 0 && !(colours && self.style.is_some())
     }
 
-    /// Whether a bar in its place has no columns, and its rest no colours.
+    /// Whether a bar in the placeholder's place has no columns, and its rest no colours.
     pub(crate) fn is_bare_bar(&self, colours: bool) -> bool
         ensures { result ≡ ((unwrap_or self.now.width 20 == 0) && not (colours && is_some (placeholder_layout self.now).alternative)) }
     {
@@ -196,7 +197,7 @@ fn literal_of(part: Part<'_>) -> &str
     }
 }
 
-/// The text itself: its bytes are those of its characters.
+/// The text of a part itself: its bytes are those of its characters.
 #[inline(always)]
 fn spelt(text: &str) -> &str
     ensures { result.now ≡ encode_utf8_all (chars text.now) }

@@ -17,7 +17,7 @@ pub(crate) enum Texts {
 }
 
 impl Texts {
-    /// How many texts there are.
+    /// How many texts the list has.
     pub(crate) fn len(&self) -> usize
         ensures { result ≡ length (texts_in self.now) }
     {
@@ -27,7 +27,7 @@ impl Texts {
         }
     }
 
-    /// The text at a place.
+    /// The text at a place of the list.
     pub(crate) fn at(&self, place: usize) -> &str
         requires within { place < length (texts_in self.now) }
         ensures { result.now ≡ slice_index_or (texts_in self.now) place [] }
@@ -38,7 +38,7 @@ impl Texts {
         }
     }
 
-    /// A copy of the texts. Built-in ones are never refused.
+    /// A copy of the list of texts. Built-in ones are never refused.
     pub(crate) fn try_clone(&self, alloc: Global) -> Result<Texts, Refusal>
         ensures same { IfOk result (λ other. texts_in other ≡ texts_in self.now) }
         ensures memory { IfErr result (λ e. e ≡ Refusal.Memory) }
@@ -50,7 +50,7 @@ impl Texts {
     }
 }
 
-/// The built-in text at a place.
+/// The built-in text at a place of such a list.
 fn fixed_at(texts: &[&'static str], place: usize) -> &'static str
     requires within { place < length texts.now }
     ensures { result.now ≡ slice_index_or (map (λ text. text.now) texts.now) place [] }

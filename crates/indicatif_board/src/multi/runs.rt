@@ -22,7 +22,7 @@ impl<K: Tracks, T: TermLike + Drop> Board<K, T> {
     /// new one that was refused.
     ///
     /// ```
-    /// let (answer, removed) = board.apply(Call::Remove(id), now); // Answer::Done, and the bar
+    /// let (answer, removed) = board.apply(Call::Remove(id), now); // Answer::Accepted, and the bar
     /// ```
     #[inline(always)]
     pub fn apply(&mut self, call: Call<K>, now: Moment) -> (Answer, Option<BarState<K>>)
@@ -44,13 +44,13 @@ impl<K: Tracks, T: TermLike + Drop> Board<K, T> {
             Call::Redraw => (draw_answer(self.redraw(now)), None),
             Call::Align(alignment) => {
                 self.set_alignment(alignment);
-                (Answer::Done, None)
+                (Answer::Accepted, None)
             }
             Call::Bar(id, command) => (draw_answer(self.command(id, command, now)), None),
         }
     }
 
-    /// As `apply`. A bar that is removed or refused is dropped.
+    /// Makes a call as `apply`, but a bar that is removed or refused is dropped.
     pub fn call(&mut self, call: Call<K>, now: Moment) -> Answer
         ensures keeps { Keeps T.view (wrote (drawn_of (answer_of result))) self.old self.new }
         ensures leads { LeadsBy K.means T.view self.old self.new (call_of call) now (answer_of result) }

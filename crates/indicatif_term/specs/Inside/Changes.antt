@@ -75,7 +75,7 @@ filled_whole w p = record p { line = p.line ++ replicate (w - p.last) 0x20; last
 abbrev pub ended_by : ℕ → ℕ → PlacedLine → PlacedLine
 ended_by w c p = record p { change = Within (w - 1) (Write c ∷ []) }
 
--- the last line, which leaves the cursor waiting at the end of its row: moves alone don't lead there, but writing the last column again does, if it is free or an ASCII character without marks
+-- the last line, which leaves the cursor waiting at the end of its row: moves alone don't lead there, but writing the last column again does, if it is free or an ASCII character without joiners
 abbrev pub ending_by : Change → ℕ → PlacedLine → PlacedLine
 ending_by Leave w p =
     if nat_lt p.last w then ended_by w 0x20 p

@@ -50,7 +50,7 @@ edit_columns (Open s ∷ es) = edit_columns es
 
 -- a character of one column in its cell
 abbrev pub narrow : ℕ → Cell
-narrow c = Written (record { base = c; marks = [] })
+narrow c = Written (record { base = c; joiners = [] })
 
 -- the cells after the edits
 abbrev pub edited : List Cell → List Edit → List Cell

@@ -13,10 +13,10 @@ use Rattle.indicatif_term.specs.OwnRows.{first_place, Quietly}
 use Rattle.indicatif_term.specs.Modes.{ModeTerminal, mode_resting, step_by, mode_after}
 use Rattle.indicatif_term.specs.EndedRows.{is_between, SameRows, Together}
 use Rattle.indicatif_term.specs.declared.target.ended_rows.EndedRows.{EndedRows}
-use Rattle.indicatif_term.specs.declared.target.ended_rows.Place.{Place}
+use Rattle.indicatif_term.specs.declared.target.ended_rows.Phase.{Phase}
 use Rattle.indicatif_term.specs.declared.target.ended_rows.Shown.{Shown}
 use Rattle.indicatif_term.specs.declared.target.ended_rows.Shown.TheVariants.{AtOnce, AsWritten}
-use Rattle.indicatif_term.specs.declared.target.ended_rows.Place.TheVariants.{Drawing, Edge, Resting, Waiting}
+use Rattle.indicatif_term.specs.declared.target.ended_rows.Phase.TheVariants.{Drawing, Edge, Resting, Waiting}
 
 -- the first n rows are unchanged at each of these bytes
 abbrev pub StayAlong : ℕ → ModeTerminal → List ℕ → Type 0
@@ -25,12 +25,12 @@ StayAlong n m (b ∷ bytes) =
     let next = step_by m.private_number m b in (take n next.terminal.screen.rows ≡ take n m.terminal.screen.rows) × StayAlong n next bytes
 
 -- the cursor's place after a move within a draw
-abbrev pub moved_place : Place → Place
+abbrev pub moved_place : Phase → Phase
 moved_place Edge = Drawing
 moved_place place = place
 
 -- the cursor's place as a draw begins
-abbrev pub drawn_place : Place → Place
+abbrev pub drawn_place : Phase → Phase
 drawn_place Resting = Drawing
 drawn_place Drawing = Drawing
 drawn_place Waiting = Edge

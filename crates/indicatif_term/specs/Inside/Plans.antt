@@ -4,13 +4,13 @@ use Rattle.std.specs.Borrow.{Bor}
 use Rattle.indicatif_text.specs.Columns.{has_wide, rows_of, last_columns}
 use Rattle.indicatif_text.specs.declared.columns.Metrics.{Metrics}
 use Rattle.indicatif_text.specs.declared.refusal.Refusal.{Refusal}
-use Rattle.indicatif_term.specs.Lists.{BarLines, BarRows, shown_rows, fitting, grouped, lines_of, segments_height}
+use Rattle.indicatif_term.specs.Lists.{BarLines, BarRows, shown_rows, fitting, lines_of, segments_height}
 use Rattle.indicatif_term.specs.Calls.{TermView}
 use Rattle.indicatif_term.specs.Frames.{line_text, bar_lines, all_lines, text_lines, logged_lines, some_wide, RefusesLines, is_fault}
-use Rattle.indicatif_term.specs.Counts.{row_count}
+use Rattle.indicatif_term.specs.Counts.{RowCount, row_count, line_counts}
+use Rattle.indicatif_term.specs.Inside.Owned.{through}
 use Rattle.indicatif_term.specs.Inside.Fills.{line_end, last_or_none, PlanEndsAt, frame_ends}
 use Rattle.indicatif_term.specs.declared.engine.lines.Segment.{Segment}
-use Rattle.indicatif_term.specs.declared.engine.layout.RowCount.{RowCount}
 use Rattle.indicatif_term.specs.declared.engine.layout.Plan.{Plan}
 use Rattle.indicatif_term.specs.declared.engine.layout.Layout.{Layout}
 use Rattle.indicatif_term.specs.declared.engine.layout.Planned.{Planned}
@@ -36,37 +36,41 @@ IsWithheld w lines e = IsFalse (is_fault e) × RefusesLines w lines e
 
 -- ---- a plan
 
+-- lines with these counts are those of this frame that are shown
+abbrev pub AreCounted : ℕ → ℕ → List BarLines → List RowCount → Type 0
+AreCounted w h frame cs = cs ≡ map row_count (fitting h (lines_of w frame))
+
 -- the counts of this frame, with the first `pass` members dropped
 pub record IsPlan (w h pass : ℕ) (frame : List BarLines) (p : Plan) : Type 0 where
-  pub segments_are : p.segments.items ≡ map row_count (shown_rows w h frame)
   pub rows_are : p.rows ≡ segments_height (shown_rows w h frame)
   pub lines_are : p.lines ≡ length (fitting h (lines_of w frame))
-  pub passing_is : p.passing ≡ length (shown_rows w h (take pass frame))
+  pub passing_is : p.passing ≡ through (length (fitting h (lines_of w (take pass frame)))) (map row_count (fitting h (lines_of w frame)))
+  pub passing_rows_are : p.passing_rows ≡ segments_height (take p.passing (fitting h (lines_of w frame)))
 
 -- its sums are right, and it takes at most h rows
 pub record IsSummed (h : ℕ) (p : Plan) : Type 0 where
-  pub rows_are : p.rows ≡ sum_by (λ (s : RowCount). s.rows) p.segments.items
   pub fit : p.rows ≤ h
   pub lines_fit : p.lines ≤ p.rows
-  pub passing_in : p.passing ≤ length p.segments.items
+  pub passing_in : p.passing_rows ≤ p.rows
 
--- the plan of these lines, before any that may follow
-pub record IsLaidOut (h : ℕ) (lines : List BarRows) (p : Plan) : Type 0 where
-  pub segments_are : p.segments.items ≡ map row_count (grouped (fitting h lines))
+-- the plan of these lines, before any that may follow, and the counts of those that are shown
+pub record IsLaidOut (h : ℕ) (lines : List BarRows) (p : Plan) (cs : List RowCount) : Type 0 where
+  pub counts_are : cs ≡ map row_count (fitting h lines)
   pub rows_are : p.rows ≡ segments_height (fitting h lines)
   pub lines_are : p.lines ≡ length (fitting h lines)
   pub all_fit : p.full ≡ false → fitting h lines ≡ lines
   pub none_more : p.full ≡ true → (more : List BarRows) → fitting h (lines ++ more) ≡ fitting h lines
 
 -- the plan with a member's lines after them, or why there is none
-abbrev pub IsPlaced : ℕ → ℕ → List BarRows → BarLines → Plan → Result Unit Refusal → Type 0
-IsPlaced w h before member p result =
-    MatchResult result (λ _. IsFalse (some_wide w member.lines) × IsLaidOut h (before ++ lines_of w (member ∷ [])) p) (λ e. IsWithheld w member.lines e)
+abbrev pub IsPlaced : ℕ → ℕ → List BarRows → BarLines → Plan → List RowCount → Result Unit Refusal → Type 0
+IsPlaced w h before member p cs result =
+    MatchResult result (λ _. IsFalse (some_wide w member.lines) × IsLaidOut h (before ++ lines_of w (member ∷ [])) p cs) (λ e. IsWithheld w member.lines e)
 
 -- a plan, or why there is none
 abbrev pub Measured : ℕ → ℕ → ℕ → List BarLines → Result Layout Refusal → Type 0
 Measured w h pass frame result =
-    MatchResult result (λ l. IsFalse (some_wide w (all_lines frame)) × IsPlan w h pass frame l.plan × IsSummed h l.plan) (λ e. IsWithheld w (all_lines frame) e)
+    MatchResult result (λ l. IsFalse (some_wide w (all_lines frame)) × IsPlan w h pass frame l.plan × IsSummed h l.plan × AreCounted w h frame (line_counts l.lines.items))
+    (λ e. IsWithheld w (all_lines frame) e)
 
 -- a line's measures, or why there are none
 abbrev pub MeasuredLine : ℕ → List ℕ → Result Metrics Refusal → Type 0
@@ -89,6 +93,7 @@ pub record IsPlannedFor (v : TermView) (pass : ℕ) (text : List (List ℕ)) (fr
   pub text_ends : p.text.last_line_width ≡ line_end v.columns (last_or_none text)
   pub plan_is : IsPlan v.columns v.rows pass (map bar_lines frame) p.plan
   pub is_summed : IsSummed v.rows p.plan
+  pub counts_are : AreCounted v.columns v.rows (map bar_lines frame) (line_counts p.lines.items)
   pub plan_ends : PlanEndsAt (frame_ends v.columns frame) p.plan
 
 -- what is written is measured for a terminal's window, or nothing is written for this reason

@@ -1,23 +1,23 @@
 -- Lines that are wrapped again: each of their rows becomes lines of one row.
-use Rattle.std.specs.Prelude.{false, ◌≡◌, ℕ, ◌+◌, ◌-◌, Bool, ◌&&◌, ◌==◌, nat_le, List, [], ◌∷◌, ◌++◌, map, filter, flat_map, length, suc, chars, string_bytes, sum, min, take, drop, if◌then◌else◌}
+use Rattle.std.specs.Prelude.{false, ◌≡◌, ℕ, ◌+◌, ◌-◌, Bool, ◌&&◌, ◌==◌, nat_le, List, [], ◌∷◌, ◌++◌, map, filter, flat_map, length, suc, ◌≤◌, chars, string_bytes, sum, min, drop, replicate, if◌then◌else◌}
 use Rattle.std.specs.List.{list_all}
 use Rattle.indicatif_text.specs.Columns.{Cell, Glyph, glyph_width, columns_in, glyphs_of, pieces_of, visible}
 use Rattle.indicatif_term.specs.Pictures.{is_empty}
-use Rattle.indicatif_term.specs.Lists.{Lists, all_rows}
-use Rattle.indicatif_term.specs.Resizes.{has_place, recut, recut_all}
+use Rattle.indicatif_term.specs.Lists.{Lists, all_rows, live_height}
+use Rattle.indicatif_term.specs.Resizes.{has_place, recut, recut_all, recut_lists}
 use Rattle.indicatif_term.specs.Standing.{standing_rows, AreLines}
-use Rattle.indicatif_term.specs.Remembered.{AreRemembered}
+use Rattle.indicatif_term.specs.Remembered.{AreRemembered, AreOwned, live_lines}
+use Rattle.indicatif_term.specs.Counts.{line_counts}
 use Rattle.indicatif_term.specs.declared.engine.remembered.Remembered.{Remembered}
 use Rattle.indicatif_term.specs.declared.engine.counts.Counts.{Counts}
 use Rattle.indicatif_term.specs.declared.engine.remembered.StandingLine.{StandingLine}
-use Rattle.indicatif_term.specs.declared.engine.layout.RowCount.{RowCount}
 use Rattle.indicatif_term.specs.declared.engine.recutting.CutLines.{CutLines}
 
 -- ---- the text of a row
 
 -- the characters of a glyph
 abbrev pub glyph_text : Glyph → List ℕ
-glyph_text g = g.base ∷ g.marks
+glyph_text g = g.base ∷ g.joiners
 
 -- a character that begins no colour sequence: an escape character is followed by an empty one
 abbrev pub guarded_char : ℕ → List ℕ
@@ -32,9 +32,9 @@ piece_text gs = guarded (flat_map glyph_text gs)
 
 -- ---- a wrapped row
 
--- a space without a mark
+-- a space without a joiner
 abbrev pub is_space : Glyph → Bool
-is_space g = (g.base == 0x20) && is_empty g.marks
+is_space g = (g.base == 0x20) && is_empty g.joiners
 
 -- the glyphs up to the last one that is no space
 abbrev pub without_spaces : List Glyph → List Glyph
@@ -89,19 +89,36 @@ pub record HasMore (old new : CutLines) (pieces : List (List (List Glyph))) : Ty
   pub lines_are : shown_lines new.lines.items ≡ shown_lines old.lines.items ++ flat_map (map row_line) pieces
   pub heights_are : new.heights.items ≡ old.heights.items ++ map length pieces
 
+-- ---- their bars
+
+abbrev pub line_bars : List StandingLine → List ℕ
+line_bars ls = map (λ (l : StandingLine). l.bar) ls
+
+-- some lines of a bar come below others
+abbrev pub Gains : ℕ → List StandingLine → List StandingLine → Type 0
+Gains bar old new = (n : ℕ) × (line_bars new ≡ line_bars old ++ replicate n bar)
+
+-- the bars of the lines that these become
+abbrev pub cut_bars : ℕ → ℕ → List StandingLine → List ℕ
+cut_bars w w' ls = flat_map (λ (l : StandingLine). replicate (sum (map length (cut_line w w' (string_bytes l.text)))) l.bar) ls
+
 -- ---- the lines that are remembered
 
 -- how many rows each of these rows becomes
 abbrev pub row_heights : ℕ → List (List Cell) → List ℕ
 row_heights w rows = map (λ row. length (recut w row)) rows
 
--- the lines that are remembered of a terminal of w columns, wrapped for w' columns: what the last rows of lists become, and how many rows each of them
+-- the lines that are remembered of a terminal of w columns, wrapped for w' columns: what the last rows of lists become, and how many rows each of them; and what
+-- becomes of the live ones
 pub record IsShownCut (w w' : ℕ) (old : Remembered) (cut : CutLines) : Type 0 where
   pub rows : List (List Cell)
   pub known : (l : Lists) → AreRemembered old l → (front : List (List Cell)) × (front ++ rows ≡ all_rows w l)
   pub heights_are : cut.heights.items ≡ row_heights w' rows
   pub lines_are : standing_rows w' cut.lines.items ≡ recut_all w' rows
   pub right : AreLines w' cut.lines.items
+  pub single : map (λ (l : StandingLine). l.rows) cut.lines.items ≡ replicate (length cut.lines.items) 1
+  pub owned : (l : Lists) → AreRemembered old l → AreOwned (line_counts (live_lines old)) l.live → length l.kept + live_height l.live ≤ length rows →
+      (n : ℕ) × AreOwned (line_counts (drop n cut.lines.items)) (recut_lists w' l).live
 
 -- ---- counts
 
@@ -109,21 +126,11 @@ pub record IsShownCut (w w' : ℕ) (old : Remembered) (cut : CutLines) : Type 0 
 abbrev pub end_row : Bool → ℕ
 end_row below = if below then 1 else 0
 
--- the counts of segments after each row became this many
-abbrev pub cut_counts : List ℕ → List RowCount → List RowCount
-cut_counts heights [] = []
-cut_counts heights (s ∷ ss) = record s { rows = sum (take s.rows heights) } ∷ cut_counts (drop s.rows heights) ss
-
--- segments without their first n rows
-abbrev pub counts_after : ℕ → List RowCount → List RowCount
-counts_after n [] = []
-counts_after n (s ∷ ss) = if nat_le s.rows n then counts_after (n - s.rows) ss else record s { rows = s.rows - n } ∷ ss
-
 -- the counts of rows that were wrapped, after kept and live ones that have scrolled away on a terminal of h rows joined those above
-pub record IsSettledWhole (h kept blanks live : ℕ) (segments : List RowCount) (below under : Bool) (c : Counts) : Type 0 where
+pub record IsSettledWhole (h kept blanks live : ℕ) (below under : Bool) (c : Counts) : Type 0 where
   pub kept_is : c.kept ≡ (kept + ((live + end_row below) - h)) - min ((kept + live + end_row below) - h) (kept + ((live + end_row below) - h))
   pub blanks_are : c.blanks ≡ blanks - ((live + end_row below) - h)
-  pub segments_are : drop c.passed c.segments.items ≡ counts_after (((live + end_row below) - h) - blanks) segments
+  pub live_is : c.live ≡ live - ((live + end_row below) - h)
   pub reached_is : c.reached ≡ (kept + live + end_row below) - min ((kept + live + end_row below) - h) (kept + ((live + end_row below) - h))
   pub below_is : c.below ≡ below
   pub under_is : c.under ≡ under

@@ -5,10 +5,11 @@ use Rattle.indicatif_term.specs.Frames.{bar_lines, all_lines, some_wide}
 use Rattle.indicatif_term.specs.Shows.{looks_of}
 use Rattle.indicatif_term.specs.Standing.{placed_of, texts, IsLine}
 use Rattle.indicatif_term.specs.Remembered.{kept_lines, live_lines}
+use Rattle.indicatif_term.specs.Counts.{line_counts}
 use Rattle.indicatif_term.specs.Inside.Edits.{AreSingle}
 use Rattle.indicatif_term.specs.Inside.Changes.{Becomes, Ends}
 use Rattle.indicatif_term.specs.Inside.Parting.{IsTurned, IsReady}
-use Rattle.indicatif_term.specs.Inside.Plans.{IsPlan, frame_lines}
+use Rattle.indicatif_term.specs.Inside.Plans.{IsPlan, AreCounted, frame_lines}
 use Rattle.indicatif_term.specs.declared.engine.counts.Counts.{Counts}
 use Rattle.indicatif_term.specs.declared.engine.layout.Plan.{Plan}
 use Rattle.indicatif_term.specs.declared.engine.lines.Segment.{Segment}
@@ -83,6 +84,7 @@ pub record Renews (r : Remembered) (new : List NewLine) (r' : Remembered) : Type
   pub kept_are : kept_lines r' ≡ kept_lines r
   pub texts_are : texts (live_lines r') ≡ renewed (texts (live_lines r)) new
   pub in_place : AreInPlace r.width (live_lines r) (live_lines r')
+  pub counts_are : line_counts (live_lines r') ≡ line_counts (live_lines r)
 
 -- ---- a frame beside the standing lines
 
@@ -91,7 +93,7 @@ pub record AreCompared (w : ℕ) (on : List StandingLine) (new : List NewLine) (
   pub lines_in : p.lines ≤ length on
   pub fit : AreFitting w on p.lines new
   pub texts_are : take p.lines (renewed (texts on) new) ≡ before
-  pub passes_none : p.passing ≡ 0
+  pub passes_none : (p.passing ≡ 0) × (p.passing_rows ≡ 0)
 
 -- rows stand below no blank ones, with the cursor on the last of them, on a terminal of w columns and h rows, and no kept row has
 -- scrolled away
@@ -99,7 +101,6 @@ pub record IsSettled (w h : ℕ) (c : Counts) (r : Remembered) : Type 0 where
   pub same_width : r.width ≡ w
   pub narrow : w ≤ 65535
   pub no_blanks : c.blanks ≡ 0
-  pub none_passed : c.passed ≡ 0
   pub on_row : c.below ≡ false
   pub some : 0 < c.live
   pub low : (c.kept ≡ 0) ⊎ (c.reached ≤ h)
@@ -114,4 +115,4 @@ pub record IsRenewed (w h : ℕ) (frame : List Segment) (c : Counts) (r : Rememb
   pub plan : Plan
   pub plan_is : IsPlan w h 0 (map bar_lines frame) plan
   pub all_lines_are : plan.lines ≡ length (frame_lines frame)
-  pub segments_are : plan.segments.items ≡ c.segments.items
+  pub counts_are : AreCounted w h (map bar_lines frame) (line_counts (live_lines r))

@@ -1,17 +1,17 @@
 -- Rows that are put on a screen, one after another.
 use Rattle.std.specs.Prelude.{◌≡◌, ℕ, ◌+◌, ◌-◌, List, ◌++◌, length, take, replicate, fold, if◌then◌else◌}
 use Rattle.indicatif_text.specs.Columns.{Cell, Glyph, blank_row}
-use Rattle.indicatif_term.specs.Screen.{Screen, Put, performed, put_mark, line_feed, cursor_row}
+use Rattle.indicatif_term.specs.Screen.{Screen, Put, performed, put_joiner, line_feed, cursor_row}
 use Rattle.indicatif_term.specs.Resizes.{has_place, glyphs_in, recut, recut_all, lasting_rows}
 use Rattle.indicatif_term.specs.declared.cells.grid.resizing.CursorRows.{CursorRows}
 
--- marks, joined to the glyph before the cursor
-abbrev pub marks_joined : Screen → List ℕ → Screen
-marks_joined s marks = fold (λ s c. put_mark c s) s marks
+-- joiners, joined to the glyph before the cursor
+abbrev pub all_joined : Screen → List ℕ → Screen
+all_joined s joiners = fold (λ s c. put_joiner c s) s joiners
 
 -- a glyph, if it fits into a row
 abbrev pub glyph_put : Screen → Glyph → Screen
-glyph_put s g = if has_place s.columns g then marks_joined (performed (Put g.base) s) g.marks else s
+glyph_put s g = if has_place s.columns g then all_joined (performed (Put g.base) s) g.joiners else s
 
 -- the glyphs of a row
 abbrev pub row_put : Screen → List Cell → Screen

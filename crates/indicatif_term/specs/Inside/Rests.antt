@@ -5,7 +5,7 @@ use Rattle.indicatif_term.specs.Inside.Inks.{Ink, Inked, read}
 use Rattle.indicatif_term.specs.Inside.Edits.{rest_bytes}
 use Rattle.indicatif_term.specs.Inside.Parting.{tail}
 use Rattle.indicatif_term.specs.declared.engine.inks.Colours.{Colours}
-use Rattle.indicatif_term.specs.declared.engine.inks.Reading.{Reading}
+use Rattle.indicatif_term.specs.declared.engine.inks.InkedText.{InkedText}
 use Rattle.indicatif_term.specs.declared.engine.parting.PlainParts.{PlainParts}
 use Rattle.indicatif_term.specs.declared.engine.row_edits.Rest.{Rest}
 
@@ -14,7 +14,7 @@ abbrev pub ink_of : Colours → Ink
 ink_of i = record { base = i.base.now; group = i.group.now }
 
 -- the cells of the rest of a text
-abbrev pub cells : Reading → List Inked
+abbrev pub cells : InkedText → List Inked
 cells r = read (ink_of r.ink) (chars r.text.now)
 
 -- the bytes to write

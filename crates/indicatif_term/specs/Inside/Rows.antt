@@ -1,30 +1,30 @@
 -- The rows of a terminal as they are kept: the cells up to the last one that was written.
 use Rattle.std.specs.Prelude.{◌≡◌, ℕ, ◌+◌, ◌-◌, ◌≤◌, List, [], ◌∷◌, ◌++◌, take, drop, map, reverse, replicate, length}
 use Rattle.indicatif_text.specs.Columns.{Cell, Blank, Written, Continued}
-use Rattle.indicatif_term.specs.Screen.{with_mark, emptied_glyph, emptied_front}
+use Rattle.indicatif_term.specs.Screen.{with_joiner, emptied_glyph, emptied_front}
 use Rattle.indicatif_term.specs.declared.cells.cell.CellKind as stored
 use Rattle.indicatif_term.specs.declared.cells.cell.CellKind.TheVariants as variants
-use Rattle.indicatif_term.specs.declared.cells.marks.CombiningMark.{CombiningMark}
-use Rattle.indicatif_term.specs.Inside.Marks.{chain}
+use Rattle.indicatif_term.specs.declared.cells.joiners.Joiner.{Joiner}
+use Rattle.indicatif_term.specs.Inside.Joiners.{chain}
 use Rattle.indicatif_term.specs.declared.cells.row.Row.TheInside.{Inside}
 
--- the cell of a stored one, with the place of its last mark in place of its marks
+-- the cell of a stored one, with the place of its last joiner in place of its joiners
 abbrev pub cell_of : stored.CellKind → Cell
 cell_of variants.Empty = Blank
-cell_of (variants.Single c) = Written (record { base = c; marks = [] })
-cell_of (variants.Joined c last) = Written (record { base = c; marks = last ∷ [] })
+cell_of (variants.Single c) = Written (record { base = c; joiners = [] })
+cell_of (variants.Joined c last) = Written (record { base = c; joiners = last ∷ [] })
 cell_of variants.Continued = Continued
 
--- the marks that lead to the last one, if there is one
-abbrev pub marks_shown : List CombiningMark → List ℕ → List ℕ
-marks_shown marks [] = []
-marks_shown marks (last ∷ ks) = chain (reverse marks) last
+-- the joiners that lead to the last one, if there is one
+abbrev pub joiners_shown : List Joiner → List ℕ → List ℕ
+joiners_shown joiners [] = []
+joiners_shown joiners (last ∷ ks) = chain (reverse joiners) last
 
--- the cell with its marks, from those of its row
-abbrev pub cell_shown : List CombiningMark → Cell → Cell
-cell_shown marks Blank = Blank
-cell_shown marks (Written g) = Written (record { base = g.base; marks = marks_shown marks g.marks })
-cell_shown marks Continued = Continued
+-- the cell with its joiners, from those of its row
+abbrev pub cell_shown : List Joiner → Cell → Cell
+cell_shown joiners Blank = Blank
+cell_shown joiners (Written g) = Written (record { base = g.base; joiners = joiners_shown joiners g.joiners })
+cell_shown joiners Continued = Continued
 
 -- the row of w columns that begins with these cells: the others are blank
 abbrev pub whole_row : ℕ → List Cell → List Cell
@@ -32,28 +32,28 @@ whole_row w cells = cells ++ replicate (w - length cells) Blank
 
 -- the row of a stored one
 abbrev pub row_stored : Inside → List Cell
-row_stored r = map (cell_shown r.marks.items) (whole_row r.columns r.cells.items)
+row_stored r = map (cell_shown r.joiners.items) (whole_row r.columns r.cells.items)
 
--- a mark added after the others changes no cell
-abbrev pub LeavesMarks : List CombiningMark → List Cell → Type 0
-LeavesMarks marks cells = (more : List CombiningMark) → map (cell_shown (marks ++ more)) cells ≡ map (cell_shown marks) cells
+-- a joiner added after the others changes no cell
+abbrev pub LeavesJoiners : List Joiner → List Cell → Type 0
+LeavesJoiners joiners cells = (more : List Joiner) → map (cell_shown (joiners ++ more)) cells ≡ map (cell_shown joiners) cells
 
--- no more cells are stored than the row has, and they keep their marks
+-- no more cells are stored than the row has, and they keep their joiners
 pub record IsStored (r : Inside) : Type 0 where
   pub within : length r.cells.items ≤ r.columns
-  pub leaves : LeavesMarks r.marks.items r.cells.items
+  pub leaves : LeavesJoiners r.joiners.items r.cells.items
 
--- a cell with a mark joined to its character, if it has one
-abbrev pub with_mark_at : ℕ → Cell → Cell
-with_mark_at c Blank = Blank
-with_mark_at c (Written g) = Written (with_mark c g)
-with_mark_at c Continued = Continued
+-- a cell with a joiner joined to its character, if it has one
+abbrev pub with_joiner_at : ℕ → Cell → Cell
+with_joiner_at c Blank = Blank
+with_joiner_at c (Written g) = Written (with_joiner c g)
+with_joiner_at c Continued = Continued
 
--- a mark joins the character of a cell, if it has one: it is added after those of the row, and later ones change nothing
-pub record JoinsMark (mark : ℕ) (marks marks' : List CombiningMark) (cell cell' : Cell) : Type 0 where
-  pub more : List CombiningMark
-  pub behind : marks' ≡ marks ++ more
-  pub joined : (later : List CombiningMark) → cell_shown (marks' ++ later) cell' ≡ with_mark_at mark (cell_shown marks cell)
+-- a joiner joins the character of a cell, if it has one: it is added after those of the row, and later ones change nothing
+pub record IsJoined (joiner : ℕ) (joiners joiners' : List Joiner) (cell cell' : Cell) : Type 0 where
+  pub more : List Joiner
+  pub behind : joiners' ≡ joiners ++ more
+  pub joined : (later : List Joiner) → cell_shown (joiners' ++ later) cell' ≡ with_joiner_at joiner (cell_shown joiners cell)
 
 -- each row of at least n columns that begins with these cells also begins with those
 abbrev pub BeginTheSame : ℕ → List Cell → List Cell → Type 0
@@ -75,4 +75,4 @@ overwritten n cells row = take n row ++ cells ++ drop (n + length cells) row
 
 -- the first cell of a character of w columns, and the continued ones
 abbrev pub character_cells : ℕ → ℕ → List Cell
-character_cells c w = Written (record { base = c; marks = [] }) ∷ replicate (w - 1) Continued
+character_cells c w = Written (record { base = c; joiners = [] }) ∷ replicate (w - 1) Continued

@@ -15,9 +15,9 @@ run_chars (Repeated c count) = replicate count c
 abbrev pub TakesOneColumn : ℕ → Type 0
 TakesOneColumn c = char_width false c ≡ Some 1
 
--- the cells of characters of one column without marks
+-- the cells of characters of one column without joiners
 abbrev pub narrow_cells : List ℕ → List Cell
-narrow_cells cs = map (λ c. Written (record { base = c; marks = [] })) cs
+narrow_cells cs = map (λ c. Written (record { base = c; joiners = [] })) cs
 
 -- characters that are shown one after another
 abbrev pub puts : List ℕ → List Op

@@ -4,11 +4,11 @@ use Rattle.std.specs.Str.{all_scalars}
 use Rattle.indicatif_term.specs.Terminal.{SequencePlace, OutsideSequence, Escaped, Sequence, idle, sequence_op}
 use Rattle.indicatif_term.specs.Feeding.{ops_of}
 use Rattle.indicatif_term.specs.Inside.Reading.{reader_after}
-use Rattle.indicatif_term.specs.declared.cells.scanner.Stage.{Stage}
-use Rattle.indicatif_term.specs.declared.cells.scanner.Stage.TheVariants.{Outside, AfterEscape, InSequence}
+use Rattle.indicatif_term.specs.declared.cells.scanner.ScanState.{ScanState}
+use Rattle.indicatif_term.specs.declared.cells.scanner.ScanState.TheVariants.{Outside, AfterEscape, InSequence}
 
 -- the place
-abbrev pub stage_place : Stage → SequencePlace
+abbrev pub stage_place : ScanState → SequencePlace
 stage_place Outside = OutsideSequence
 stage_place AfterEscape = Escaped
 stage_place (InSequence number) = Sequence number

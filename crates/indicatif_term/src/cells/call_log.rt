@@ -5,7 +5,7 @@ ghost use Rattle.indicatif_term.specs.Memory.{move_text, written_text, quoted_ch
 use indicatif_text::columns::Refusal;
 use std::alloc::Global;
 
-/// A line for a move by `n`. Refused: `Memory`.
+/// A line of the log for a move by `n`. Refused: `Memory`.
 pub(crate) fn move_line(alloc: Global, name: &str, n: usize) -> Result<String, Refusal>
     ensures line { IfOk result (λ t. string_bytes t ≡ move_text name.now n) }
     ensures refused { IfErr result (λ e. e ≡ Refusal.Memory) }
@@ -14,7 +14,7 @@ pub(crate) fn move_line(alloc: Global, name: &str, n: usize) -> Result<String, R
     Ok(line)
 }
 
-/// A line for a written text. Refused: `Memory`.
+/// A line of the log for a written text. Refused: `Memory`.
 pub(crate) fn text_line(alloc: Global, text: &str) -> Result<String, Refusal>
     ensures line { IfOk result (λ t. string_bytes t ≡ written_text text.now) }
     ensures refused { IfErr result (λ e. e ≡ Refusal.Memory) }
@@ -25,7 +25,7 @@ pub(crate) fn text_line(alloc: Global, text: &str) -> Result<String, Refusal>
     Ok(line)
 }
 
-/// A line for a written text, and one for the line's end. Refused: `Memory`.
+/// A line of the log for a written text, and one for the line's end. Refused: `Memory`.
 pub(crate) fn ended_line(alloc: Global, text: &str) -> Result<String, Refusal>
     ensures line { IfOk result (λ t. string_bytes t ≡ written_text text.now ++ codes "NewLine\n") }
     ensures refused { IfErr result (λ e. e ≡ Refusal.Memory) }
@@ -35,7 +35,7 @@ pub(crate) fn ended_line(alloc: Global, text: &str) -> Result<String, Refusal>
     Ok(line)
 }
 
-/// A copy of a line. Refused: `Memory`.
+/// A copy of a line of the log. Refused: `Memory`.
 pub(crate) fn own_line(alloc: Global, line: &str) -> Result<String, Refusal>
     ensures line { IfOk result (λ t. string_bytes t ≡ line.now) }
     ensures refused { IfErr result (λ e. e ≡ Refusal.Memory) }
@@ -102,7 +102,7 @@ fn escape_code(code: u32, out: &mut String) -> Result<(), Refusal>
     Ok(())
 }
 
-/// A hexadecimal digit.
+/// The hexadecimal digit of an escaped character's code.
 fn hex_digit(value: u32) -> char
     requires { value < 16 }
     ensures { result ≡ hex_digit value }

@@ -51,7 +51,7 @@ impl Model for Cells {
 }
 
 impl Cells {
-    /// A terminal of `rows` rows and `cols` columns, all blank, the cursor at the front of the first row.
+    /// The cells of a terminal of `rows` rows and `cols` columns, all blank, the cursor at the front of the first row.
     ///
     /// Refused: `ZeroSize` if `rows` or `cols` is 0, which is tested before memory is taken; `Memory`.
     ///
@@ -101,7 +101,7 @@ impl Cells {
         Ok(())
     }
 
-    /// Reads a character or a byte, and returns its number of bytes. Refused: `Memory`; then nothing has changed.
+    /// Feeds a character or a byte, and returns its number of bytes. Refused: `Memory`; then nothing has changed.
     fn feed_front(&mut self, bytes: &[u8]) -> Result<usize, Refusal>
         requires { 0 < length bytes.now }
         ensures fed { IfOk result (λ n. self.new ≡ after self.old (take n bytes.now)) }
@@ -118,7 +118,7 @@ impl Cells {
         Ok(1)
     }
 
-    /// Reads characters, a sequence or a byte, between two characters and outside a sequence.
+    /// Feeds characters, a sequence or a byte, between two characters and outside a sequence.
     fn feed_idle(&mut self, bytes: &[u8]) -> Result<usize, Refusal>
         requires some { 0 < length bytes.now }
         requires idle { self.old.reader ≡ idle }
@@ -144,7 +144,7 @@ impl Cells {
         Ok(1)
     }
 
-    /// Reads a character at the front, as often as it is repeated there and fits into the row.
+    /// Feeds a character at the front, as often as it is repeated there and fits into the row.
     fn feed_whole(&mut self, bytes: &[u8], whole: WholeChar) -> Result<usize, Refusal>
         requires whole { IsWholeChar bytes.now whole.character whole.len }
         requires idle { self.old.reader ≡ idle }
@@ -166,7 +166,7 @@ impl Cells {
         Ok(3 * put)
     }
 
-    /// Reads an escape sequence at the front.
+    /// Feeds an escape sequence at the front.
     fn feed_sequence(&mut self, bytes: &[u8], sequence: WholeSequence) -> Result<usize, Refusal>
         requires whole { IsWholeSequence bytes.now sequence.number sequence.last sequence.len }
         requires idle { self.old.reader ≡ idle }
@@ -186,7 +186,7 @@ impl Cells {
         }
     }
 
-    /// Reads a byte. Refused: `Memory`; then nothing has changed.
+    /// Feeds a byte. Refused: `Memory`; then nothing has changed.
     fn feed_byte(&mut self, byte: u8) -> Result<(), Refusal>
         ensures fed { OnOk result (self.new ≡ after self.old (byte ∷ [])) }
         ensures err { OnErr result (self.new ≡ self.old) }
@@ -202,8 +202,8 @@ impl Cells {
         Ok(())
     }
 
-    /// The cursor's row, counted from the first of the window, and its column. At the end of a full row the column is the one after the
-    /// last.
+    /// The cells' cursor: its row, counted from the first of the window, and its column. At the end of a full row the column is the one
+    /// after the last.
     ///
     /// ```
     /// let mut cells = Cells::new(rt.alloc(), 2, 2)?;
@@ -217,8 +217,8 @@ impl Cells {
         self.grid.cursor()
     }
 
-    /// The rows that scrolled away, then those of the window, each as text without the blanks at its end: empty cells
-    /// and spaces. Refused: `Memory`.
+    /// The rows of the cells that scrolled away, then those of their window, each as text without the blanks at its end: empty cells and
+    /// spaces. Refused: `Memory`.
     ///
     /// ```
     /// let mut cells = Cells::new(rt.alloc(), 1, 3)?;
@@ -232,8 +232,8 @@ impl Cells {
         self.grid.picture()
     }
 
-    /// The window's rows as text, up to the last one with a written cell, each without the blanks at its end, joined by line feeds.
-    /// Refused: `Memory`, never if the window has no written cell.
+    /// The rows of the cells' window as text, up to the last one with a written cell, each without the blanks at its end, joined by line
+    /// feeds. Refused: `Memory`, never if the window has no written cell.
     ///
     /// ```
     /// let mut cells = Cells::new(rt.alloc(), 3, 3)?;
@@ -280,7 +280,7 @@ impl Cells {
         self.grid.resize(rows, cols)
     }
 
-    /// Resets it to a new terminal, without taking memory.
+    /// Resets the cells to those of a new terminal, without taking memory.
     pub(crate) fn reset(&mut self)
         ensures { self.new ≡ blank_terminal self.old.screen.height self.old.screen.columns }
     {
@@ -288,14 +288,14 @@ impl Cells {
         self.scanner = Scanner::new();
     }
 
-    /// Columns.
+    /// How many columns the cells' terminal has.
     pub(crate) fn columns(&self) -> u16
         ensures { result ≡ self.now.screen.columns }
     {
         self.grid.columns()
     }
 
-    /// The number of rows of the window.
+    /// How many rows the cells' window has.
     pub(crate) fn height(&self) -> u16
         ensures { result ≡ self.now.screen.height }
     {

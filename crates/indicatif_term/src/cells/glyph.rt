@@ -1,10 +1,10 @@
-//! A character and its marks, as they are read from a row.
+//! A character and its joiners, as they are read from a row.
 ghost use Rattle.std.specs.Prelude.{◌≡◌, [], reverse};
 
 use std::alloc::Global;
 use std::marker::Model;
 
-/// A character, and the marks joined to it.
+/// A character, and the joiners joined to it.
 #[derive(Drop)]
 pub(crate) struct Glyph {
     base: char,
@@ -18,13 +18,13 @@ impl Model for Glyph {
 
     ghost use Rattle.std.specs.Prelude.{reverse};
 
-    ghost view = { λ g. record { base = g.base; marks = reverse g.newest_first.items } };
+    ghost view = { λ g. record { base = g.base; joiners = reverse g.newest_first.items } };
 }
 
 impl Glyph {
-    /// A character without marks. Takes no memory.
+    /// The glyph of a character without joiners. Takes no memory.
     pub(crate) fn plain(alloc: Global, base: char) -> Glyph
-        ensures { result ≡ record { base = base; marks = [] } }
+        ensures { result ≡ record { base = base; joiners = [] } }
     {
         Glyph {
             base,
@@ -32,23 +32,23 @@ impl Glyph {
         }
     }
 
-    /// A character with these marks, the last one first.
-    pub(crate) fn marked(base: char, newest_first: Vec<char>) -> Glyph
-        ensures { result ≡ record { base = base; marks = reverse newest_first.items } }
+    /// The glyph of a character with these joiners, the last one first.
+    pub(crate) fn joined(base: char, newest_first: Vec<char>) -> Glyph
+        ensures { result ≡ record { base = base; joiners = reverse newest_first.items } }
     {
         Glyph { base, newest_first }
     }
 
-    /// The character.
+    /// The glyph's character, without its joiners.
     pub(crate) fn base(&self) -> char
         ensures { result ≡ self.now.base }
     {
         self.base
     }
 
-    /// Its marks, the last one first.
-    pub(crate) fn marks_reversed(&self) -> &[char]
-        ensures { reverse result.now ≡ self.now.marks }
+    /// The glyph's joiners, the last one first.
+    pub(crate) fn joiners_reversed(&self) -> &[char]
+        ensures { reverse result.now ≡ self.now.joiners }
     {
         &self.newest_first
     }

@@ -1,8 +1,10 @@
 //! The rows of a terminal, and its cursor, and how each operation changes them.
+//!
+//! - `resizing`: another size: all rows are put on a new grid, character by character, each wrapped again, and the cursor goes along.
 ghost use Rattle.std.specs.Prelude.{All, ◌≡◌, ℕ, ◌+◌, ◌-◌, ◌<◌, ◌≤◌, [], false, IsTrue, IfOk, IfErr, OnOk, OnErr, length, take, replicate, slice_index_or, string_bytes, map};
 ghost use Rattle.std.specs.List.{join_with_byte};
 ghost use Rattle.indicatif_text.specs.Columns.{blank_row};
-ghost use Rattle.indicatif_term.specs.Screen.{Put, Return, Up, Down, Right, Left, EmptyRow, performed, blank_screen, line_feed, put_wide, put_mark, put_here, top};
+ghost use Rattle.indicatif_term.specs.Screen.{Put, Return, Up, Down, Right, Left, EmptyRow, performed, blank_screen, line_feed, put_wide, put_joiner, put_here, top};
 ghost use Rattle.indicatif_term.specs.Inside.Reading.{performed_all};
 ghost use Rattle.indicatif_term.specs.Pictures.{contents_text, has_contents, picture_text, row_text, written_rows};
 ghost use Rattle.indicatif_term.specs.Feeding.{op_takes_memory};
@@ -65,7 +67,7 @@ impl Model for Grid {
 }
 
 impl Grid {
-    /// Blank rows, the cursor at the front of the first. Refused: `Memory`.
+    /// A grid of blank rows, the cursor at the front of the first. Refused: `Memory`.
     pub(crate) fn new(alloc: Global, height: u16, columns: u16) -> Result<Grid, Refusal>
         requires rows { 0 < height }
         requires columns { 0 < columns }
@@ -87,22 +89,22 @@ impl Grid {
         })
     }
 
-    /// Columns.
+    /// How many columns the grid's rows have.
     pub(crate) fn columns(&self) -> u16
         ensures { result ≡ self.now.columns }
     {
         self.columns
     }
 
-    /// The number of rows of the window.
+    /// How many rows the grid's window has.
     pub(crate) fn height(&self) -> u16
         ensures { result ≡ self.now.height }
     {
         self.height
     }
 
-    /// The cursor's row, counted from the first of the window, and its column; at the end of a full row the column is the one after the
-    /// last.
+    /// The grid's cursor: its row, counted from the first of the window, and its column; at the end of a full row the column is the one
+    /// after the last.
     pub(crate) fn cursor(&self) -> (u16, u16)
         ensures row { result.0 ≡ self.now.row - top self.now }
         ensures column { result.1 ≡ self.now.column }
@@ -111,7 +113,7 @@ impl Grid {
         ((self.row - top) as u16, self.column)
     }
 
-    /// The texts of all rows. Refused: `Memory`.
+    /// The texts of all rows of the grid. Refused: `Memory`.
     pub(crate) fn picture(&self) -> Result<Vec<String>, Refusal>
         ensures picture { IfOk result (λ v. map (λ t. string_bytes t) v.items ≡ picture_text self.now) }
         ensures refused { IfErr result (λ e. e ≡ Refusal.Memory) }
@@ -132,7 +134,7 @@ impl Grid {
         Ok(text)
     }
 
-    /// Resets it to a new one, without taking memory: the rows that scrolled away are dropped, the others emptied.
+    /// Resets the grid to a new one, without taking memory: the rows that scrolled away are dropped, the others emptied.
     pub(crate) fn reset(&mut self)
         ensures { self.new ≡ blank_screen self.old.height self.old.columns }
     {
@@ -142,7 +144,7 @@ impl Grid {
         self.column = 0;
     }
 
-    /// Carries out an operation. Refused: `Memory`; then nothing has changed.
+    /// Carries out an operation on the grid. Refused: `Memory`; then nothing has changed.
     pub(crate) fn perform(&mut self, op: Op) -> Result<(), Refusal>
         ensures ok { OnOk result (self.new ≡ performed (op_of op) self.old) }
         ensures err { OnErr result (self.new ≡ self.old) }
@@ -162,14 +164,14 @@ impl Grid {
         Ok(())
     }
 
-    /// Goes to the front of the row.
+    /// Moves the grid's cursor to the front of its row.
     fn go_to_front(&mut self)
         ensures { self.new ≡ performed Return self.old }
     {
         self.column = 0;
     }
 
-    /// This many rows up, at most to the first row of the window.
+    /// Moves the grid's cursor this many rows up, at most to the first row of the window.
     fn go_up(&mut self, rows: u16)
         ensures { self.new ≡ performed (Up rows) self.old }
     {
@@ -177,7 +179,7 @@ impl Grid {
         self.row = self.row.saturating_sub(usize::from(rows)).max(top);
     }
 
-    /// This many rows down, at most to the last row of the window.
+    /// Moves the grid's cursor this many rows down, at most to the last row of the window.
     fn go_down(&mut self, rows: u16)
         ensures { self.new ≡ performed (Down rows) self.old }
     {
@@ -185,7 +187,7 @@ impl Grid {
         self.row += usize::from(rows).min(room);
     }
 
-    /// This many columns right, at most to the last column; a waiting cursor stays.
+    /// Moves the grid's cursor this many columns right, at most to the last column; a waiting cursor stays.
     fn go_right(&mut self, columns: u16)
         ensures { self.new ≡ performed (Right columns) self.old }
     {
@@ -195,14 +197,14 @@ impl Grid {
         }
     }
 
-    /// This many columns left, at most to the first column.
+    /// Moves the grid's cursor this many columns left, at most to the first column.
     fn go_left(&mut self, columns: u16)
         ensures { self.new ≡ performed (Left columns) self.old }
     {
         self.column = self.column.saturating_sub(columns);
     }
 
-    /// Empties the cursor's row.
+    /// Empties each cell of the cursor's row.
     fn empty_row(&mut self)
         ensures { self.new ≡ performed EmptyRow self.old }
     {
@@ -210,7 +212,7 @@ impl Grid {
         row.empty();
     }
 
-    /// One row down; after the last row comes a blank one. Refused: `Memory`; then nothing has changed.
+    /// Moves the grid's cursor one row down; after the last row comes a blank one. Refused: `Memory`; then nothing has changed.
     fn feed_line(&mut self) -> Result<(), Refusal>
         ensures ok { OnOk result (self.new ≡ line_feed self.old) }
         ensures err { OnErr result (self.new ≡ self.old) }
@@ -225,7 +227,7 @@ impl Grid {
         Ok(())
     }
 
-    /// Writes a character at the cursor. Refused: `Memory`; then nothing has changed.
+    /// Writes a character at the grid's cursor. Refused: `Memory`; then nothing has changed.
     #[inline]
     pub(crate) fn put(&mut self, c: char) -> Result<(), Refusal>
         ensures ok { OnOk result (self.new ≡ performed (Put c) self.old) }
@@ -234,19 +236,19 @@ impl Grid {
     {
         match self.width.columns(c) {
             None => Ok(()),
-            Some(0) => self.put_mark(c),
+            Some(0) => self.put_joiner(c),
             Some(columns) => self.put_wide(c, columns),
         }
     }
 
-    /// The columns from the cursor to the row's end.
+    /// How many columns there are from the grid's cursor to the end of its row.
     pub(crate) fn room(&self) -> usize
         ensures { self.now.column + result ≡ self.now.columns }
     {
         usize::from(self.columns - self.column)
     }
 
-    /// The columns from the cursor to the row's end, if a character takes one column; otherwise 0.
+    /// How many columns there are from the grid's cursor to the end of its row, if a character takes one column; otherwise 0.
     pub(crate) fn room_for(&mut self, c: char) -> usize
         ensures same { self.new ≡ self.old }
         ensures narrow { 0 < result → TakesOneColumn c }
@@ -277,18 +279,18 @@ impl Grid {
         Ok(written)
     }
 
-    /// Joins a mark to the character before the cursor, if there is one. Refused: `Memory`; then nothing has changed.
-    fn put_mark(&mut self, mark: char) -> Result<(), Refusal>
-        ensures ok { OnOk result (self.new ≡ put_mark mark self.old) }
+    /// Joins a joiner to the character before the cursor, if there is one. Refused: `Memory`; then nothing has changed.
+    fn put_joiner(&mut self, joiner: char) -> Result<(), Refusal>
+        ensures ok { OnOk result (self.new ≡ put_joiner joiner self.old) }
         ensures err { OnErr result (self.new ≡ self.old) }
         ensures refused { IfErr result (λ e. e ≡ Refusal.Memory) }
     {
         let at = usize::from(self.column);
         let row = &mut self.rows[self.row];
-        row.join(at, mark)
+        row.join(at, joiner)
     }
 
-    /// Writes a character of this many columns. Refused: `Memory`; then nothing has changed.
+    /// Writes a character of this many columns at the grid's cursor. Refused: `Memory`; then nothing has changed.
     #[inline]
     fn put_wide(&mut self, c: char, columns: usize) -> Result<(), Refusal>
         requires some { 0 < columns }
@@ -313,7 +315,7 @@ impl Grid {
         requires columns { char_width false c ≡ Some columns }
         requires fits { columns ≤ self.old.columns }
         ensures ok { OnOk result (self.new
-            ≡ put_here (record { base = c; marks = [] }) columns (line_feed (record self.old { column = 0 }))) }
+            ≡ put_here (record { base = c; joiners = [] }) columns (line_feed (record self.old { column = 0 }))) }
         ensures err { OnErr result (self.new ≡ self.old) }
         ensures refused { IfErr result (λ e. e ≡ Refusal.Memory) }
     {
@@ -324,14 +326,14 @@ impl Grid {
         }
     }
 
-    /// As `put_below`, if there is a row below.
+    /// Writes a character as `put_below`, if there is a row below.
     fn put_on_next_row(&mut self, c: char, columns: usize) -> Result<(), Refusal>
         requires some { 0 < columns }
         requires columns { char_width false c ≡ Some columns }
         requires fits { columns ≤ self.old.columns }
         requires below { self.old.row + 1 < length self.old.rows }
         ensures ok { OnOk result (self.new
-            ≡ put_here (record { base = c; marks = [] }) columns (line_feed (record self.old { column = 0 }))) }
+            ≡ put_here (record { base = c; joiners = [] }) columns (line_feed (record self.old { column = 0 }))) }
         ensures err { OnErr result (self.new ≡ self.old) }
         ensures refused { IfErr result (λ e. e ≡ Refusal.Memory) }
     {
@@ -343,14 +345,14 @@ impl Grid {
         Ok(())
     }
 
-    /// As `put_below`, if there is none: the row is made and written before anything changes.
+    /// Writes a character as `put_below`, if there is no row below: the row is made and written before anything changes.
     fn put_on_new_row(&mut self, c: char, columns: usize) -> Result<(), Refusal>
         requires some { 0 < columns }
         requires columns { char_width false c ≡ Some columns }
         requires fits { columns ≤ self.old.columns }
         requires last { length self.old.rows ≤ self.old.row + 1 }
         ensures ok { OnOk result (self.new
-            ≡ put_here (record { base = c; marks = [] }) columns (line_feed (record self.old { column = 0 }))) }
+            ≡ put_here (record { base = c; joiners = [] }) columns (line_feed (record self.old { column = 0 }))) }
         ensures err { OnErr result (self.new ≡ self.old) }
         ensures refused { IfErr result (λ e. e ≡ Refusal.Memory) }
     {
@@ -362,13 +364,13 @@ impl Grid {
         Ok(())
     }
 
-    /// Writes a character of this many columns, which fits into the row. Refused: `Memory`; then nothing has changed.
+    /// Writes a character of this many columns, which fits into the row, at the grid's cursor. Refused: `Memory`; then nothing has changed.
     #[inline]
     fn put_here(&mut self, c: char, columns: usize) -> Result<(), Refusal>
         requires some { 0 < columns }
         requires columns { char_width false c ≡ Some columns }
         requires fits { self.old.column + columns ≤ self.old.columns }
-        ensures ok { OnOk result (self.new ≡ put_here (record { base = c; marks = [] }) columns self.old) }
+        ensures ok { OnOk result (self.new ≡ put_here (record { base = c; joiners = [] }) columns self.old) }
         ensures err { OnErr result (self.new ≡ self.old) }
         ensures refused { IfErr result (λ e. e ≡ Refusal.Memory) }
     {
@@ -380,7 +382,7 @@ impl Grid {
     }
 }
 
-/// The texts of rows. Refused: `Memory`.
+/// The texts of rows of a grid. Refused: `Memory`.
 fn texts_of(alloc: Global, rows: &[Row]) -> Result<Vec<String>, Refusal>
     ensures texts { IfOk result (λ v. map (λ t. string_bytes t) v.items ≡ map row_text rows.now) }
     ensures refused { IfErr result (λ e. e ≡ Refusal.Memory) }
@@ -424,7 +426,7 @@ fn show_joined(alloc: Global, rows: &[Row], out: &mut String) -> Result<(), Refu
     Ok(())
 }
 
-/// Empties each cell of rows with this many.
+/// Empties each cell of a grid's rows, which have this many.
 fn clear_rows(rows: &mut [Row], columns: u16)
     requires { (k : ℕ) → k < length rows.old → length (slice_index_or rows.old k []) ≡ columns }
     ensures { rows.new ≡ replicate (length rows.old) (blank_row columns) }

@@ -13,7 +13,7 @@ pub(crate) struct KnownWidth {
 }
 
 impl KnownWidth {
-    /// The width of a space.
+    /// The known width of a space.
     pub(crate) fn new() -> KnownWidth {
         KnownWidth {
             of: ' ',

@@ -6,11 +6,11 @@ ghost use Rattle.indicatif_term.specs.Screen.{cut_before, written_at, joined_at}
 ghost use Rattle.indicatif_term.specs.Pictures.{cell_text, is_blank, is_written, has_written, row_text, trimmed};
 ghost use Rattle.indicatif_term.specs.Resizes.{glyph_at, glyphs_in};
 ghost use Rattle.indicatif_term.specs.Inside.Runs.{run_chars, narrow_cells};
-ghost use Rattle.indicatif_term.specs.Inside.Rows.{cell_shown, LeavesMarks, BeginTheSame, emptied_back, emptied_on, overwritten, character_cells};
+ghost use Rattle.indicatif_term.specs.Inside.Rows.{cell_shown, LeavesJoiners, BeginTheSame, emptied_back, emptied_on, overwritten, character_cells};
 
 use crate::cells::cell::Cell;
 use crate::cells::glyph::Glyph;
-use crate::cells::marks::CombiningMark;
+use crate::cells::joiners::Joiner;
 use crate::cells::run::Run;
 use indicatif_text::columns::Refusal;
 use std::alloc::Global;
@@ -21,7 +21,7 @@ use std::marker::Model;
 pub(crate) struct Row {
     columns: u16,
     cells: Vec<Cell>,
-    marks: Vec<CombiningMark>,
+    joiners: Vec<Joiner>,
 }
 
 impl Model for Row {
@@ -45,16 +45,16 @@ impl Row {
         Row {
             columns,
             cells: Vec::new(alloc),
-            marks: Vec::new(alloc),
+            joiners: Vec::new(alloc),
         }
     }
 
-    /// Empties each cell.
+    /// Empties each cell of the row.
     pub(crate) fn empty(&mut self)
         ensures { self.new ≡ blank_row (length self.old) }
     {
         self.cells.clear();
-        self.marks.clear();
+        self.joiners.clear();
     }
 
     /// Writes a character of `columns` columns at column `at`, and empties the wide characters that it overwrites in part. Refused:
@@ -98,21 +98,21 @@ impl Row {
         Ok(1)
     }
 
-    /// Joins a mark to the character that ends just before column `at`, if one does. Refused: `Memory`; then nothing has changed.
-    pub(crate) fn join(&mut self, at: usize, mark: char) -> Result<(), Refusal>
+    /// Joins a joiner to the character that ends just before column `at`, if one does. Refused: `Memory`; then nothing has changed.
+    pub(crate) fn join(&mut self, at: usize, joiner: char) -> Result<(), Refusal>
         requires { at ≤ length self.old }
-        ensures joined { OnOk result (self.new ≡ joined_at at mark self.old) }
+        ensures joined { OnOk result (self.new ≡ joined_at at joiner self.old) }
         ensures err { OnErr result (self.new ≡ self.old) }
         ensures refused { IfErr result (λ e. e ≡ Refusal.Memory) }
     {
         if at > self.cells.len() {
             return Ok(());
         }
-        join_before(&mut self.cells, &mut self.marks, at, mark)?;
+        join_before(&mut self.cells, &mut self.joiners, at, joiner)?;
         Ok(())
     }
 
-    /// Whether one of its cells was written, and not emptied since.
+    /// Whether one of the row's cells was written, and not emptied since.
     pub(crate) fn has_written(&self) -> bool
         ensures { result ≡ has_written self.now }
     {
@@ -124,71 +124,71 @@ impl Row {
         false
     }
 
-    /// Whether each of its cells is empty, or a space without a mark.
+    /// Whether each of the row's cells is empty, or a space without a joiner.
     pub(crate) fn is_blank(&self) -> bool
         ensures { result ≡ list_all is_blank self.now }
     {
-        shown_length(&self.cells, &self.marks) == 0
+        shown_length(&self.cells, &self.joiners) == 0
     }
 
-    /// Its characters with their marks, without the blanks at its end; an empty cell before them is a space. Refused: `Memory`.
+    /// The row's characters with their joiners, without the blanks at its end; an empty cell before them is a space. Refused: `Memory`.
     pub(crate) fn glyphs(&self, alloc: Global) -> Result<Vec<Glyph>, Refusal>
         ensures glyphs { IfOk result (λ v. v.items ≡ glyphs_in self.now) }
         ensures refused { IfErr result (λ e. e ≡ Refusal.Memory) }
     {
-        let end = shown_length(&self.cells, &self.marks);
-        glyphs_of(alloc, &self.cells[..end], &self.marks)
+        let end = shown_length(&self.cells, &self.joiners);
+        glyphs_of(alloc, &self.cells[..end], &self.joiners)
     }
 
-    /// Appends its text to `out`, without the blanks at its end. Refused: `Memory`.
+    /// Appends the row's text to `out`, without the blanks at its end. Refused: `Memory`.
     pub(crate) fn show(&self, alloc: Global, out: &mut String) -> Result<(), Refusal>
         ensures shown { OnOk result (string_bytes out.new ≡ string_bytes out.old ++ row_text self.now) }
         ensures refused { IfErr result (λ e. e ≡ Refusal.Memory) }
     {
-        let end = shown_length(&self.cells, &self.marks);
-        show_cells(alloc, &self.cells[..end], &self.marks, out)
+        let end = shown_length(&self.cells, &self.joiners);
+        show_cells(alloc, &self.cells[..end], &self.joiners, out)
     }
 }
 
-/// Appends the text of cells to `out`. Refused: `Memory`.
+/// Appends the text of a row's cells to `out`. Refused: `Memory`.
 fn show_cells(
     alloc: Global,
     cells: &[Cell],
-    marks: &[CombiningMark],
+    joiners: &[Joiner],
     out: &mut String,
 ) -> Result<(), Refusal>
     ensures shown { OnOk result (string_bytes out.new
-        ≡ string_bytes out.old ++ encode_utf8_all (flat_map cell_text (map (cell_shown marks.now) cells.now))) }
+        ≡ string_bytes out.old ++ encode_utf8_all (flat_map cell_text (map (cell_shown joiners.now) cells.now))) }
     ensures refused { IfErr result (λ e. e ≡ Refusal.Memory) }
 {
     for cell in cells {
-        cell.show(alloc, marks, out)?;
+        cell.show(alloc, joiners, out)?;
     }
     Ok(())
 }
 
-/// The characters of cells with their marks. Refused: `Memory`.
-fn glyphs_of(alloc: Global, cells: &[Cell], marks: &[CombiningMark]) -> Result<Vec<Glyph>, Refusal>
-    ensures glyphs { IfOk result (λ v. v.items ≡ flat_map glyph_at (map (cell_shown marks.now) cells.now)) }
+/// The characters of a row's cells with their joiners. Refused: `Memory`.
+fn glyphs_of(alloc: Global, cells: &[Cell], joiners: &[Joiner]) -> Result<Vec<Glyph>, Refusal>
+    ensures glyphs { IfOk result (λ v. v.items ≡ flat_map glyph_at (map (cell_shown joiners.now) cells.now)) }
     ensures refused { IfErr result (λ e. e ≡ Refusal.Memory) }
 {
     let mut glyphs = Vec::new(alloc);
     for cell in cells {
-        if let Some(glyph) = cell.glyph(alloc, marks)? {
+        if let Some(glyph) = cell.glyph(alloc, joiners)? {
             glyphs.push(glyph)?;
         }
     }
     Ok(glyphs)
 }
 
-/// How many cells there are up to the last one that is no blank.
-fn shown_length(cells: &[Cell], marks: &[CombiningMark]) -> usize
+/// How many cells a row has up to the last one that is no blank.
+fn shown_length(cells: &[Cell], joiners: &[Joiner]) -> usize
     ensures within { result ≤ length cells.now }
-    ensures shown { take result (map (cell_shown marks.now) cells.now) ≡ trimmed (map (cell_shown marks.now) cells.now) }
+    ensures shown { take result (map (cell_shown joiners.now) cells.now) ≡ trimmed (map (cell_shown joiners.now) cells.now) }
 {
     let mut shown = cells.len();
     while shown > 0 {
-        if !cells[shown - 1].is_blank(marks) {
+        if !cells[shown - 1].is_blank(joiners) {
             return shown;
         }
         shown -= 1;
@@ -196,33 +196,33 @@ fn shown_length(cells: &[Cell], marks: &[CombiningMark]) -> usize
     0
 }
 
-/// Joins a mark to the character that ends just before column `at`, if one does. Refused: `Memory`; then nothing has changed.
+/// Joins a joiner to the character that ends just before column `at`, if one does. Refused: `Memory`; then nothing has changed.
 fn join_before(
     cells: &mut [Cell],
-    marks: &mut Vec<CombiningMark>,
+    joiners: &mut Vec<Joiner>,
     at: usize,
-    mark: char,
+    joiner: char,
 ) -> Result<(), Refusal>
     requires within { at ≤ length cells.old }
-    requires leaves { LeavesMarks marks.old.items cells.old }
-    ensures joined { OnOk result (map (cell_shown marks.new.items) cells.new
-        ≡ joined_at at mark (map (cell_shown marks.old.items) cells.old)) }
-    ensures err { OnErr result (map (cell_shown marks.new.items) cells.new ≡ map (cell_shown marks.old.items) cells.old) }
-    ensures leaves { LeavesMarks marks.new.items cells.new }
+    requires leaves { LeavesJoiners joiners.old.items cells.old }
+    ensures joined { OnOk result (map (cell_shown joiners.new.items) cells.new
+        ≡ joined_at at joiner (map (cell_shown joiners.old.items) cells.old)) }
+    ensures err { OnErr result (map (cell_shown joiners.new.items) cells.new ≡ map (cell_shown joiners.old.items) cells.old) }
+    ensures leaves { LeavesJoiners joiners.new.items cells.new }
     ensures refused { IfErr result (λ e. e ≡ Refusal.Memory) }
 {
     let mut left = at;
     while left > 0 {
         left -= 1;
         if !cells[left].is_continued() {
-            cells[left].join(marks, mark)?;
+            cells[left].join(joiners, joiner)?;
             return Ok(());
         }
     }
     Ok(())
 }
 
-/// Appends empty cells, so that there are at least `end` cells. Refused: `Memory`.
+/// Appends empty cells to the row, so that there are at least `end` cells. Refused: `Memory`.
 #[inline]
 fn lengthen(cells: &mut Vec<Cell>, end: usize) -> Result<(), Refusal>
     ensures same { BeginTheSame end cells.new.items cells.old.items }

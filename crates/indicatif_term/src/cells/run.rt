@@ -17,7 +17,7 @@ pub(crate) enum Run<'a> {
 }
 
 impl Run<'_> {
-    /// How many texts there are.
+    /// How many characters the run has.
     pub(crate) fn len(self) -> usize
         ensures { result ≡ length (run_chars self.entry) }
     {
@@ -27,7 +27,7 @@ impl Run<'_> {
         }
     }
 
-    /// The first of them.
+    /// The first character of the run.
     pub(crate) fn first(self) -> char
         requires { 0 < length (run_chars self) }
         ensures { result ≡ slice_index (run_chars self.entry) 0 }
@@ -38,7 +38,7 @@ impl Run<'_> {
         }
     }
 
-    /// Appends their cells. Refused: `Memory`; then nothing has changed.
+    /// Appends the cells of the run's characters. Refused: `Memory`; then nothing has changed.
     pub(crate) fn append_to(self, cells: &mut Vec<Cell>) -> Result<(), Refusal>
         ensures appended { OnOk result (cells.new.items ≡ cells.old.items ++ narrow_cells (run_chars self.entry)) }
         ensures err { OnErr result (cells.new.items ≡ cells.old.items) }
@@ -51,7 +51,7 @@ impl Run<'_> {
     }
 }
 
-/// Appends the cells of ASCII characters. Refused: `Memory`; then nothing has changed.
+/// Appends the cells of a run of ASCII characters. Refused: `Memory`; then nothing has changed.
 fn append_ascii(cells: &mut Vec<Cell>, text: &[u8]) -> Result<(), Refusal>
     ensures appended { OnOk result (cells.new.items ≡ cells.old.items ++ narrow_cells text.now) }
     ensures err { OnErr result (cells.new.items ≡ cells.old.items) }
@@ -64,7 +64,7 @@ fn append_ascii(cells: &mut Vec<Cell>, text: &[u8]) -> Result<(), Refusal>
     Ok(())
 }
 
-/// Appends the cell of a character `count` times. Refused: `Memory`; then nothing has changed.
+/// Appends the cell of a run's only character `count` times. Refused: `Memory`; then nothing has changed.
 fn append_repeated(cells: &mut Vec<Cell>, c: char, count: usize) -> Result<(), Refusal>
     ensures appended { OnOk result (cells.new.items ≡ cells.old.items ++ narrow_cells (replicate count c)) }
     ensures err { OnErr result (cells.new.items ≡ cells.old.items) }
@@ -111,7 +111,7 @@ pub(crate) fn repeats_of_three(bytes: &[u8], most: usize) -> usize
     count
 }
 
-/// Whether three bytes stand at a place.
+/// Whether the three bytes that a run repeats stand at a place.
 #[inline(always)]
 fn stands_at(bytes: &[u8], at: usize, unit: &[u8]) -> bool
     requires three { length unit.now ≡ 3 }

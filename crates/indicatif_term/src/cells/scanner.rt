@@ -12,7 +12,7 @@ use std::marker::Model;
 
 /// The place of the next character in an escape sequence.
 #[derive(Clone, Copy, Drop)]
-pub(crate) enum Stage {
+pub(crate) enum ScanState {
     /// Outside.
     Outside,
     /// After ESC.
@@ -21,26 +21,26 @@ pub(crate) enum Stage {
     InSequence(Option<u16>),
 }
 
-impl Stage {
+impl ScanState {
     /// The operation of a character, and the place of the next one.
-    pub(crate) fn step(self, c: char) -> (Option<Op>, Stage)
+    pub(crate) fn step(self, c: char) -> (Option<Op>, ScanState)
         ensures op { option_map op_of result.0 ≡ (char_step (stage_place self) c).0 }
         ensures place { stage_place result.1 ≡ (char_step (stage_place self) c).1 }
     {
         match self {
-            Stage::Outside => plain_step(c),
-            Stage::AfterEscape => {
+            ScanState::Outside => plain_step(c),
+            ScanState::AfterEscape => {
                 if c == '[' {
-                    (None, Stage::InSequence(Some(0)))
+                    (None, ScanState::InSequence(Some(0)))
                 } else {
                     plain_step(c)
                 }
             }
-            Stage::InSequence(number) => {
+            ScanState::InSequence(number) => {
                 if is_parameter(c) {
-                    (None, Stage::InSequence(number_with(number, c)))
+                    (None, ScanState::InSequence(number_with(number, c)))
                 } else {
-                    (sequence_op(number, c), Stage::Outside)
+                    (sequence_op(number, c), ScanState::Outside)
                 }
             }
         }
@@ -48,19 +48,19 @@ impl Stage {
 }
 
 /// The operation of a character outside a sequence, and the place of the next one.
-fn plain_step(c: char) -> (Option<Op>, Stage)
+fn plain_step(c: char) -> (Option<Op>, ScanState)
     ensures op { option_map op_of result.0 ≡ (plain_step c).0 }
     ensures place { stage_place result.1 ≡ (plain_step c).1 }
 {
     match c {
-        '\u{1B}' => (None, Stage::AfterEscape),
-        '\r' => (Some(Op::Return), Stage::Outside),
-        '\n' => (Some(Op::LineFeed), Stage::Outside),
-        _ => (Some(Op::Put(c)), Stage::Outside),
+        '\u{1B}' => (None, ScanState::AfterEscape),
+        '\r' => (Some(Op::Return), ScanState::Outside),
+        '\n' => (Some(Op::LineFeed), ScanState::Outside),
+        _ => (Some(Op::Put(c)), ScanState::Outside),
     }
 }
 
-/// A number with one more digit, at most 65,535; none with a semicolon.
+/// The number of a sequence with one more digit, at most 65,535; none with a semicolon.
 fn number_with(number: Option<u16>, c: char) -> Option<u16>
     ensures { result ≡ number_with number c }
 {
@@ -98,7 +98,7 @@ pub(crate) struct WholeSequence {
 }
 
 impl WholeSequence {
-    /// The sequence at the front, if there is one whose last character is ASCII.
+    /// The whole escape sequence at the front of bytes, if there is one whose last character is ASCII.
     pub(crate) fn of(bytes: &[u8]) -> Option<WholeSequence>
         ensures { IfSome result (λ s. IsWholeSequence bytes.now s.number s.last s.len) }
     {
@@ -121,7 +121,7 @@ impl WholeSequence {
         })
     }
 
-    /// Its operation.
+    /// The operation of the sequence.
     pub(crate) fn op(self) -> Option<Op>
         ensures { option_map op_of result ≡ sequence_op self.number self.last }
     {
@@ -156,7 +156,7 @@ pub(crate) struct Reading {
 /// The state after the bytes read of a character and of a sequence.
 #[derive(Drop)]
 pub(crate) struct Scanner {
-    stage: Stage,
+    stage: ScanState,
     spelling: Spelling,
 }
 
@@ -174,23 +174,23 @@ impl Model for Scanner {
 }
 
 impl Scanner {
-    /// Before any byte.
+    /// The scanner before any byte.
     pub(crate) fn new() -> Scanner
         ensures { result ≡ idle }
     {
         Scanner {
-            stage: Stage::Outside,
+            stage: ScanState::Outside,
             spelling: Spelling::empty(),
         }
     }
 
-    /// Whether it is between two characters and outside a sequence.
+    /// Whether the scanner is between two characters and outside a sequence.
     #[inline]
     pub(crate) fn is_idle(&self) -> bool
         ensures { IsTrue result → self.now ≡ idle }
     {
         match self.stage {
-            Stage::Outside => self.spelling.is_empty(),
+            ScanState::Outside => self.spelling.is_empty(),
             _ => false,
         }
     }

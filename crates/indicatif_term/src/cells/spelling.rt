@@ -24,7 +24,7 @@ impl Model for Spelling {
 }
 
 impl Spelling {
-    /// No bytes.
+    /// The spelling of no bytes.
     pub(crate) fn empty() -> Spelling
         ensures { result ≡ [] }
     {
@@ -34,7 +34,7 @@ impl Spelling {
         }
     }
 
-    /// Whether it has no bytes.
+    /// Whether the spelling has no bytes.
     #[inline]
     pub(crate) fn is_empty(&self) -> bool
         ensures { IsTrue result → self.now ≡ [] }
@@ -42,7 +42,7 @@ impl Spelling {
         self.len == 0
     }
 
-    /// These bytes and one more; only that one if it can begin a character.
+    /// The spelling's bytes and one more; only that one if it can begin a character.
     pub(crate) fn with(&self, byte: u8) -> Spelling
         requires { length self.now < 4 }
         ensures { result ≡ spelling_with self.now byte }
@@ -80,7 +80,7 @@ impl Spelling {
     }
 }
 
-/// Whether a byte can begin a character.
+/// Whether a byte can begin the spelling of a character.
 fn is_leading(byte: u8) -> bool
     ensures { result ≡ is_leading byte }
 {

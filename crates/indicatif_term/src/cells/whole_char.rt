@@ -24,7 +24,7 @@ pub(crate) fn whole_char_of(bytes: &[u8]) -> Option<WholeChar>
     of_three(first, (bytes[1], bytes[2]))
 }
 
-/// A printable character of ASCII.
+/// A whole printable character of ASCII.
 #[inline]
 fn printable(byte: u8) -> Option<WholeChar>
     requires { byte < 0x80 }
@@ -39,7 +39,7 @@ fn printable(byte: u8) -> Option<WholeChar>
     })
 }
 
-/// The character that these three bytes spell.
+/// The whole character that these three bytes spell.
 #[inline]
 fn of_three(first: u8, rest: (u8, u8)) -> Option<WholeChar>
     requires first { (0xE1 ≤ first) × (first ≤ 0xEF) }

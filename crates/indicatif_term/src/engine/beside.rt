@@ -3,6 +3,8 @@ ghost use Rattle.std.specs.Prelude.{◌≡◌, ◌≢◌, ◌↔◌, IsTrue, ◌
 ghost use Rattle.indicatif_term.specs.Shows.{looks_of};
 ghost use Rattle.indicatif_term.specs.Inside.Plans.{IsWithheld};
 ghost use Rattle.indicatif_term.specs.Remembered.{live_lines};
+ghost use Rattle.indicatif_term.specs.Counts.{line_counts};
+ghost use Rattle.indicatif_term.specs.Inside.Owned.{blank_count};
 ghost use Rattle.indicatif_term.specs.Inside.Layouts.{IsSized, IsLike, AreLike};
 ghost use Rattle.indicatif_term.specs.Inside.Changes.{placed_height, AreSitting};
 ghost use Rattle.indicatif_term.specs.Standing.{placed, texts, standing_rows, IsLine, AreLines, AreReady};
@@ -28,15 +30,16 @@ pub struct SizedLine<'a> {
 }
 
 impl<'a> SizedLine<'a> {
-    /// The line with a text of its own, in spare room.
-    pub fn stored(self, spare: &mut Spare) -> Result<StandingLine, Refusal>
+    /// The line of a bar, with a text of its own, in spare room.
+    pub fn stored(self, spare: &mut Spare, bar: u64) -> Result<StandingLine, Refusal>
         ensures memory { IfErr result (λ e. e ≡ Refusal.Memory) }
         ensures text { IfOk result (λ l. string_bytes l.text ≡ self.entry.text.now) }
-        ensures same { IfOk result (λ l. (l.rows ≡ self.entry.rows) × (l.last ≡ self.entry.last) × (l.like ≡ self.entry.like) × (l.narrow ≡ self.entry.narrow)) }
+        ensures same { IfOk result (λ l. (l.bar ≡ bar) × (l.rows ≡ self.entry.rows) × (l.last ≡ self.entry.last) × (l.like ≡ self.entry.like) × (l.narrow ≡ self.entry.narrow)) }
     {
         let mut text = spare.take_text();
         text.push_str(self.text)?;
         Ok(StandingLine {
+            bar,
             text,
             before: spare.no_text(),
             rows: self.rows,
@@ -58,7 +61,7 @@ pub struct Beside<'a> {
 }
 
 impl<'a> Beside<'a> {
-    /// What is remembered of a terminal of this width, from the first line on that has a text.
+    /// What stands on a terminal of this width, beside the lines of a drawing, from the first line on that has a text.
     pub fn of(shown: &'a Remembered, window: Window) -> Beside<'a>
         ensures lines { result.lines.now ≡ (if shown.now.width == window.columns then live_lines shown.now else []) }
         ensures standing { AreLines window.columns result.lines.now }
@@ -70,7 +73,7 @@ impl<'a> Beside<'a> {
         }
     }
 
-    /// The size of the line that so many precede: that of the line in its place, where that is the same; else it is measured.
+    /// The size of the line behind the first `count`: that of the line in its place, if that is the same; else it is measured.
     pub fn sized<'b>(
         self,
         count: usize,
@@ -116,7 +119,7 @@ pub struct Room {
 }
 
 impl Room {
-    /// This, if any line stands there.
+    /// This room, if any line stands in it.
     fn with_some(self) -> Option<Room>
         ensures { IfSome result (λ room. (room ≡ self) × (0 < self.lines)) }
     {
@@ -124,7 +127,7 @@ impl Room {
     }
 }
 
-/// The lines from the front that have at most so many rows, if any has; the others stand below these rows.
+/// The room of the lines from the front that take at most `rows` rows, if any does; the others stand below these rows.
 pub fn lines_within(lines: &[StandingLine], rows: usize) -> Option<Room>
     ensures { IfSome result (λ room. IsWithin lines.now rows room) }
 {
@@ -155,7 +158,7 @@ fn first_written(lines: &[StandingLine]) -> usize {
     lines.len()
 }
 
-/// How many rows lines take, or 2^64 - 1 where there are more.
+/// How many rows lines that stand or are to stand take together, or 2^64 - 1 where there are more.
 pub fn height_of(lines: &[StandingLine]) -> usize
     ensures { result ≡ min (placed_height (placed lines.now)) (2 ^ 64 - 1) }
 {
@@ -168,18 +171,18 @@ pub fn height_of(lines: &[StandingLine]) -> usize
 
 /// A place in lines that stand one below another: a line, and the row on which it begins.
 #[derive(Clone, Copy, Drop)]
-pub struct Place {
+pub struct LineAt {
     pub index: usize,
     pub row: usize,
 }
 
 /// The place of the first line from a place on that begins on a row or below it.
-fn passed_over(standing: &[StandingLine], place: Place, start: usize) -> Place
+fn passed_over(standing: &[StandingLine], place: LineAt, start: usize) -> LineAt
     ensures { (w : ℕ) → AreLines w standing.now → IsAt w standing.now place → IsAt w standing.now result }
 {
     let mut at = place;
     while at.index < standing.len() && at.row < start {
-        at = Place {
+        at = LineAt {
             index: at.index + 1,
             row: at.row.saturating_add(standing[at.index].rows),
         };
@@ -213,7 +216,7 @@ pub fn ends_alike(a: &[u8], b: &[u8]) -> bool
     true
 }
 
-/// Whether an index is this one.
+/// Whether the index of a standing line is this one.
 fn is_index(index: Option<usize>, at: usize) -> bool
     ensures { IsTrue result → index ≡ Some at }
 {
@@ -223,8 +226,8 @@ fn is_index(index: Option<usize>, at: usize) -> bool
     }
 }
 
-/// Whether a line stands at a place already, where it begins on that row.
-fn is_there(standing: &[StandingLine], place: Place, start: usize, line: &StandingLine) -> bool
+/// Whether a line of a drawing stands at a place already, beginning on that row.
+fn is_there(standing: &[StandingLine], place: LineAt, start: usize, line: &StandingLine) -> bool
     ensures { IsTrue result → (w : ℕ) → AreLines w standing.now → IsAt w standing.now place → IsLine w line.now →
         IsLike standing.now (string_bytes line.now.text) line.now.like → IsThere w standing.now start line.now }
 {
@@ -240,12 +243,13 @@ fn is_there(standing: &[StandingLine], place: Place, start: usize, line: &Standi
 /// Notes those of the lines that stand on their rows already.
 fn note_standing(standing: &[StandingLine], lines: &mut Vec<StandingLine>)
     ensures texts { texts lines.new.items ≡ texts lines.old.items }
+    ensures counts { line_counts lines.new.items ≡ line_counts lines.old.items }
     ensures right { (w : ℕ) → AreLines w lines.old.items → AreLines w lines.new.items }
     ensures ready { AreReady lines.new.items }
     ensures sits { (w : ℕ) → AreLines w standing.now → AreLines w lines.old.items → AreLike standing.now lines.old.items →
         AreSitting w (looks_of (standing_rows w standing.now)) (placed lines.new.items) }
 {
-    let mut place = Place { index: 0, row: 0 };
+    let mut place = LineAt { index: 0, row: 0 };
     let mut start = 0_usize;
     for at in 0..lines.len() {
         place = passed_over(standing, place, start);
@@ -256,7 +260,7 @@ fn note_standing(standing: &[StandingLine], lines: &mut Vec<StandingLine>)
     }
 }
 
-/// So many blank lines, and these below them.
+/// `blanks` blank lines, and the lines of a drawing below them.
 pub fn below_blanks(
     spare: &mut Spare,
     blanks: usize,
@@ -264,12 +268,14 @@ pub fn below_blanks(
 ) -> Result<Vec<StandingLine>, Refusal>
     ensures memory { IfErr result (λ e. (e ≡ Refusal.Memory) × (0 < blanks)) }
     ensures texts { IfOk result (λ ls. texts ls.items ≡ replicate blanks [] ++ texts lines.items) }
+    ensures counts { IfOk result (λ ls. line_counts ls.items ≡ replicate blanks blank_count ++ line_counts lines.items) }
     ensures right { (w : ℕ) → AreLines w lines.items → IfOk result (λ ls. AreLines w ls.items) }
     ensures alike { (on : List StandingLine) → AreLike on lines.items → IfOk result (λ ls. AreLike on ls.items) }
 {
     let mut lines = lines;
     for _ in 0..blanks {
         lines.push(StandingLine {
+            bar: 0,
             text: spare.take_text(),
             before: spare.no_text(),
             rows: 1,
@@ -284,7 +290,7 @@ pub fn below_blanks(
     Ok(lines)
 }
 
-/// The lines of a drawing below so many blank ones, in the place of those that stand there.
+/// The lines of a drawing below `blanks` blank ones, in the place of those that stand there.
 pub fn lines_among(
     spare: &mut Spare,
     standing: &[StandingLine],
@@ -293,6 +299,7 @@ pub fn lines_among(
 ) -> Result<Vec<StandingLine>, Refusal>
     ensures memory { IfErr result (λ e. (e ≡ Refusal.Memory) × (0 < blanks)) }
     ensures lines { IfOk result (λ ls. texts ls.items ≡ replicate blanks [] ++ texts lines.items) }
+    ensures counts { IfOk result (λ ls. line_counts ls.items ≡ replicate blanks blank_count ++ line_counts lines.items) }
     ensures right { (w : ℕ) → AreLines w lines.items → IfOk result (λ ls. AreLines w ls.items) }
     ensures ready { IfOk result (λ ls. AreReady ls.items) }
     ensures sits { (w : ℕ) → AreLines w standing.now → AreLines w lines.items → AreLike standing.now lines.items → IfOk result (λ ls. AreSitting w

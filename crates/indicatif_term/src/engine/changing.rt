@@ -11,7 +11,7 @@ ghost use Rattle.indicatif_term.specs.Inside.Places.{IsWithin};
 ghost use Rattle.indicatif_term.specs.Standing.{placed_of, placed, AreReady};
 
 use crate::engine::beside::{Room, height_of};
-use crate::engine::inks::{Colours, Reading};
+use crate::engine::inks::{Colours, InkedText};
 use crate::engine::last_char::{ends_plainly, last_char};
 use crate::engine::painting::{empty_down, go_down, go_up, put_below, put_spaces, take_back_rows};
 use crate::engine::parting::{Part, Step};
@@ -56,7 +56,7 @@ pub fn write_in_room<T: TermLike>(
     term.flush()
 }
 
-/// How many columns are free behind the last of these lines; 0 where there is none.
+/// How many columns of its row the last of these lines leaves free; 0 if there is no line.
 fn fill_behind(lines: &[StandingLine], width: usize) -> usize
     ensures { result ≡ free_behind width (last_of (placed lines.now)) }
 {
@@ -67,7 +67,7 @@ fn fill_behind(lines: &[StandingLine], width: usize) -> usize
     width.saturating_sub(lines[count - 1].last)
 }
 
-/// The lines in the first of the rows: the rows below them are taken back, and those that do not stay are written, from the first down.
+/// Takes back the rows below the lines in the first of the rows, and writes those lines that don't stay, from the first down.
 fn rewrite<T: TermLike>(term: &mut T, changes: &Changes<'_>, width: usize) -> io::Result<()>
     requires small { placed_height (placed changes.now.front.now) + changes.now.last.now.rows + changes.now.free ≤ 65535 }
     requires front { AreReady changes.now.front.now }
@@ -91,14 +91,14 @@ fn is_nothing(changes: &Changes<'_>) -> bool
     changes.free == 0 && all_with_last(changes.front, changes.last)
 }
 
-/// Whether these lines and the last one stay.
+/// Whether these lines and the last one stay where they stand.
 fn all_with_last(front: &[StandingLine], last: &StandingLine) -> bool
     ensures { result ≡ all_stay (placed front.now ++ placed_of last.now ∷ []) }
 {
     all_standing(front) && is_left(last)
 }
 
-/// Whether all lines stay.
+/// Whether all these lines stay where they stand, so that none is written.
 fn all_standing(lines: &[StandingLine]) -> bool
     ensures { result ≡ all_stay (placed lines.now) }
 {
@@ -110,7 +110,7 @@ fn all_standing(lines: &[StandingLine]) -> bool
     true
 }
 
-/// Whether a line stays.
+/// Whether a line stays where it stands, so that nothing of it is written.
 fn is_left(line: &StandingLine) -> bool
     ensures { result ≡ stays (placed_of line.now).change }
 {
@@ -121,14 +121,14 @@ fn is_left(line: &StandingLine) -> bool
     }
 }
 
-/// How far the cursor is below rows, where so many below them were taken back.
+/// How far the cursor is below lines: one row, if rows below them were taken back.
 fn one_below(taken: usize) -> usize
     ensures { result ≡ rows_below taken }
 {
     if taken == 0 { 0 } else { 1 }
 }
 
-/// Down through lines; how far the cursor is above the row below them then.
+/// Goes down through lines, and writes those that don't stay; returns how far the cursor is above the row below them then.
 fn walk<T: TermLike>(term: &mut T, lines: &[StandingLine]) -> io::Result<usize>
     requires small { placed_height (placed lines.now) ≤ 65535 }
     requires ready { AreReady lines.now }
@@ -143,7 +143,8 @@ fn walk<T: TermLike>(term: &mut T, lines: &[StandingLine]) -> io::Result<usize>
     Ok(down)
 }
 
-/// One line, from so many rows above it; how far the cursor is above the row below it then.
+/// Passes one line, from `down` rows above it: it stays, is edited or is written; returns how far the cursor is above the row below it
+/// then.
 fn pass<T: TermLike>(term: &mut T, down: usize, line: &StandingLine) -> io::Result<usize>
     requires small { down + line.now.rows ≤ 65536 }
     requires ready { IsReady line.now.step (string_bytes line.now.before) (string_bytes line.now.text) }
@@ -165,7 +166,7 @@ fn pass<T: TermLike>(term: &mut T, down: usize, line: &StandingLine) -> io::Resu
     }
 }
 
-/// Down to the last row of a line, to its front, and over what differs in a part of it.
+/// Goes down to the last row of a line and to its front, and writes what differs in a part of it.
 fn write_part<T: TermLike>(
     term: &mut T,
     down: usize,
@@ -187,7 +188,7 @@ fn write_part<T: TermLike>(
     close(term, now.ink)
 }
 
-/// What is left of a row before a part of it is written: all of that.
+/// What is left of a row before a part of it is written: the whole part.
 fn all_of(line: &StandingLine, part: Part) -> Rest<'_>
     requires { HasPart part (string_bytes line.now.before) (string_bytes line.now.text) }
     ensures room { HasRoom result }
@@ -198,11 +199,11 @@ fn all_of(line: &StandingLine, part: Part) -> Rest<'_>
         group: "",
     };
     Rest {
-        old: Reading {
+        old: InkedText {
             text: &line.before[part.from..],
             ink,
         },
-        new: Reading {
+        new: InkedText {
             text: &line.text[part.from..],
             ink,
         },
@@ -212,7 +213,7 @@ fn all_of(line: &StandingLine, part: Part) -> Rest<'_>
     }
 }
 
-/// So many rows down; the rows of a line emptied, and the line.
+/// Goes `down` rows down, empties the rows of a line, and writes it as a whole.
 fn write_changed<T: TermLike>(term: &mut T, down: usize, line: &StandingLine) -> io::Result<()>
     ensures { Writes (changed_bytes down line.now.rows (placed_of line.now).line) (T.view term.old) (T.view term.new) result }
 {
@@ -223,7 +224,7 @@ fn write_changed<T: TermLike>(term: &mut T, down: usize, line: &StandingLine) ->
     term.write_str(&line.text)
 }
 
-/// The last line, from so many rows above it, with the cursor behind the end of its row then.
+/// Passes the last line, from `down` rows above it; the cursor is behind the end of its row then.
 fn write_last<T: TermLike>(
     term: &mut T,
     down: usize,
@@ -247,7 +248,7 @@ fn write_last<T: TermLike>(
     }
 }
 
-/// A line as a whole, with the spaces that fill its last row.
+/// Writes a line as a whole, with the spaces that fill its last row, in the place of another.
 fn write_filled<T: TermLike>(
     term: &mut T,
     down: usize,
@@ -260,7 +261,7 @@ fn write_filled<T: TermLike>(
     put_spaces(term, width.saturating_sub(line.last))
 }
 
-/// A line that stays: its last column again, if that is free or shows plain ASCII; else the line.
+/// Writes of a last line that stays its last column again, if that is free or shows plain ASCII; else the line.
 fn write_left<T: TermLike>(
     term: &mut T,
     down: usize,
@@ -281,7 +282,7 @@ fn write_left<T: TermLike>(
     write_filled(term, down, line, width)
 }
 
-/// So many rows down, and a character into the last column.
+/// Goes `down` rows down, and writes a character into the last column.
 fn write_end<T: TermLike>(term: &mut T, down: usize, text: &str, width: usize) -> io::Result<()>
     ensures { Writes (move_bytes DOWN down ++ ((0x0D ∷ []) ++ (move_bytes RIGHT (width - 1) ++ text.now))) (T.view term.old) (T.view term.new) result }
 {

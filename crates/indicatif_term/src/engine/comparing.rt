@@ -46,7 +46,7 @@ pub fn compare(line: &StandingLine, text: &str, window: Window, waits: bool) -> 
     }
 }
 
-/// The part of a line that is written, if it was edited less than so often. Only lines of one row are looked at. A line that was cut to
+/// The part of a line that is written, if it hasn't been edited too often. Only lines of one row are looked at. A line that was cut to
 /// another size has no colours in its text, while its cells may have some: so of lines that aren't known to be narrow only those with
 /// colours are edited.
 fn part_of(line: &StandingLine, text: &str, window: Window, waits: bool) -> Option<Part>
@@ -83,7 +83,7 @@ fn begin_or_end_alike(a: &[u8], b: &[u8]) -> bool {
     a[0] == b[0] || a[own - 1] == b[other - 1]
 }
 
-/// The same of a line that is written as a whole.
+/// What becomes of a line that is written as a whole: its text is measured.
 fn measure(line: &StandingLine, text: &str, window: Window) -> Option<Turn>
     ensures rows { IfSome result (λ t. line.now.rows ≡ length (rows_of window.columns (chars text.now))) }
     ensures last { IfSome result (λ t. t.last ≡ last_columns window.columns (chars text.now)) }

@@ -1,10 +1,8 @@
 //! What an engine remembers of its rows: their counts, and how these go on.
-ghost use Rattle.std.specs.Prelude.{◌≡◌, ◌⊎◌, ℕ, ◌+◌, ◌-◌, ◌<◌, ◌≤◌, ◌^◌, ◌==◌, min, max, List, IsTrue, Bool, length, drop, sum_by, if◌then◌else◌};
-ghost use Rattle.std.specs.List.{list_any};
+ghost use Rattle.std.specs.Prelude.{◌≡◌, ◌⊎◌, ℕ, ◌+◌, ◌-◌, ◌<◌, ◌≤◌, ◌^◌, min, max, List, IsTrue, Bool};
 ghost use Rattle.indicatif_term.specs.Lists.{blanks_for};
 
-use crate::engine::layout::{Plan, RowCount};
-use std::alloc::Global;
+use crate::engine::layout::Plan;
 
 /// What became of the rows of a bar that is gone.
 ///
@@ -30,7 +28,7 @@ pub struct Fresh {
 }
 
 impl Fresh {
-    /// None.
+    /// No fresh row.
     pub fn none() -> Fresh
         ensures { result.rows ≡ 0 }
     {
@@ -39,15 +37,12 @@ impl Fresh {
 }
 
 /// The counts of the rows that may still change.
-#[derive(Drop)]
+#[derive(Clone, Copy, Drop)]
 pub struct Counts {
     /// Rows of bars that are gone.
     pub kept: usize,
     /// Blank rows above the bars.
     pub blanks: usize,
-    /// The rows of the last frame, by bar, and how many of these segments, from the front, passed to kept.
-    pub segments: Vec<RowCount>,
-    pub passed: usize,
     /// The blank rows and those of the bars.
     pub live: usize,
     /// The rows reached, counted from the first kept row.
@@ -56,29 +51,27 @@ pub struct Counts {
     pub below: bool,
     /// Whether anything may stand in the rows that weren't reached: the terminal has failed, and not all of its window was reached since.
     pub under: bool,
-    pub ghost within: { passed ≤ length segments.items },
-    pub ghost live_is: { live ≡ blanks + sum_by (λ s. s.rows) (drop passed segments.items) },
+    pub ghost blank: { blanks ≤ live },
     pub ghost fits: { kept + live ≤ reached },
     pub ghost small: { reached ≤ 65535 },
     pub ghost rests: { IsTrue below → kept + live < reached },
 }
 
 impl Counts {
-    ghost use Rattle.indicatif_term.specs.Lists.{Lists, BarLines, opening_lists, forgotten_lists, drawn, logged, cleared, blanks_for, kept_of, fate};
+    ghost use Rattle.indicatif_term.specs.Lists.{Lists, BarLines, opening_lists, forgotten_lists, drawn, logged, cleared, blanks_for};
     ghost use Rattle.indicatif_term.specs.Counts.{CountsOf};
     ghost use Rattle.indicatif_term.specs.Inside.Plans.{IsPlan, IsSummed, text_height};
     ghost use Rattle.indicatif_term.specs.Inside.Fills.{fill_columns};
     ghost use Rattle.indicatif_term.specs.Inside.Reached.{IsFresh, IsAtop};
+    ghost use Rattle.indicatif_term.specs.Inside.Counted.{IsPassed};
 
-    /// Nothing drawn: the cursor is on the first row, at its front.
-    pub fn new(alloc: Global) -> Counts
+    /// The counts before the first drawing: the cursor is on the first row, at its front.
+    pub fn new() -> Counts
         ensures { CountsOf result opening_lists }
     {
         Counts {
             kept: 0,
             blanks: 0,
-            segments: Vec::new(alloc),
-            passed: 0,
             live: 0,
             reached: 1,
             below: true,
@@ -86,15 +79,13 @@ impl Counts {
         }
     }
 
-    /// The same where the terminal has failed: anything may stand below.
-    pub fn forgotten(alloc: Global) -> Counts
+    /// The counts after the terminal has failed, as before the first drawing: anything may stand below.
+    pub fn forgotten() -> Counts
         ensures { CountsOf result forgotten_lists }
     {
         Counts {
             kept: 0,
             blanks: 0,
-            segments: Vec::new(alloc),
-            passed: 0,
             live: 0,
             reached: 1,
             below: true,
@@ -102,7 +93,7 @@ impl Counts {
         }
     }
 
-    /// How many rows can be reached below those that were, so that the cursor's row stays in a window of so many rows.
+    /// How many rows can be reached below those that were, so that the cursor's row stays in a window of `height` rows.
     fn room(&self, height: usize) -> usize
         ensures within { 0 < result → self.now.reached + result ≤ height }
         ensures atop { 0 < result → IsAtop self.now → self.now.reached + result < height }
@@ -115,8 +106,8 @@ impl Counts {
         room
     }
 
-    /// Those of so many rows, counted from the first kept one, that weren't reached, where anything may stand in them: as far as the
-    /// cursor's row stays in a window of so many rows. All others are below the window, and come blank.
+    /// The rows up to `end`, counted from the first kept one, that no drawing has reached, if anything may stand in them: as far as the
+    /// cursor's row stays in a window of `height` rows. All others are below the window, and come blank.
     pub fn fresh(&self, end: usize, height: usize) -> Fresh
         requires small { height ≤ 65535 }
         ensures { IsFresh self.now end height result }
@@ -138,7 +129,7 @@ impl Counts {
         }
     }
 
-    /// The counts after a draw of this plan below so many blank rows, on a terminal of so many rows.
+    /// The counts after a draw of this plan below blank rows, on a terminal of `height` rows.
     pub fn drawn(&self, plan: Plan, blanks: usize, height: usize) -> Counts
         requires plan { IsSummed height plan }
         requires small { height ≤ 65535 }
@@ -152,26 +143,21 @@ impl Counts {
             let rows = NextRows {
                 kept: self.kept,
                 blanks,
-                segments: plan.segments,
-                passed: 0,
                 live: blanks + plan.rows,
                 under: self.under,
             };
             return rows.settled(self.reached, height);
         }
-        let passing_rows = total_rows(&plan.segments[..plan.passing]);
         let rows = NextRows {
-            kept: self.kept + (blanks + passing_rows),
+            kept: self.kept + (blanks + plan.passing_rows),
             blanks: 0,
-            segments: plan.segments,
-            passed: plan.passing,
-            live: plan.rows - passing_rows,
+            live: plan.rows - plan.passing_rows,
             under: self.under,
         };
         rows.settled(self.reached, height)
     }
 
-    /// The counts after a log of a text of so many rows above blank rows and this plan.
+    /// The counts after a log of a text above blank rows and this plan, on a terminal of `height` rows.
     pub fn logged(&self, text: usize, plan: Plan, blanks: usize, height: usize) -> Counts
         requires plan { IsSummed height plan }
         requires small { height ≤ 65535 }
@@ -185,23 +171,19 @@ impl Counts {
         let rows = NextRows {
             kept: 0,
             blanks,
-            segments: plan.segments,
-            passed: 0,
             live: blanks + plan.rows,
             under: self.under,
         };
         rows.settled(self.reached.saturating_sub(text), height)
     }
 
-    /// The counts after a clear.
-    pub fn cleared(&self, alloc: Global) -> Counts
+    /// The counts after a clear: no row is kept or live.
+    pub fn cleared(&self) -> Counts
         ensures { (l : Lists) → CountsOf self.now l → CountsOf result (cleared l) }
     {
         Counts {
             kept: 0,
             blanks: 0,
-            segments: Vec::new(alloc),
-            passed: 0,
             live: 0,
             reached: self.reached,
             below: self.reached > 0,
@@ -209,44 +191,23 @@ impl Counts {
         }
     }
 
-    /// What becomes of a bar's rows: its rows at the front of live pass to kept, with the blanks.
-    pub fn keep(self, bar: u64) -> (Keep, Counts)
-        ensures fate { (l : Lists) → CountsOf self l → result.0 ≡ fate bar l }
-        ensures counts { (w : ℕ) (l : Lists) → CountsOf self l → CountsOf result.1 (kept_of w bar l) }
+    /// The counts after the blank rows and so many live ones below them passed to kept.
+    pub fn passed(&self, rows: usize) -> Counts
+        ensures { self.now.blanks + rows ≤ self.now.live → IsPassed self.now rows result }
     {
-        if self.passed == self.segments.len() {
-            return (Keep::Absent, self);
-        }
-        let first = self.segments[self.passed];
-        if first.bar != bar {
-            let keep = behind_or_absent(&self.segments[self.passed..], bar);
-            return (keep, self);
-        }
-        let Counts {
-            kept,
-            blanks,
-            segments,
-            passed,
-            live,
-            reached,
-            below,
-            under,
-        } = self;
-        let next = Counts {
-            kept: kept + (blanks + first.rows),
+        let gone = self.blanks.saturating_add(rows).min(self.live);
+        Counts {
+            kept: self.kept + gone,
             blanks: 0,
-            segments,
-            passed: passed + 1,
-            live: live - (blanks + first.rows),
-            reached,
-            below,
-            under,
-        };
-        (Keep::Passed, next)
+            live: self.live - gone,
+            reached: self.reached,
+            below: self.below,
+            under: self.under,
+        }
     }
 
-    /// How many spaces fill the row of a last line that takes so many of the terminal's columns; none where there is no line,
-    /// or the cursor goes below.
+    /// How many spaces fill the row of a last line that takes `last` of the terminal's columns; none where there is no line, or the cursor
+    /// goes below.
     pub fn fill(&self, last: Option<usize>, width: usize) -> usize
         ensures { result ≡ fill_columns self.now.below width last }
     {
@@ -255,24 +216,6 @@ impl Counts {
             _ => 0,
         }
     }
-}
-
-/// What becomes of the rows of a bar that are not the first of these: whether there are some.
-fn behind_or_absent(segments: &[RowCount], bar: u64) -> Keep
-    ensures { result ≡ (if list_any (λ s. s.bar == bar) segments.now then Keep.Behind else Keep.Absent) }
-{
-    if has_rows(segments, bar) {
-        Keep::Behind
-    } else {
-        Keep::Absent
-    }
-}
-
-/// Whether some rows are of this bar.
-fn has_rows(segments: &[RowCount], bar: u64) -> bool
-    ensures { result ≡ list_any (λ s. s.bar == bar) segments.now }
-{
-    segments.iter().any(|s| s.bar == bar)
 }
 
 /// The blank rows of a bottom alignment: where bars show, the rows that are free and that they do not take.
@@ -287,22 +230,11 @@ pub fn blanks_of(bottom: bool, free: usize, bars: usize) -> usize
     }
 }
 
-/// All rows of these segments.
-fn total_rows(segments: &[RowCount]) -> usize
-    requires { sum_by (λ s. s.rows) segments.now ≤ 65535 }
-    ensures { result ≡ sum_by (λ s. s.rows) segments.now }
-{
-    segments.iter().map(|s| s.rows).sum()
-}
-
 /// The rows after a drawing, before those that have scrolled away join the ones above.
-#[derive(Drop)]
+#[derive(Clone, Copy, Drop)]
 struct NextRows {
     kept: usize,
     blanks: usize,
-    /// The segments, and how many of them passed to kept.
-    segments: Vec<RowCount>,
-    passed: usize,
     /// All rows of live.
     live: usize,
     /// Whether anything may stand in the rows that weren't reached.
@@ -312,15 +244,14 @@ struct NextRows {
 impl NextRows {
     ghost use Rattle.indicatif_term.specs.Inside.Counted.{SettledCounts};
 
-    /// The counts where those kept rows that have scrolled away join those above. So many rows were reached before.
+    /// The counts where those kept rows that have scrolled away join those above. `reached` rows were reached before.
     fn settled(self, reached: usize, height: usize) -> Counts
-        requires within { self.passed ≤ length self.segments.items }
-        requires live_is { self.live ≡ self.blanks + sum_by (λ s. s.rows) (drop self.passed self.segments.items) }
+        requires blank { self.blanks ≤ self.live }
         requires reached_small { reached ≤ 65535 }
         requires height_small { height ≤ 65535 }
         requires live_small { self.live ≤ 65535 }
         requires kept_small { self.kept ≤ reached + 65535 }
-        ensures { SettledCounts reached height self.kept self.blanks (drop self.passed self.segments.items) self.live self.under result }
+        ensures { SettledCounts reached height self.kept self.blanks self.live self.under result }
     {
         let reached = reached.max(self.kept + self.live);
         let gone = reached.saturating_sub(height).min(self.kept);
@@ -329,8 +260,6 @@ impl NextRows {
         Counts {
             kept,
             blanks: self.blanks,
-            segments: self.segments,
-            passed: self.passed,
             live: self.live,
             reached,
             below: self.live == 0 && kept < reached,

@@ -21,7 +21,7 @@ pub struct Colours<'a> {
     pub group: &'a str,
 }
 
-/// Whether the same sequences are open. Mostly none are.
+/// Whether the same colour sequences are open. Mostly none are.
 #[inline(always)]
 pub fn are_same(a: Colours<'_>, b: Colours<'_>) -> bool
     ensures { result ≡ same_ink (ink_of a.entry) (ink_of b.entry) }
@@ -35,7 +35,7 @@ pub fn are_same(a: Colours<'_>, b: Colours<'_>) -> bool
     a.group == b.group
 }
 
-/// Whether no sequences are open.
+/// Whether no colour sequences are open.
 #[inline(always)]
 fn are_none(ink: Colours<'_>) -> bool
     ensures { IsTrue result → ink_of ink.entry ≡ NONE }
@@ -45,14 +45,14 @@ fn are_none(ink: Colours<'_>) -> bool
 
 /// What is left of a text, and the colour sequences that are open in front of it.
 #[derive(Clone, Copy)]
-pub struct Reading<'a> {
+pub struct InkedText<'a> {
     pub text: &'a str,
     pub ink: Colours<'a>,
 }
 
 /// The first cell of what is left of a text, with what follows it and the sequences that are open at it: a space without colours where
 /// the text ends.
-pub fn first_cell<'a>(reading: Reading<'a>) -> (char, Reading<'a>)
+pub fn first_cell<'a>(reading: InkedText<'a>) -> (char, InkedText<'a>)
     ensures first { (n : ℕ) → padded (suc n) (cells reading.entry) ≡ in_ink (ink_of result.1.ink) result.0 ∷ padded n (cells result.1) }
     ensures rest { length (cells result.1) ≡ length (cells reading.entry) - 1 }
 {
@@ -60,8 +60,8 @@ pub fn first_cell<'a>(reading: Reading<'a>) -> (char, Reading<'a>)
     first_char(here.text, here.ink)
 }
 
-/// The same of a text with no colour sequence at its front, where these are open.
-fn first_char<'a>(text: &'a str, ink: Colours<'a>) -> (char, Reading<'a>)
+/// The first cell of a text with no colour sequence at its front, with what follows it and these sequences, which are open.
+fn first_char<'a>(text: &'a str, ink: Colours<'a>) -> (char, InkedText<'a>)
     requires { colour_length (chars text.now) ≡ None }
     ensures first { (n : ℕ) → padded (suc n) (read (ink_of ink.entry) (chars text.entry.now)) ≡ in_ink (ink_of result.1.ink) result.0 ∷ padded n (cells result.1) }
     ensures rest { length (cells result.1) ≡ length (read (ink_of ink.entry) (chars text.entry.now)) - 1 }
@@ -70,14 +70,14 @@ fn first_char<'a>(text: &'a str, ink: Colours<'a>) -> (char, Reading<'a>)
     match rest.next() {
         Some(c) => (
             c,
-            Reading {
+            InkedText {
                 text: rest.as_str(),
                 ink,
             },
         ),
         None => (
             ' ',
-            Reading {
+            InkedText {
                 text: "",
                 ink: Colours {
                     base: "",
@@ -88,8 +88,8 @@ fn first_char<'a>(text: &'a str, ink: Colours<'a>) -> (char, Reading<'a>)
     }
 }
 
-/// What is left of a text past the colour sequences at its front, where these are open.
-fn past_colours<'a>(text: &'a str, ink: Colours<'a>) -> Reading<'a>
+/// What is left of a text past the colour sequences at its front, and which are open then.
+fn past_colours<'a>(text: &'a str, ink: Colours<'a>) -> InkedText<'a>
     ensures same { cells result ≡ read (ink_of ink.entry) (chars text.entry.now) }
     ensures front { colour_length (chars result.text.now) ≡ None }
 {
@@ -98,7 +98,7 @@ fn past_colours<'a>(text: &'a str, ink: Colours<'a>) -> Reading<'a>
     let mut rest = text;
     let mut len = colour_len(rest);
     if len == 0 {
-        return Reading { text, ink };
+        return InkedText { text, ink };
     }
     'sequences: while len > 0 {
         let closing = closes(&rest[..len]);
@@ -111,13 +111,13 @@ fn past_colours<'a>(text: &'a str, ink: Colours<'a>) -> Reading<'a>
     }
     let (group, text) = begun.split_at(begun.len() - rest.len());
     let base = group_or_none(closed, ink.group);
-    Reading {
+    InkedText {
         text,
         ink: Colours { base, group },
     }
 }
 
-/// These sequences, if none closed them.
+/// These colour sequences, or none, if one closed all.
 fn group_or_none(closed: bool, group: &str) -> &str
     ensures { result.now ≡ (if closed then [] else group.entry.now) }
 {

@@ -2,7 +2,7 @@
 ghost use Rattle.std.specs.Prelude.{◌≡◌, IsTrue};
 ghost use Rattle.indicatif_term.specs.Inside.LastChar.{ends_plainly, last_byte};
 
-/// Whether a line has no escape character, so no colours, and ends with printable ASCII, which no mark joins.
+/// Whether a line has no escape character, so no colours, and ends with printable ASCII, which no joiner joins.
 pub fn ends_plainly(line: &str) -> bool
     ensures { result ≡ ends_plainly line.now }
 {
@@ -15,7 +15,7 @@ pub fn ends_plainly(line: &str) -> bool
     last >= 0x20 && last <= 0x7E && !bytes.contains(&0x1B)
 }
 
-/// The last character of such a line.
+/// The last character of a line that ends plainly.
 pub fn last_char(line: &str) -> &str
     requires { IsTrue (ends_plainly line.now) }
     ensures { result.now ≡ last_byte line.now }

@@ -1,15 +1,16 @@
 //! Which lines of a frame are shown, and how many rows they take.
-ghost use Rattle.std.specs.Prelude.{◌≡◌, ◌≢◌, Err, ◌+◌, ◌==◌, ◌<◌, ◌≤◌, ◌++◌, ◌∷◌, [], ℕ, map, length, chars, List, IfOk, IfErr, sum_by, if◌then◌else◌};
-ghost use Rattle.indicatif_term.specs.Lists.{BarRows, onto_segments};
+ghost use Rattle.std.specs.Prelude.{◌≡◌, ◌≢◌, Err, ◌==◌, ◌<◌, ◌≤◌, ◌+◌, ◌-◌, ◌^◌, ◌++◌, ◌∷◌, [], ℕ, map, length, chars, List, IfOk, IfErr, None, false, if◌then◌else◌};
+ghost use Rattle.indicatif_term.specs.Lists.{BarRows};
 ghost use Rattle.indicatif_term.specs.Frames.{bar_lines, line_text, all_lines, logged_lines};
 ghost use Rattle.indicatif_term.specs.Standing.{AreLines};
 ghost use Rattle.indicatif_term.specs.Inside.Plans.{IsSummed, IsLaidOut, IsPlaced, Measured, MeasuredLine, MeasuredText, PlannedFor, text_above, frame_lines};
 ghost use Rattle.indicatif_term.specs.Remembered.{live_lines};
 ghost use Rattle.indicatif_term.specs.Inside.Layouts.{IsSized, IsLike, HasLines};
 ghost use Rattle.indicatif_term.specs.Inside.Fills.{PlanEndsAt, member_ends, frame_ends};
-ghost use Rattle.indicatif_term.specs.Counts.{row_count};
+ghost use Rattle.indicatif_term.specs.Counts.{line_counts};
+ghost use Rattle.indicatif_term.specs.Inside.Owned.{run_length, through, kept_below, no_plan};
 
-use crate::engine::beside::{Beside, SizedLine};
+use crate::engine::beside::{Beside, SizedLine, height_of};
 use crate::engine::lines::Segment;
 use crate::engine::remembered::{Remembered, StandingLine};
 use crate::engine::spare::Spare;
@@ -18,26 +19,47 @@ use crate::target::term_like::TermLike;
 use indicatif_text::columns::{Metrics, Refusal, wrapped};
 use std::convert::AsStr;
 
-/// How many rows of a bar are shown.
+/// What a frame shows: how many lines and rows of which bars.
 #[derive(Clone, Copy, Drop)]
-pub struct RowCount {
-    pub bar: u64,
-    pub rows: usize,
-}
-
-/// What a frame shows.
-#[derive(Drop)]
 pub struct Plan {
-    /// The rows by bar, all their rows, and the lines.
-    pub segments: Vec<RowCount>,
+    /// The rows and the lines.
     pub rows: usize,
     pub lines: usize,
     /// How many columns the last of these lines takes of its last row.
     pub last: Option<usize>,
     /// Whether a line did not fit, so that none after it is shown.
     pub full: bool,
-    /// The segments of the members to be dropped.
+    /// The lines of the members to be dropped, with those below them of the same bar as the last one, and their rows.
     pub passing: usize,
+    pub passing_rows: usize,
+}
+
+impl Plan {
+    /// Nothing shown yet.
+    pub fn none() -> Plan
+        ensures { result ≡ no_plan }
+    {
+        Plan {
+            rows: 0,
+            lines: 0,
+            last: None,
+            full: false,
+            passing: 0,
+            passing_rows: 0,
+        }
+    }
+
+    /// How many lines of a drawing of it below so many blank ones become kept ones.
+    pub fn kept_below(self, blanks: usize) -> usize
+        requires { blanks + self.passing ≤ 2 ^ 64 - 1 }
+        ensures { result ≡ kept_below self blanks }
+    {
+        if self.passing == 0 {
+            0
+        } else {
+            blanks + self.passing
+        }
+    }
 }
 
 /// A text and a frame, measured for a terminal's window.
@@ -59,7 +81,7 @@ pub struct Layout {
 }
 
 /// Measures what is to be written on a terminal, beside the lines that are remembered of it; the first `pass` members of the frame
-/// are to be dropped. Its counts and lines stand in spare room.
+/// are to be dropped. Its lines stand in spare room.
 pub fn plan_drawing<T: TermLike>(
     term: &T,
     shown: &Remembered,
@@ -102,32 +124,27 @@ fn plan_frame(
     ensures memory { result ≡ Err Refusal.Memory → 0 < length (all_lines (map bar_lines frame.now)) }
 {
     let mut laid = Layout {
-        plan: Plan {
-            segments: spare.take_counts(),
-            rows: 0,
-            lines: 0,
-            last: None,
-            full: false,
-            passing: 0,
-        },
+        plan: Plan::none(),
         lines: spare.take_lines(),
     };
     let mut left = pass;
     for member in frame {
         if let Err(e) = place_member(&mut laid, spare, beside, member, window) {
-            spare.store_counts(laid.plan.segments);
             spare.store_lines(laid.lines);
             return Err(e);
         }
         if left > 0 {
             left -= 1;
-            laid.plan.passing = laid.plan.segments.len();
+            laid.plan.passing = laid.plan.lines;
         }
     }
+    let passing = through_run(&laid.lines, laid.plan.passing);
+    laid.plan.passing_rows = height_of(&laid.lines[..passing]);
+    laid.plan.passing = passing;
     Ok(laid)
 }
 
-/// The lines of one member.
+/// Adds the lines of one member of the frame to its plan.
 fn place_member(
     laid: &mut Layout,
     spare: &mut Spare,
@@ -139,8 +156,8 @@ fn place_member(
     requires standing { AreLines window.columns beside.lines.now }
     ensures summed { IfOk result (λ _. IsSummed window.rows laid.new.plan) }
     ensures passing { laid.new.plan.passing ≡ laid.old.plan.passing }
-    ensures placed { (before : List BarRows) → IsLaidOut window.rows before laid.old.plan →
-        IsPlaced window.columns window.rows before (bar_lines member.now) laid.new.plan result }
+    ensures placed { (before : List BarRows) → IsLaidOut window.rows before laid.old.plan (line_counts laid.old.lines.items) →
+        IsPlaced window.columns window.rows before (bar_lines member.now) laid.new.plan (line_counts laid.new.lines.items) result }
     ensures ends { (before : List ℕ) → PlanEndsAt before laid.old.plan →
         IfOk result (λ _. PlanEndsAt (before ++ member_ends window.columns member.now) laid.new.plan) }
     ensures lines { (before : List (List ℕ)) → HasLines window.columns beside.entry.lines.now before laid.old.plan laid.old.lines.items →
@@ -154,7 +171,7 @@ fn place_member(
     Ok(())
 }
 
-/// One more line.
+/// Adds one more line to the plan, if its rows fit.
 fn place(
     laid: &mut Layout,
     spare: &mut Spare,
@@ -168,8 +185,8 @@ fn place(
     ensures summed { IfOk result (λ _. IsSummed window.rows laid.new.plan) }
     ensures passing { laid.new.plan.passing ≡ laid.old.plan.passing }
     ensures placed { (before : List BarRows) (s : BarRows) → s.bar ≡ bar → length s.rows ≡ line.entry.rows →
-        IsLaidOut window.rows before laid.old.plan →
-        IfOk result (λ _. IsLaidOut window.rows (before ++ s ∷ []) laid.new.plan) }
+        IsLaidOut window.rows before laid.old.plan (line_counts laid.old.lines.items) →
+        IfOk result (λ _. IsLaidOut window.rows (before ++ s ∷ []) laid.new.plan (line_counts laid.new.lines.items)) }
     ensures ends { (before : List ℕ) → PlanEndsAt before laid.old.plan →
         IfOk result (λ _. PlanEndsAt (before ++ line.entry.last ∷ []) laid.new.plan) }
     ensures lines { (on : List StandingLine) (before : List (List ℕ)) → IsLike on line.entry.text.now line.entry.like →
@@ -180,33 +197,37 @@ fn place(
         laid.plan.full = true;
         return Ok(());
     }
-    let stored = line.stored(spare)?;
+    let stored = line.stored(spare, bar)?;
     laid.lines.push(stored)?;
-    push_rows(&mut laid.plan.segments, bar, line.rows)?;
     laid.plan.rows += line.rows;
     laid.plan.lines += 1;
     laid.plan.last = Some(line.last);
     Ok(())
 }
 
-/// These rows onto the last segment, if it is of this bar, or as one more segment.
-pub fn push_rows(segments: &mut Vec<RowCount>, bar: u64, rows: usize) -> Result<(), Refusal>
-    requires { sum_by (λ s. s.rows) segments.old.items + rows ≤ 65535 }
-    ensures memory { IfErr result (λ e. e ≡ Refusal.Memory) }
-    ensures more { length segments.old.items ≤ length segments.new.items }
-    ensures rows { IfOk result (λ _. sum_by (λ s. s.rows) segments.new.items
-        ≡ sum_by (λ s. s.rows) segments.old.items + rows) }
-    ensures onto { (ss : List BarRows) (s : BarRows) → s.bar ≡ bar → length s.rows ≡ rows →
-        segments.old.items ≡ map row_count ss →
-        IfOk result (λ _. segments.new.items ≡ map row_count (onto_segments ss s)) }
+/// How many of these lines are of this bar, from the first one on.
+pub fn run_of(lines: &[StandingLine], bar: u64) -> usize
+    ensures run { result ≡ run_length bar (line_counts lines.now) }
+    ensures within { result ≤ length lines.now }
 {
-    let count = segments.len();
-    if count > 0 && segments[count - 1].bar == bar {
-        segments[count - 1].rows += rows;
-        return Ok(());
+    for at in 0..lines.len() {
+        if lines[at].bar != bar {
+            return at;
+        }
     }
-    segments.push(RowCount { bar, rows })?;
-    Ok(())
+    lines.len()
+}
+
+/// How many lines the first so many are, with those below them of the same bar as the last one.
+fn through_run(lines: &[StandingLine], count: usize) -> usize
+    requires { count ≤ length lines.now }
+    ensures run { result ≡ through count (line_counts lines.now) }
+    ensures within { result ≤ length lines.now }
+{
+    if count == 0 {
+        return 0;
+    }
+    count + run_of(&lines[count..], lines[count - 1].bar)
 }
 
 /// The rows of a line, and how many columns it takes of the last one.
@@ -217,7 +238,7 @@ pub fn metrics_of(line: &str, window: Window) -> Result<Metrics, Refusal>
     wrapped(line, window.columns)
 }
 
-/// The same of a text that is logged, if any is: without one 0 rows, and 0 columns.
+/// The rows of a logged text, and how many columns its last line takes of its last row; 0 of each without a text.
 fn metrics_above(text: Option<&str>, window: Window) -> Result<Metrics, Refusal>
     ensures measured { MeasuredText window.columns (text_above text.entry) result }
     ensures no_memory { result ≢ Err Refusal.Memory }
@@ -231,8 +252,7 @@ fn metrics_above(text: Option<&str>, window: Window) -> Result<Metrics, Refusal>
     }
 }
 
-/// The rows of the lines of a text that is logged, or 2^64 - 1 where there are more, and how many columns the last line takes
-/// of its last row.
+/// The rows of the lines of a logged text, or 2^64 - 1 if there are more, and how many columns the last line takes of its last row.
 fn metrics_of_text(text: &str, window: Window) -> Result<Metrics, Refusal>
     ensures measured { MeasuredText window.columns (logged_lines text.now) result }
     ensures no_memory { result ≢ Err Refusal.Memory }

@@ -25,7 +25,7 @@ pub fn are_even(lines: &[StandingLine], width: usize) -> bool
     true
 }
 
-/// The same of one line.
+/// Whether all rows of one line but the last are full, and it joins no line before it.
 fn is_even(line: &StandingLine, width: usize) -> bool
     ensures { IsTrue result → IsEven width line.now }
 {
@@ -56,7 +56,7 @@ fn joins(text: &str) -> bool
     false
 }
 
-/// The first character of a piece that is no colour sequence.
+/// The first character that a line shows of a piece, if this is no colour sequence.
 fn first_shown(piece: Piece<'_>) -> Option<char>
     ensures { MatchOption result (run_text (shown piece.entry) ≡ []) (λ c. (more : List ℕ) × (run_text (shown piece.entry) ≡ c ∷ more)) }
 {
@@ -66,15 +66,15 @@ fn first_shown(piece: Piece<'_>) -> Option<char>
     first_of(piece.text)
 }
 
-/// The first character of a text.
+/// The first character of a line's text.
 fn first_of(text: &str) -> Option<char>
     ensures { MatchOption result (chars text.now ≡ []) (λ c. (more : List ℕ) × (chars text.now ≡ c ∷ more)) }
 {
     text.chars().next()
 }
 
-/// Writes lines over so many rows, on the last of which the cursor rests, or from its own row on where there are none. It goes up
-/// to the first of them and to its front; no line end and no row is emptied.
+/// Writes lines over rows, on the last of which the cursor rests, or from its own row on if there are no rows. It goes up to the first of
+/// them and to its front; no line end and no row is emptied.
 pub fn write_over<T: TermLike>(
     term: &mut T,
     taken: usize,
@@ -89,7 +89,7 @@ pub fn write_over<T: TermLike>(
     term.flush()
 }
 
-/// Lines with the spaces that fill their last rows, one behind another.
+/// Writes lines over rows, one behind another, each with the spaces that fill its last row.
 fn put_run<T: TermLike>(term: &mut T, lines: &[StandingLine], width: usize) -> io::Result<()>
     ensures { Writes (run_bytes width (placed lines.now)) (T.view term.old) (T.view term.new) result }
 {
@@ -99,7 +99,7 @@ fn put_run<T: TermLike>(term: &mut T, lines: &[StandingLine], width: usize) -> i
     Ok(())
 }
 
-/// A line and the spaces that fill its last row.
+/// Writes one line over rows, and the spaces that fill its last one.
 fn put_filled<T: TermLike>(term: &mut T, line: &StandingLine, width: usize) -> io::Result<()>
     ensures { Writes (filled_bytes width (placed_of line.now)) (T.view term.old) (T.view term.new) result }
 {
@@ -107,7 +107,7 @@ fn put_filled<T: TermLike>(term: &mut T, line: &StandingLine, width: usize) -> i
     put_fill(term, width.saturating_sub(line.last))
 }
 
-/// So many spaces; an empty text where there are none.
+/// Writes the spaces that fill a line's last row; an empty text if there are none.
 fn put_fill<T: TermLike>(term: &mut T, count: usize) -> io::Result<()>
     ensures { Writes (replicate count 0x20) (T.view term.old) (T.view term.new) result }
 {

@@ -57,7 +57,7 @@ pub fn paint<T: TermLike>(term: &mut T, painting: &Painting<'_>) -> io::Result<(
     pen.paint(painting)
 }
 
-/// Writes lines below the row at whose end the cursor stands, each on a row of its own, and so many spaces behind them.
+/// Writes lines below the row at whose end the cursor stands, each on a row of its own, and `fill` spaces behind them.
 pub fn put_below<T: TermLike>(term: &mut T, lines: &[StandingLine], fill: usize) -> io::Result<()>
     ensures { Writes (lines_bytes true (texts lines.now) ++ replicate fill 0x20) (T.view term.old) (T.view term.new) result }
 {
@@ -65,7 +65,7 @@ pub fn put_below<T: TermLike>(term: &mut T, lines: &[StandingLine], fill: usize)
     pen.put_filled(lines, fill)
 }
 
-/// Takes back so many rows, of which the cursor's is the last; none is no call.
+/// Takes back rows, of which the cursor's is the last; none is no call.
 pub fn take_back_rows<T: TermLike>(term: &mut T, rows: usize) -> io::Result<()>
     ensures { Writes (back_bytes false rows) (T.view term.old) (T.view term.new) result }
 {
@@ -85,7 +85,7 @@ struct Pen<'t, T> {
 }
 
 impl<'t, T: TermLike> Pen<'t, T> {
-    /// Does all that a painting asks.
+    /// Does all that a painting says, from the rows taken back to the filled row.
     fn paint(&mut self, painting: &Painting<'_>) -> io::Result<()>
         requires place { self.old.at_end ≡ not painting.now.below }
         requires lines { painting.now.drawing.lines ≤ length (frame_lines painting.now.drawing.frame.now) }
@@ -175,7 +175,7 @@ impl<'t, T: TermLike> Pen<'t, T> {
         Ok(())
     }
 
-    /// Writes each of these lines on a row of its own, and so many spaces behind them.
+    /// Writes each of these lines on a row of its own, and `fill` spaces behind them.
     fn put_filled(&mut self, lines: &[StandingLine], fill: usize) -> io::Result<()>
         ensures same { self.new.term.ghost_name ≡ self.old.term.ghost_name }
         ensures writes { Writes (lines_bytes self.old.at_end (texts lines.now) ++ replicate fill 0x20) (T.view self.old.term.now) (T.view self.new.term.now) result }
@@ -194,7 +194,7 @@ impl<'t, T: TermLike> Pen<'t, T> {
         Ok(())
     }
 
-    /// Writes empty lines.
+    /// Writes the blank rows of a drawing, as empty lines.
     fn put_blanks(&mut self, count: usize) -> io::Result<()>
         ensures { Puts T.view (replicate count []) self.old self.new result }
     {
@@ -226,7 +226,7 @@ impl<'t, T: TermLike> Pen<'t, T> {
         self.put_frame(drawing.frame, drawing.lines)
     }
 
-    /// Goes below the lines, if asked.
+    /// Goes below the painted lines, if the painting says so.
     fn finish(&mut self, below: bool) -> io::Result<()>
         ensures { Pens T.view (if below && self.old.at_end then next_row else []) self.old.at_end self.old self.new result }
     {
@@ -234,7 +234,7 @@ impl<'t, T: TermLike> Pen<'t, T> {
         self.new_row(asked)
     }
 
-    /// Goes to the front of the next row, if asked.
+    /// Goes to the front of the next row, if the painting says so.
     fn new_row(&mut self, asked: bool) -> io::Result<()>
         ensures { Pens T.view (if asked then next_row else []) self.old.at_end self.old self.new result }
     {
@@ -258,7 +258,7 @@ fn reach<T: TermLike>(term: &mut T, fresh: Fresh) -> io::Result<()>
     go_up(term, fresh.down + fresh.rows)
 }
 
-/// Empties so many rows from the first to the last, which is the cursor's or the one above, and goes back to the first.
+/// Empties rows from the first to the last, which is the cursor's or the one above, and goes back to the first.
 fn write_empty_rows<T: TermLike>(term: &mut T, below: bool, rows: usize) -> io::Result<()>
     requires { 0 < rows }
     ensures { Writes (back_bytes below rows) (T.view term.old) (T.view term.new) result }
@@ -268,7 +268,7 @@ fn write_empty_rows<T: TermLike>(term: &mut T, below: bool, rows: usize) -> io::
     go_up(term, rows - 1)
 }
 
-/// How far the first of so many rows is above the cursor, which stands on the last of them or below it.
+/// How far the first of some rows is above the cursor, which stands on the last of them or below it.
 fn rows_to_first(below: bool, rows: usize) -> usize
     requires { 0 < rows }
     ensures { result ≡ (if below then rows else (rows - 1)) }
@@ -276,7 +276,7 @@ fn rows_to_first(below: bool, rows: usize) -> usize
     if below { rows } else { rows - 1 }
 }
 
-/// Goes up so many rows; none is no call.
+/// Goes up `rows` rows by a call of the terminal; none is no call.
 pub fn go_up<T: TermLike>(term: &mut T, rows: usize) -> io::Result<()>
     ensures { Writes (move_bytes UP rows) (T.view term.old) (T.view term.new) result }
 {
@@ -286,7 +286,7 @@ pub fn go_up<T: TermLike>(term: &mut T, rows: usize) -> io::Result<()>
     term.move_cursor_up(rows)
 }
 
-/// Goes down so many rows; none is no call.
+/// Goes down `rows` rows by a call of the terminal; none is no call.
 pub fn go_down<T: TermLike>(term: &mut T, rows: usize) -> io::Result<()>
     ensures { Writes (move_bytes DOWN rows) (T.view term.old) (T.view term.new) result }
 {
@@ -296,7 +296,7 @@ pub fn go_down<T: TermLike>(term: &mut T, rows: usize) -> io::Result<()>
     term.move_cursor_down(rows)
 }
 
-/// Empties the cursor's row and so many below it.
+/// Empties the cursor's row and `more` below it.
 pub fn empty_down<T: TermLike>(term: &mut T, more: usize) -> io::Result<()>
     ensures { Writes (clear_bytes ++ rows_down more) (T.view term.old) (T.view term.new) result }
 {
@@ -304,7 +304,7 @@ pub fn empty_down<T: TermLike>(term: &mut T, more: usize) -> io::Result<()>
     empty_below(term, more)
 }
 
-/// Empties so many rows below the cursor's, and stays on the last of them.
+/// Empties rows below the cursor's, and stays on the last of them.
 fn empty_below<T: TermLike>(term: &mut T, rows: usize) -> io::Result<()>
     ensures { Writes (rows_down rows) (T.view term.old) (T.view term.new) result }
 {
@@ -322,7 +322,7 @@ fn empty_next<T: TermLike>(term: &mut T) -> io::Result<()>
     term.clear_line()
 }
 
-/// Writes so many spaces, many at once.
+/// Writes `count` spaces, many by one call of the terminal.
 pub fn put_spaces<T: TermLike>(term: &mut T, count: usize) -> io::Result<()>
     ensures { Writes (replicate count 0x20) (T.view term.old) (T.view term.new) result }
 {
@@ -335,7 +335,7 @@ pub fn put_spaces<T: TermLike>(term: &mut T, count: usize) -> io::Result<()>
     Ok(())
 }
 
-/// So many spaces, of a run that takes no memory.
+/// A text of spaces, cut from a run that takes no memory.
 fn spaces(count: usize) -> &'static str
     requires { count ≤ 80 }
     ensures { result.now ≡ replicate count 0x20 }

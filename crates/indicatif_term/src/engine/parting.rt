@@ -9,8 +9,8 @@ ghost use Rattle.indicatif_term.specs.Inside.Rests.{ArePlain};
 use crate::engine::inks::inked_count;
 use indicatif_text::columns::width;
 
-/// What is written of a line whose text parts from the one that stands there at a byte: so many columns from one on, and whether the
-/// cursor is to wait behind the last of them. With it the line takes so many columns.
+/// What is written of a line whose text parts from the one that stands there at a byte: some columns from one on, and whether the cursor is
+/// to wait behind the last of them; and how many columns the line takes then.
 #[derive(Clone, Copy, Drop)]
 pub struct Part {
     pub from: usize,
@@ -29,7 +29,7 @@ pub enum Step {
 }
 
 impl Step {
-    /// A line that is written as a whole, if it doesn't stay.
+    /// The step of a line that stays, or else is written as a whole.
     pub fn of(stays: bool) -> Step
         ensures { result ≡ whole_or_left stays }
     {
@@ -130,7 +130,7 @@ fn is_full(waits: bool, gap: usize, width: usize) -> bool
     waits && gap == width
 }
 
-/// How many columns are looked at: as many as there are characters, or all that are left of the row.
+/// How many columns of the two lines are looked at: as many as there are characters, or all that are left of the row.
 fn columns_left(waits: bool, count: usize, room: usize) -> usize
     ensures { result ≡ (if waits then room else count) }
 {
@@ -178,7 +178,7 @@ fn split_both<'a>(old: &'a str, new: &'a str, from: usize) -> Option<Parts<'a>>
     })
 }
 
-/// What two texts begin with, which has so many characters, and none of an escape sequence.
+/// What two texts begin with, without a character of an escape sequence, and how many characters that has.
 #[derive(Clone, Copy)]
 pub struct PlainParts<'a> {
     pub parts: Parts<'a>,
@@ -211,7 +211,7 @@ fn escape_at(bytes: &[u8]) -> usize {
     at
 }
 
-/// Whether two texts are the same.
+/// Whether two texts are the same up to where they part.
 fn is_same_text(a: &str, b: &str) -> bool
     ensures { IsTrue result → a.now ≡ b.now }
 {
@@ -254,7 +254,7 @@ fn shared_bytes(a: &[u8], b: &[u8]) -> usize {
     at
 }
 
-/// The same, eight bytes at a time, of so many bytes.
+/// How many bytes two texts begin with alike, looked at eight at a time.
 fn shared_words(a: &[u8], b: &[u8], count: usize) -> usize
     requires own { count ≤ length a.now }
     requires other { count ≤ length b.now }
@@ -267,7 +267,7 @@ fn shared_words(a: &[u8], b: &[u8], count: usize) -> usize
     at
 }
 
-/// The eight bytes from a place on.
+/// The eight bytes of a text from a place on.
 fn word_at(bytes: &[u8], at: usize) -> u64
     requires { at + 8 ≤ length bytes.now }
 {

@@ -4,15 +4,15 @@ ghost use Rattle.std.specs.List.{list_all};
 ghost use Rattle.indicatif_text.specs.Columns.{columns_in};
 ghost use Rattle.indicatif_term.specs.Resizes.{has_place};
 ghost use Rattle.indicatif_term.specs.Standing.{texts, IsLine, AreLines};
-ghost use Rattle.indicatif_term.specs.Inside.Recutting.{is_space, without_spaces, fitting_count, new_pieces, cut_pieces, cut_line, cut_lines, shown_line, shown_lines, row_line, HasMore};
+ghost use Rattle.indicatif_term.specs.Inside.Recutting.{is_space, without_spaces, fitting_count, new_pieces, cut_pieces, cut_line, cut_lines, line_bars, cut_bars, Gains, shown_line, shown_lines, row_line, HasMore};
 
-use crate::engine::marked::{MarkedChar, marked_chars};
+use crate::engine::joined::{JoinedChar, joined_chars};
 use crate::engine::parting::Step;
 use crate::engine::remembered::{Remembered, StandingLine};
 use indicatif_text::columns::Refusal;
 use std::alloc::Global;
 
-/// From how many columns to how many a terminal goes.
+/// The width that a terminal leaves, and the one that it gets.
 #[derive(Clone, Copy, Drop)]
 pub struct Widths {
     pub from: usize,
@@ -27,7 +27,7 @@ pub struct CutLines {
 }
 
 impl CutLines {
-    /// No lines.
+    /// No cut lines yet.
     pub fn none(alloc: Global) -> CutLines
         ensures lines { result.lines.items ≡ [] }
         ensures heights { result.heights.items ≡ [] }
@@ -38,7 +38,7 @@ impl CutLines {
         }
     }
 
-    /// Cuts these lines too. Refused: `Memory`.
+    /// Cuts these remembered lines too. Refused: `Memory`.
     pub fn add_lines(
         &mut self,
         alloc: Global,
@@ -47,6 +47,7 @@ impl CutLines {
     ) -> Result<(), Refusal>
         requires standing { AreLines widths.from lines.now }
         ensures added { OnOk result (HasMore self.old self.new (cut_lines widths.from widths.to (texts lines.now))) }
+        ensures owned { OnOk result (line_bars self.new.lines.items ≡ line_bars self.old.lines.items ++ cut_bars widths.from widths.to lines.now) }
         ensures memory { IfErr result (λ e. e ≡ Refusal.Memory) }
     {
         for line in lines {
@@ -55,7 +56,7 @@ impl CutLines {
         Ok(())
     }
 
-    /// Cuts one more line. Refused: `Memory`.
+    /// Cuts one more remembered line. Refused: `Memory`.
     fn add_line(
         &mut self,
         alloc: Global,
@@ -64,26 +65,29 @@ impl CutLines {
     ) -> Result<(), Refusal>
         requires standing { IsLine widths.from line.now }
         ensures added { OnOk result (HasMore self.old self.new (cut_line widths.from widths.to (string_bytes line.now.text))) }
+        ensures owned { OnOk result (Gains line.now.bar self.old.lines.items self.new.lines.items) }
         ensures memory { IfErr result (λ e. e ≡ Refusal.Memory) }
     {
-        let glyphs = marked_chars(alloc, &line.text)?;
-        self.add_rows(alloc, &glyphs, widths)
+        let glyphs = joined_chars(alloc, &line.text)?;
+        self.add_rows(alloc, line.bar, &glyphs, widths)
     }
 
-    /// Cuts the rows of a line. Refused: `Memory`.
+    /// Cuts the rows of a remembered line. Refused: `Memory`.
     fn add_rows(
         &mut self,
         alloc: Global,
-        glyphs: &[MarkedChar],
+        bar: u64,
+        glyphs: &[JoinedChar],
         widths: Widths,
     ) -> Result<(), Refusal>
         requires placed { list_all (has_place widths.from) glyphs.now ≡ true }
         ensures added { OnOk result (HasMore self.old self.new (cut_pieces widths.from widths.to glyphs.now)) }
+        ensures owned { OnOk result (Gains bar self.old.lines.items self.new.lines.items) }
         ensures memory { IfErr result (λ e. e ≡ Refusal.Memory) }
     {
-        let mut at = self.add_first_row(alloc, glyphs, widths)?;
+        let mut at = self.add_first_row(alloc, bar, glyphs, widths)?;
         while at < glyphs.len() {
-            let next = self.add_first_row(alloc, &glyphs[at..], widths)?;
+            let next = self.add_first_row(alloc, bar, &glyphs[at..], widths)?;
             at += next;
         }
         Ok(())
@@ -93,17 +97,19 @@ impl CutLines {
     fn add_first_row(
         &mut self,
         alloc: Global,
-        glyphs: &[MarkedChar],
+        bar: u64,
+        glyphs: &[JoinedChar],
         widths: Widths,
     ) -> Result<usize, Refusal>
         ensures count { IfOk result (λ n. n ≡ fitting_count widths.from 0 glyphs.now) }
         ensures within { IfOk result (λ n. n ≤ length glyphs.now) }
         ensures added { IfOk result (λ n. HasMore self.old self.new (new_pieces widths.to (take n glyphs.now) ∷ [])) }
+        ensures owned { OnOk result (Gains bar self.old.lines.items self.new.lines.items) }
         ensures memory { IfErr result (λ e. e ≡ Refusal.Memory) }
     {
         let count = fitting_count(glyphs, widths.from);
         let before = self.lines.len();
-        cut_row(alloc, &mut self.lines, &glyphs[..count], widths.to)?;
+        cut_row(alloc, bar, &mut self.lines, &glyphs[..count], widths.to)?;
         self.heights.push(self.lines.len() - before)?;
         Ok(count)
     }
@@ -112,7 +118,7 @@ impl CutLines {
 impl Remembered {
     ghost use Rattle.indicatif_term.specs.Inside.Recutting.{IsShownCut};
 
-    /// Its lines, each row of theirs cut anew; none where those of that width aren't remembered. Refused: `Memory`.
+    /// The remembered lines, each of their rows cut anew; none if those of that width aren't remembered. Refused: `Memory`.
     pub fn cut(&self, alloc: Global, widths: Widths) -> Result<CutLines, Refusal>
         ensures cut { IfOk result (λ c. IsShownCut widths.from widths.to self.now c) }
         ensures memory { IfErr result (λ e. e ≡ Refusal.Memory) }
@@ -126,47 +132,57 @@ impl Remembered {
     }
 }
 
-/// The lines of one row that a row becomes. Refused: `Memory`.
+/// The lines of one row that a row becomes when it is cut. Refused: `Memory`.
 fn cut_row(
     alloc: Global,
+    bar: u64,
     lines: &mut Vec<StandingLine>,
-    row: &[MarkedChar],
+    row: &[JoinedChar],
     width: usize,
 ) -> Result<(), Refusal>
     ensures cut { OnOk result (shown_lines lines.new.items ≡ shown_lines lines.old.items ++ map row_line (new_pieces width row.now)) }
+    ensures owned { OnOk result (Gains bar lines.old.items lines.new.items) }
     ensures memory { IfErr result (λ e. e ≡ Refusal.Memory) }
 {
     let used = &row[..used_count(row)];
-    let mut at = push_piece(alloc, lines, used, width)?;
+    let mut at = push_piece(alloc, bar, lines, used, width)?;
     while at < used.len() {
-        let next = push_piece(alloc, lines, &used[at..], width)?;
+        let next = push_piece(alloc, bar, lines, &used[at..], width)?;
         at += next;
     }
     Ok(())
 }
 
-/// One more line, of as many glyphs from the front as go into a row; and how many they are. Refused: `Memory`.
+/// Adds one more line, of as many glyphs from the front as go into a row; and says how many they are. Refused: `Memory`.
 fn push_piece(
     alloc: Global,
+    bar: u64,
     lines: &mut Vec<StandingLine>,
-    glyphs: &[MarkedChar],
+    glyphs: &[JoinedChar],
     width: usize,
 ) -> Result<usize, Refusal>
     ensures count { IfOk result (λ n. n ≡ fitting_count width 0 glyphs.now) }
     ensures within { IfOk result (λ n. n ≤ length glyphs.now) }
     ensures pushed { IfOk result (λ n. shown_lines lines.new.items ≡ shown_lines lines.old.items ++ row_line (filter (has_place width) (take n glyphs.now)) ∷ []) }
+    ensures owned { OnOk result (Gains bar lines.old.items lines.new.items) }
     ensures memory { IfErr result (λ e. e ≡ Refusal.Memory) }
 {
     let count = fitting_count(glyphs, width);
-    let line = line_of(alloc, &glyphs[..count], width)?;
+    let line = line_of(alloc, bar, &glyphs[..count], width)?;
     lines.push(line)?;
     Ok(count)
 }
 
 /// The line of one row that has those of the glyphs for which a row has place. Refused: `Memory`.
-fn line_of(alloc: Global, glyphs: &[MarkedChar], width: usize) -> Result<StandingLine, Refusal>
+fn line_of(
+    alloc: Global,
+    bar: u64,
+    glyphs: &[JoinedChar],
+    width: usize,
+) -> Result<StandingLine, Refusal>
     requires fits { columns_in (filter (has_place width) glyphs.now) ≤ width }
     ensures line { IfOk result (λ l. shown_line l ≡ row_line (filter (has_place width) glyphs.now)) }
+    ensures bar { IfOk result (λ l. l.bar ≡ bar) }
     ensures memory { IfErr result (λ e. e ≡ Refusal.Memory) }
 {
     let mut text = String::new(alloc);
@@ -178,6 +194,7 @@ fn line_of(alloc: Global, glyphs: &[MarkedChar], width: usize) -> Result<Standin
         }
     }
     Ok(StandingLine {
+        bar,
         text,
         before: String::new(alloc),
         rows: 1,
@@ -190,7 +207,7 @@ fn line_of(alloc: Global, glyphs: &[MarkedChar], width: usize) -> Result<Standin
 }
 
 /// How many glyphs from the front go into a row; those that no row has place for go along.
-fn fitting_count(glyphs: &[MarkedChar], width: usize) -> usize
+fn fitting_count(glyphs: &[JoinedChar], width: usize) -> usize
     ensures count { result ≡ fitting_count width 0 glyphs.now }
     ensures within { result ≤ length glyphs.now }
 {
@@ -209,7 +226,7 @@ fn fitting_count(glyphs: &[MarkedChar], width: usize) -> usize
 }
 
 /// How many glyphs there are up to the last one that is no space.
-fn used_count(row: &[MarkedChar]) -> usize
+fn used_count(row: &[JoinedChar]) -> usize
     ensures within { result ≤ length row.now }
     ensures used { take result row.now ≡ without_spaces row.now }
 {

@@ -1,8 +1,7 @@
 //! The lines that an engine remembers, so that it writes only those that change.
-ghost use Rattle.std.specs.Prelude.{◌≡◌, ◌<◌, ◌≤◌, ◌==◌, ◌++◌, [], ℕ, List, take, drop, length, if◌then◌else◌, IfOk, IfErr};
+ghost use Rattle.std.specs.Prelude.{◌≡◌, ◌+◌, ◌-◌, ◌<◌, ◌≤◌, ◌==◌, ◌++◌, [], ℕ, List, take, drop, length, if◌then◌else◌, IfOk, IfErr};
 ghost use Rattle.indicatif_term.specs.Standing.{AreLines};
 
-use crate::engine::beside::height_of;
 use crate::engine::parting::Step;
 use crate::engine::renewed::{NewLine, put_new};
 use crate::engine::spare::Spare;
@@ -13,6 +12,8 @@ use std::marker::Model;
 /// A line that stands on a terminal.
 #[derive(Drop)]
 pub struct StandingLine {
+    /// The number of its bar; 0 where the line is a blank one.
+    pub bar: u64,
     pub text: String,
     /// What stood in its place before the drawing that it is of, where a part of it was written.
     pub before: String,
@@ -37,6 +38,14 @@ pub struct Span {
     pub ghost some: { from ≤ to },
 }
 
+/// The lines of a drawing, and how many of them, from the front, become kept ones.
+#[derive(Drop)]
+pub struct NextLines {
+    pub lines: Vec<StandingLine>,
+    pub kept: usize,
+    pub ghost within: { kept ≤ length lines.items },
+}
+
 /// Lines that stand on a terminal one below another. Contracts see nothing of their room.
 #[derive(Drop)]
 pub struct StandingLines {
@@ -54,28 +63,30 @@ impl Model for StandingLines {
 
 impl StandingLines {
     ghost use Rattle.indicatif_term.specs.Standing.{texts};
+    ghost use Rattle.indicatif_term.specs.Counts.{line_counts};
     ghost use Rattle.indicatif_term.specs.Inside.Renewed.{AreFitting, AreInPlace, AreOver, renewed};
 
-    /// These.
+    /// These lines, as they stand on a terminal.
     pub fn of(lines: Vec<StandingLine>) -> StandingLines
         ensures { result ≡ lines.items }
     {
         StandingLines { lines }
     }
 
-    /// All of them.
+    /// All lines that stand.
     pub fn as_slice(&self) -> &[StandingLine]
         ensures { result.now ≡ self.now }
     {
         &self.lines
     }
 
-    /// Puts new lines in the place of some of those behind the first ones, the room of which becomes spare; the others stay.
+    /// Puts new lines in the place of some that stand behind the first ones, whose room becomes spare; the others stay.
     pub fn put_new(&mut self, first: usize, spare: &mut Spare, changed: Vec<NewLine>)
         requires first { first ≤ length self.old }
         requires within { (w : ℕ) × AreFitting w (drop first self.old) (length (drop first self.old)) changed.items }
         ensures above { take first self.new ≡ take first self.old }
         ensures count { length self.new ≡ length self.old }
+        ensures counts { line_counts (drop first self.new) ≡ line_counts (drop first self.old) }
         ensures texts { texts (drop first self.new) ≡ renewed (texts (drop first self.old)) changed.items }
         ensures in_place { (w : ℕ) → AreLines w (drop first self.old) → AreFitting w (drop first self.old) (length (drop first self.old)) changed.items →
             AreInPlace w (drop first self.old) (drop first self.new) }
@@ -85,7 +96,7 @@ impl StandingLines {
         put_new(&mut self.lines[first..], spare, changed);
     }
 
-    /// Puts these below some of the lines; all others become spare. Refused: `Memory`, where there is a line among these. All is
+    /// Puts these lines below some that stay; all others become spare. Refused: `Memory`, where there is a line among these. All is
     /// unchanged then.
     pub fn put_below(
         &mut self,
@@ -114,7 +125,7 @@ impl StandingLines {
 /// are remembered, and those of the live ones.
 #[derive(Drop)]
 pub struct Remembered {
-    /// The terminal's columns, or 0 where nothing is remembered.
+    /// The columns of the terminal on which they stand as they are measured, or 0 where none is known.
     pub width: usize,
     pub lines: StandingLines,
     /// How many of the lines, from the front, stand in kept rows.
@@ -124,14 +135,14 @@ pub struct Remembered {
 }
 
 impl Remembered {
-    ghost use Rattle.indicatif_term.specs.Lists.{Lists, kept_of, live_height};
+    ghost use Rattle.indicatif_term.specs.Lists.{Lists};
     ghost use Rattle.indicatif_term.specs.Remembered.{AreRemembered, live_lines};
-    ghost use Rattle.indicatif_term.specs.Inside.Remembering.{StandAbove, IsMarked};
+    ghost use Rattle.indicatif_term.specs.Inside.Remembering.{StandAbove, IsNext, IsNothing};
     ghost use Rattle.indicatif_term.specs.Inside.Renewed.{AreFitting, AreOver, Renews};
 
-    /// Nothing remembered.
+    /// No line is remembered.
     pub fn nothing(alloc: Global) -> Remembered
-        ensures { result.width ≡ 0 }
+        ensures { IsNothing result }
     {
         Remembered {
             width: 0,
@@ -140,47 +151,35 @@ impl Remembered {
         }
     }
 
-    /// Lines of a terminal of so many columns, of which the last ones take so many live rows; nothing is remembered where none do.
-    pub fn of(width: usize, lines: StandingLines, live: usize) -> Remembered
-        requires right { 0 < width → AreLines width lines }
-        requires small { live ≤ 65535 }
-        ensures lines { result.lines ≡ lines }
-        ensures marked { 0 < result.width → IsMarked width live result }
+    /// Lines of a terminal of so many columns, of which the last so many are live.
+    pub fn of(width: usize, lines: Vec<StandingLine>, live: usize) -> Remembered
+        requires right { 0 < width → AreLines width lines.items }
+        ensures lines { result.lines ≡ lines.items }
+        ensures width { result.width ≡ width }
+        ensures live { result.kept ≡ length lines.items - live }
     {
-        let mut shown = Remembered {
+        let kept = lines.len().saturating_sub(live);
+        Remembered {
             width,
-            lines,
-            kept: 0,
-        };
-        shown.mark(live);
-        shown
-    }
-
-    /// Marks its last lines as those of so many live rows; nothing is remembered where none take so many.
-    pub fn mark(&mut self, live: usize)
-        requires small { live ≤ 65535 }
-        ensures lines { self.new.lines ≡ self.old.lines }
-        ensures marked { 0 < self.new.width → IsMarked self.old.width live self.new }
-    {
-        self.kept = first_of_last(self.lines.as_slice(), live);
-        let known = height_of(self.live());
-        self.width = width_where(known == live, self.width);
-    }
-
-    /// Where a bar's rows were kept, so that so many rows are live, on a terminal of so many columns: they stand where they stood.
-    pub fn keep(&mut self, width: usize, live: usize)
-        requires small { live ≤ 65535 }
-        ensures { (bar : ℕ) (l : Lists) → live ≡ live_height (kept_of width bar l).live → AreRemembered self.old l →
-            AreRemembered self.new (kept_of width bar l) }
-    {
-        if self.width != width {
-            self.width = 0;
-            return;
+            lines: StandingLines::of(lines),
+            kept,
         }
-        self.mark(live);
     }
 
-    /// The lines behind the first so many.
+    /// Where the first so many live lines were kept, on a terminal of so many columns: all stand where they stood, but blank rows may
+    /// have other columns than then.
+    pub fn keep(&mut self, width: usize, count: usize)
+        requires within { count ≤ length (live_lines self.old) }
+        ensures lines { self.new.lines ≡ self.old.lines }
+        ensures kept { self.new.kept ≡ self.old.kept + count }
+        ensures width { self.new.width ≡ (if self.old.width == width then width else 0) }
+    {
+        let left = self.live().len() - count;
+        self.kept = self.lines.as_slice().len() - left;
+        self.width = width_where(self.width == width, width);
+    }
+
+    /// The remembered lines behind the first `count`.
     pub fn behind(&self, count: usize) -> &[StandingLine]
         requires { count ≤ length self.now.lines }
         ensures { result.now ≡ drop count self.now.lines }
@@ -188,14 +187,22 @@ impl Remembered {
         &self.lines.as_slice()[count..]
     }
 
-    /// The lines of the live rows.
+    /// The remembered lines of the live rows.
     pub fn live(&self) -> &[StandingLine]
         ensures { result.now ≡ live_lines self.now }
     {
         self.behind(self.kept)
     }
 
-    /// The lines of the live rows, if they are those of a terminal of so many columns.
+    /// The lines of the live rows behind so many blank ones.
+    pub fn own(&self, blanks: usize) -> &[StandingLine]
+        requires { blanks ≤ length (live_lines self.now) }
+        ensures { result.now ≡ drop blanks (live_lines self.now) }
+    {
+        &self.live()[blanks..]
+    }
+
+    /// The remembered lines of the live rows, if they are those of a terminal of `width` columns.
     pub fn on(&self, width: usize) -> &[StandingLine]
         ensures lines { result.now ≡ (if self.now.width == width then live_lines self.now else []) }
         ensures right { 0 < width → AreLines width result.now }
@@ -207,7 +214,7 @@ impl Remembered {
         }
     }
 
-    /// The lines that stand in the last so many kept rows of a terminal of so many columns.
+    /// The remembered lines in the last `rows` kept rows of a terminal of `width` columns.
     pub fn above(&self, width: usize, rows: usize) -> Span
         ensures within { result.to ≤ length self.now.lines }
         ensures right { 0 < width → AreLines width (drop result.from (take result.to self.now.lines)) }
@@ -224,7 +231,7 @@ impl Remembered {
         }
     }
 
-    /// Puts new lines in the place of live ones, the room of which becomes spare; the others stay.
+    /// Puts new lines in the place of remembered live ones, whose room becomes spare; the others stay.
     pub fn put_new(&mut self, spare: &mut Spare, changed: Vec<NewLine>)
         requires known { 0 < self.old.width }
         requires fit { AreFitting self.old.width (live_lines self.old) (length (live_lines self.old)) changed.items }
@@ -234,36 +241,37 @@ impl Remembered {
         self.lines.put_new(self.kept, spare, changed);
     }
 
-    /// Puts these below some of its lines, on a terminal of so many columns; all others become spare. Refused: `Memory`, where there
-    /// is a line among these. All is unchanged then.
+    /// Puts these lines below some remembered ones that stay, on a terminal of `width` columns; all others become spare. Refused: `Memory`,
+    /// where there is a line among these. All is unchanged then.
     pub fn put_below(
         &mut self,
         spare: &mut Spare,
         stays: Span,
-        lines: Vec<StandingLine>,
+        next: NextLines,
         width: usize,
     ) -> Result<(), Refusal>
         requires within { stays.to ≤ length self.old.lines }
-        requires right { 0 < width → AreLines width (drop stays.from (take stays.to self.old.lines) ++ lines.items) }
-        ensures refused { IfErr result (λ e. (e ≡ Refusal.Memory) × (0 < length lines.items) × (self.new ≡ self.old)) }
-        ensures lines { IfOk result (λ _. self.new.lines ≡ drop stays.from (take stays.to self.old.lines) ++ lines.items) }
-        ensures width { IfOk result (λ _. self.new.width ≡ width) }
+        requires right { 0 < width → AreLines width (drop stays.from (take stays.to self.old.lines) ++ next.lines.items) }
+        ensures refused { IfErr result (λ e. (e ≡ Refusal.Memory) × (0 < length next.lines.items) × (self.new ≡ self.old)) }
+        ensures next { IfOk result (λ _. IsNext width next.kept (drop stays.from (take stays.to self.old.lines)) next.lines.items self.new) }
     {
+        let NextLines { lines, kept } = next;
+        let left = lines.len() - kept;
         self.lines.put_below(spare, stays, lines)?;
         self.width = width;
-        self.kept = 0;
+        self.kept = self.lines.as_slice().len() - left;
         Ok(())
     }
 }
 
-/// A width where something is known, else 0.
+/// The width for which lines are remembered, or 0 if none are.
 fn width_where(known: bool, width: usize) -> usize
     ensures { result ≡ (if known then width else 0) }
 {
     if known { width } else { 0 }
 }
 
-/// The index of the first of the last lines that take at least so many rows together, or 0.
+/// The index of the first of the last remembered lines that take at least `rows` rows together, or 0.
 fn first_of_last(lines: &[StandingLine], rows: usize) -> usize
     ensures { result ≤ length lines.now }
 {

@@ -1,17 +1,18 @@
 //! Frames whose lines stand in as many rows as those of the last drawing, so that a draw writes the lines that changed, and keeps
 //! all counts.
-ghost use Rattle.std.specs.Prelude.{◌≡◌, ◌<◌, true, ◌++◌, ◌∷◌, [], ℕ, List, get_or, IsTrue, IsFalse, IfSome, chars, map, length, string_bytes};
+ghost use Rattle.std.specs.Prelude.{◌≡◌, ◌<◌, true, ◌++◌, ◌∷◌, [], ℕ, List, get_or, IsTrue, IsFalse, IfSome, chars, map, length, take, string_bytes};
 ghost use Rattle.indicatif_text.specs.Columns.{has_wide, rows_of};
 ghost use Rattle.indicatif_term.specs.Lists.{BarRows, lines_of};
 ghost use Rattle.indicatif_term.specs.Frames.{bar_lines, line_text, all_lines, some_wide};
 ghost use Rattle.indicatif_term.specs.Standing.{texts, IsLine, AreLines};
 ghost use Rattle.indicatif_term.specs.Remembered.{live_lines};
+ghost use Rattle.indicatif_term.specs.Counts.{line_counts};
 ghost use Rattle.indicatif_term.specs.Inside.Plans.{IsSummed, IsLaidOut, frame_lines};
 ghost use Rattle.indicatif_term.specs.Inside.Renewed.{IsNew, ComesIn, FitsIn, AreFitting, AreInPlace, AreOver, AreCompared, IsSettled, IsRenewed, renewed};
 
 use crate::engine::comparing::{Turn, compare};
 use crate::engine::counts::Counts;
-use crate::engine::layout::{Plan, RowCount, push_rows};
+use crate::engine::layout::Plan;
 use crate::engine::lines::Segment;
 use crate::engine::parting::Step;
 use crate::engine::remembered::{Remembered, StandingLine};
@@ -38,7 +39,7 @@ pub struct Last<'a> {
 }
 
 impl<'a> Last<'a> {
-    /// These.
+    /// What an engine remembers of its last drawing, from its lines and its counts.
     pub fn of(shown: &'a Remembered, counts: &'a Counts, may_stay: bool) -> Last<'a>
         ensures shown { result.shown.now ≡ shown.now }
         ensures counts { result.counts.now ≡ counts.now }
@@ -82,7 +83,7 @@ fn is_settled(last: Last<'_>, window: Window) -> bool
     if last.shown.width != window.columns || window.columns > 65535 {
         return false;
     }
-    if counts.below || counts.live == 0 || counts.blanks > 0 || counts.passed > 0 {
+    if counts.below || counts.live == 0 || counts.blanks > 0 {
         return false;
     }
     if counts.under && counts.reached >= window.rows {
@@ -91,7 +92,7 @@ fn is_settled(last: Last<'_>, window: Window) -> bool
     counts.kept == 0 || counts.reached <= window.rows
 }
 
-/// The same, of a terminal of this size on which the last drawing may stay.
+/// The new lines of a frame, on a terminal of this size on which the last drawing may stay.
 fn compare_on(
     spare: &mut Spare,
     last: Last<'_>,
@@ -102,19 +103,11 @@ fn compare_on(
     ensures { IfSome result (λ new. IsRenewed window.columns window.rows frame.now last.entry.counts.now last.entry.shown.now new.items) }
 {
     let mut made = Compared {
-        plan: Plan {
-            segments: spare.take_counts(),
-            rows: 0,
-            lines: 0,
-            last: None,
-            full: false,
-            passing: 0,
-        },
+        plan: Plan::none(),
         changed: spare.take_new(),
     };
     let same = is_same_frame(&mut made, spare, last, frame, window);
-    let Compared { plan, changed } = made;
-    spare.store_counts(plan.segments);
+    let Compared { plan: _, changed } = made;
     if same {
         return Some(changed);
     }
@@ -139,15 +132,12 @@ fn is_same_frame(
 ) -> bool
     requires settled { IsSettled window.columns window.rows last.counts.now last.shown.now }
     requires summed { IsSummed window.rows made.old.plan }
-    requires laid { IsLaidOut window.rows [] made.old.plan }
+    requires laid { IsLaidOut window.rows [] made.old.plan (take made.old.plan.lines (line_counts (live_lines last.shown.now))) }
     requires compared { AreCompared window.columns (live_lines last.shown.now) made.old.changed.items [] made.old.plan }
     ensures { IsTrue result → IsRenewed window.columns window.rows frame.now last.entry.counts.now last.entry.shown.now made.new.changed.items }
 {
     let standing = last.shown.live();
-    if !compare_frame(made, spare, standing, frame, window) || made.plan.lines != standing.len() {
-        return false;
-    }
-    are_same_counts(&made.plan.segments, &last.counts.segments)
+    compare_frame(made, spare, standing, frame, window) && made.plan.lines == standing.len()
 }
 
 /// Compares the lines of a frame with those that stand, as far as they have as many rows.
@@ -160,10 +150,11 @@ fn compare_frame(
 ) -> bool
     requires standing { AreLines window.columns standing.now }
     requires summed { IsSummed window.rows made.old.plan }
-    requires laid { IsLaidOut window.rows [] made.old.plan }
+    requires laid { IsLaidOut window.rows [] made.old.plan (take made.old.plan.lines (line_counts standing.now)) }
     requires compared { AreCompared window.columns standing.now made.old.changed.items [] made.old.plan }
     ensures narrow { IsTrue result → IsFalse (some_wide window.columns (all_lines (map bar_lines frame.now))) }
-    ensures laid { IsTrue result → IsLaidOut window.rows (lines_of window.columns (map bar_lines frame.now)) made.new.plan }
+    ensures laid { IsTrue result → IsLaidOut window.rows (lines_of window.columns (map bar_lines frame.now)) made.new.plan
+        (take made.new.plan.lines (line_counts standing.now)) }
     ensures compared { IsTrue result → AreCompared window.columns standing.now made.new.changed.items (frame_lines frame.now) made.new.plan }
 {
     for member in frame {
@@ -174,7 +165,7 @@ fn compare_frame(
     true
 }
 
-/// The same of one member.
+/// Compares the lines of one member of the frame with those that stand.
 fn compare_member(
     made: &mut Compared,
     spare: &mut Spare,
@@ -186,8 +177,9 @@ fn compare_member(
     requires summed { IsSummed window.rows made.old.plan }
     ensures summed { IsTrue result → IsSummed window.rows made.new.plan }
     ensures narrow { IsTrue result → IsFalse (some_wide window.columns (bar_lines member.now).lines) }
-    ensures laid { IsTrue result → (before : List BarRows) → IsLaidOut window.rows before made.old.plan →
-        IsLaidOut window.rows (before ++ lines_of window.columns (bar_lines member.now ∷ [])) made.new.plan }
+    ensures laid { IsTrue result → (before : List BarRows) →
+        IsLaidOut window.rows before made.old.plan (take made.old.plan.lines (line_counts standing.now)) →
+        IsLaidOut window.rows (before ++ lines_of window.columns (bar_lines member.now ∷ [])) made.new.plan (take made.new.plan.lines (line_counts standing.now)) }
     ensures compared { IsTrue result → (before : List (List ℕ)) → AreCompared window.columns standing.now made.old.changed.items before made.old.plan →
         AreCompared window.columns standing.now made.new.changed.items (before ++ map line_text member.now.lines.items) made.new.plan }
 {
@@ -210,7 +202,7 @@ struct OwnLine<'a> {
     text: &'a str,
 }
 
-/// The same of a bar's line, which is beside the first that stands and wasn't compared yet.
+/// Compares one line of a bar with the first that stands and wasn't compared yet.
 fn compare_line(
     made: &mut Compared,
     spare: &mut Spare,
@@ -222,8 +214,10 @@ fn compare_line(
     requires summed { IsSummed window.rows made.old.plan }
     ensures summed { IsTrue result → IsSummed window.rows made.new.plan }
     ensures narrow { IsTrue result → IsFalse (has_wide window.columns (chars own.entry.text.now)) }
-    ensures laid { IsTrue result → (before : List BarRows) → IsLaidOut window.rows before made.old.plan →
-        IsLaidOut window.rows (before ++ record { bar = own.entry.bar; rows = rows_of window.columns (chars own.entry.text.now) } ∷ []) made.new.plan }
+    ensures laid { IsTrue result → (before : List BarRows) →
+        IsLaidOut window.rows before made.old.plan (take made.old.plan.lines (line_counts standing.now)) →
+        IsLaidOut window.rows (before ++ record { bar = own.entry.bar; rows = rows_of window.columns (chars own.entry.text.now) } ∷ []) made.new.plan
+        (take made.new.plan.lines (line_counts standing.now)) }
     ensures compared { IsTrue result → (before : List (List ℕ)) → AreCompared window.columns standing.now made.old.changed.items before made.old.plan →
         AreCompared window.columns standing.now made.new.changed.items (before ++ own.entry.text.now ∷ []) made.new.plan }
 {
@@ -232,7 +226,7 @@ fn compare_line(
         return false;
     }
     let line = &standing[at];
-    if window.rows - made.plan.rows < line.rows {
+    if line.bar != own.bar || window.rows - made.plan.rows < line.rows {
         return false;
     }
     let rows = line.rows;
@@ -244,14 +238,9 @@ fn compare_line(
     if !comes_in(&mut made.changed, spare, place, own.text, window) {
         return false;
     }
-    match push_rows(&mut made.plan.segments, own.bar, rows) {
-        Ok(()) => {
-            made.plan.rows += rows;
-            made.plan.lines += 1;
-            true
-        }
-        Err(_) => false,
-    }
+    made.plan.rows += rows;
+    made.plan.lines += 1;
+    true
 }
 
 /// A line that stands, its index, and whether it is the last one.
@@ -306,25 +295,11 @@ fn push_new(
     changed.push(line).is_ok()
 }
 
-/// Whether counts are the same.
-fn are_same_counts(a: &[RowCount], b: &[RowCount]) -> bool
-    ensures { IsTrue result → a.now ≡ b.now }
-{
-    if a.len() != b.len() {
-        return false;
-    }
-    for at in 0..a.len() {
-        if a[at].bar != b[at].bar || a[at].rows != b[at].rows {
-            return false;
-        }
-    }
-    true
-}
-
 /// Puts new lines in the place of those that stand, the room of which becomes spare; the others stay.
 pub fn put_new(lines: &mut [StandingLine], spare: &mut Spare, changed: Vec<NewLine>)
     requires within { (w : ℕ) × AreFitting w lines.old (length lines.old) changed.items }
     ensures texts { texts lines.new ≡ renewed (texts lines.old) changed.items }
+    ensures counts { line_counts lines.new ≡ line_counts lines.old }
     ensures in_place { (w : ℕ) → AreLines w lines.old → AreFitting w lines.old (length lines.old) changed.items →
         AreInPlace w lines.old lines.new }
     ensures over { (w : ℕ) → AreFitting w lines.old (length lines.old) changed.items → AreOver w lines.old lines.new }
@@ -337,9 +312,10 @@ pub fn put_new(lines: &mut [StandingLine], spare: &mut Spare, changed: Vec<NewLi
     spare.store_new(changed);
 }
 
-/// All lines stay.
+/// Marks all lines that stand as lines that stay.
 fn leave_all(lines: &mut [StandingLine])
     ensures texts { texts lines.new ≡ texts lines.old }
+    ensures counts { line_counts lines.new ≡ line_counts lines.old }
     ensures in_place { (w : ℕ) → AreLines w lines.old → AreInPlace w lines.old lines.new }
     ensures over { (w : ℕ) → AreOver w lines.old lines.new }
 {
@@ -348,10 +324,11 @@ fn leave_all(lines: &mut [StandingLine])
     }
 }
 
-/// Puts a new line in its place.
+/// Puts a new line in the place of the one that stands.
 fn put_line(lines: &mut [StandingLine], spare: &mut Spare, line: NewLine)
     requires within { line.at < length lines.old }
     ensures texts { texts lines.new ≡ renewed (texts lines.old) (line ∷ []) }
+    ensures counts { line_counts lines.new ≡ line_counts lines.old }
     ensures in_place { (w : ℕ) (on : List StandingLine) → AreInPlace w on lines.old → FitsIn w on (length on) line → AreInPlace w on lines.new }
     ensures over { (w : ℕ) (on : List StandingLine) → AreOver w on lines.old → FitsIn w on (length on) line →
         get_or (texts lines.old) line.at [] ≡ get_or (texts on) line.at [] → AreOver w on lines.new }

@@ -6,7 +6,7 @@ ghost use Rattle.indicatif_term.specs.Inside.Inks.{NONE, colours_of, in_ink, is_
 ghost use Rattle.indicatif_term.specs.Inside.Edits.{row_bytes, plan, reset_bytes, ink_bytes};
 ghost use Rattle.indicatif_term.specs.Inside.Rests.{HasRoom, ArePlain, ink_of, cells, left_bytes};
 
-use crate::engine::inks::{Colours, RESET, Reading, are_same, first_cell};
+use crate::engine::inks::{Colours, InkedText, RESET, are_same, first_cell};
 use crate::engine::parting::{PlainParts, plain_split};
 use crate::target::term_like::TermLike;
 use std::io;
@@ -15,14 +15,14 @@ use std::io;
 /// behind, and which colour sequences are open.
 #[derive(Clone, Copy)]
 pub struct Rest<'a> {
-    pub old: Reading<'a>,
-    pub new: Reading<'a>,
+    pub old: InkedText<'a>,
+    pub new: InkedText<'a>,
     pub left: usize,
     pub gap: usize,
     pub ink: Colours<'a>,
 }
 
-/// Over one column: what stays, or its character in its colours; and then over those that stay.
+/// Goes over one column of the row, which stays or gets its character in its colours, and then over those that stay.
 pub fn write_next<'a, T: TermLike>(term: &mut T, rest: Rest<'a>, ends: bool) -> io::Result<Rest<'a>>
     requires some { 0 < rest.left }
     requires room { HasRoom rest }
@@ -65,7 +65,7 @@ fn stays(stands: char, c: char, next: Rest<'_>, ends: bool) -> bool
     !(ends && next.left == 0)
 }
 
-/// From the colour sequences that are open to others.
+/// Writes what changes the colours that are open to others.
 fn recolour<T: TermLike>(term: &mut T, ink: Colours<'_>, to: Colours<'_>) -> io::Result<()>
     ensures { Writes (ink_bytes (ink_of ink.entry) (ink_of to.entry)) (T.view term.old) (T.view term.new) result }
 {
@@ -77,7 +77,7 @@ fn recolour<T: TermLike>(term: &mut T, ink: Colours<'_>, to: Colours<'_>) -> io:
     put(term, to.group)
 }
 
-/// Colour sequences; none is no call.
+/// Writes colour sequences within the row; none is no call.
 fn put<T: TermLike>(term: &mut T, sequences: &str) -> io::Result<()>
     ensures { Writes sequences.now (T.view term.old) (T.view term.new) result }
 {
@@ -87,7 +87,7 @@ fn put<T: TermLike>(term: &mut T, sequences: &str) -> io::Result<()>
     term.write_str(sequences)
 }
 
-/// Closes all colours, if any are open.
+/// Closes all colours that an edit of the row left open, if any are.
 pub fn close<T: TermLike>(term: &mut T, ink: Colours<'_>) -> io::Result<()>
     ensures { Writes (reset_bytes (colours_of (ink_of ink.entry))) (T.view term.old) (T.view term.new) result }
 {
@@ -97,7 +97,7 @@ pub fn close<T: TermLike>(term: &mut T, ink: Colours<'_>) -> io::Result<()>
     term.write_str(RESET)
 }
 
-/// Past the columns that both texts begin with alike, up to the last one of the row.
+/// Skips the columns that both texts begin with alike, up to the last one of the row.
 fn skip<'a>(rest: Rest<'a>) -> Rest<'a>
     requires room { HasRoom rest }
     ensures same { (ends : Bool) → left_bytes ends result ≡ left_bytes ends rest.entry }
@@ -113,7 +113,7 @@ fn skip<'a>(rest: Rest<'a>) -> Rest<'a>
     }
 }
 
-/// Past what both texts begin with, if the row has a column behind it.
+/// What is left of the row past the beginning that both texts share, if the row has a column behind it.
 fn past<'a>(rest: Rest<'a>, plain: PlainParts<'a>) -> Rest<'a>
     requires room { HasRoom rest }
     requires ink { ink_of rest.old.ink ≡ ink_of rest.new.ink }
@@ -126,11 +126,11 @@ fn past<'a>(rest: Rest<'a>, plain: PlainParts<'a>) -> Rest<'a>
         return rest;
     }
     Rest {
-        old: Reading {
+        old: InkedText {
             text: plain.parts.own,
             ink: rest.old.ink,
         },
-        new: Reading {
+        new: InkedText {
             text: plain.parts.other,
             ink: rest.new.ink,
         },
@@ -140,7 +140,7 @@ fn past<'a>(rest: Rest<'a>, plain: PlainParts<'a>) -> Rest<'a>
     }
 }
 
-/// At the last column where both texts end, since all others are free.
+/// What is left of the row if both texts end: its last column, since all others are free.
 fn at_end<'a>(rest: Rest<'a>) -> Rest<'a>
     requires room { HasRoom rest }
     ensures same { (ends : Bool) → left_bytes ends result ≡ left_bytes ends rest.entry }
@@ -157,7 +157,7 @@ fn at_end<'a>(rest: Rest<'a>) -> Rest<'a>
     }
 }
 
-/// Right so many columns; none is no call.
+/// Goes right over columns of the row that stay; none is no call.
 pub fn go_right<T: TermLike>(term: &mut T, columns: usize) -> io::Result<()>
     ensures { Writes (move_bytes RIGHT columns) (T.view term.old) (T.view term.new) result }
 {

@@ -1,16 +1,14 @@
 //! Room that was taken before.
 ghost use Rattle.std.specs.Prelude.{◌≡◌, [], take, vec_capacity, string_bytes};
 
-use crate::engine::layout::RowCount;
 use crate::engine::remembered::StandingLine;
 use crate::engine::renewed::NewLine;
 use std::alloc::Global;
 use std::marker::Model;
 use std::mem::replace;
 
-/// Room for the next counts, lines and texts, so that a drawing takes none anew. Contracts see nothing of it.
+/// Room for the next lines and texts, so that a drawing takes none anew. Contracts see nothing of it.
 pub struct Spare {
-    counts: Vec<RowCount>,
     lines: Vec<StandingLine>,
     changed: Vec<NewLine>,
     texts: Vec<String>,
@@ -20,7 +18,6 @@ pub struct Spare {
 impl Drop for Spare {
     fn drop(self) {
         let Spare {
-            counts: _,
             lines: _,
             changed: _,
             texts: _,
@@ -36,10 +33,9 @@ impl Model for Spare {
 }
 
 impl Spare {
-    /// No room yet.
+    /// No spare room yet.
     pub fn new(alloc: Global) -> Spare {
         Spare {
-            counts: Vec::new(alloc),
             lines: Vec::new(alloc),
             changed: Vec::new(alloc),
             texts: Vec::new(alloc),
@@ -47,16 +43,7 @@ impl Spare {
         }
     }
 
-    /// The room for counts that there is.
-    pub fn take_counts(&mut self) -> Vec<RowCount>
-        ensures { result.items ≡ [] }
-    {
-        let mut counts = replace(&mut self.counts, Vec::new(self.alloc));
-        counts.clear();
-        counts
-    }
-
-    /// The room for lines that there is.
+    /// Takes the spare room for lines that there is.
     pub fn take_lines(&mut self) -> Vec<StandingLine>
         ensures { result.items ≡ [] }
     {
@@ -65,7 +52,7 @@ impl Spare {
         lines
     }
 
-    /// The room for new lines that there is.
+    /// Takes the spare room for new lines that there is.
     pub fn take_new(&mut self) -> Vec<NewLine>
         ensures { result.items ≡ [] }
     {
@@ -74,7 +61,7 @@ impl Spare {
         changed
     }
 
-    /// Room for a text.
+    /// Takes spare room for a text.
     pub fn take_text(&mut self) -> String
         ensures { string_bytes result ≡ [] }
     {
@@ -87,21 +74,14 @@ impl Spare {
         }
     }
 
-    /// No text, in no room.
+    /// An empty text that takes no room.
     pub fn no_text(&self) -> String
         ensures { string_bytes result ≡ [] }
     {
         String::new(self.alloc)
     }
 
-    /// Keeps the room of counts that are no more, where it is more than there is.
-    pub fn store_counts(&mut self, counts: Vec<RowCount>) {
-        if counts.capacity() > self.counts.capacity() {
-            self.counts = counts;
-        }
-    }
-
-    /// Keeps the room of lines that are no more, and of their texts.
+    /// Keeps as spare the room of lines that are no more, and of their texts.
     pub fn store_lines(&mut self, lines: Vec<StandingLine>) {
         let mut lines = lines;
         self.store_behind(&mut lines, 0);
@@ -110,7 +90,7 @@ impl Spare {
         }
     }
 
-    /// Keeps the room of new lines that are no more, and of their texts.
+    /// Keeps as spare the room of new lines that are no more, and of their texts.
     pub fn store_new(&mut self, changed: Vec<NewLine>) {
         let mut changed = changed;
         while let Some(line) = changed.pop() {
@@ -119,14 +99,15 @@ impl Spare {
         self.changed = changed;
     }
 
-    /// Keeps the room of a text that is no more, where there is room for that.
+    /// Keeps as spare the room of a text that is no more, if there is room for that.
     pub fn store_text(&mut self, text: String) {
         let _ = self.texts.push(text);
     }
 
-    /// Keeps the room of a line's texts.
+    /// Keeps as spare the room of both texts of a line.
     fn store_both(&mut self, line: StandingLine) {
         let StandingLine {
+            bar: _,
             text,
             before,
             rows: _,
@@ -142,7 +123,7 @@ impl Spare {
         self.store_text(text);
     }
 
-    /// Takes the lines behind the first so many away, and keeps the room of their texts.
+    /// Takes the lines behind the first `count` away, and keeps the room of their texts as spare.
     pub fn store_behind(&mut self, lines: &mut Vec<StandingLine>, count: usize)
         ensures lines { lines.new.items ≡ take count lines.old.items }
         ensures room { vec_capacity lines.new ≡ vec_capacity lines.old }

@@ -22,7 +22,7 @@ pub struct EndedRows<T> {
     term: T,
     row: Option<OwnRow>,
     shown: Shown,
-    place: Place,
+    place: Phase,
     /// The cursor's column on a terminal of the given width: that width, if it waits at the end of a full row.
     column: usize,
     /// The terminal's faults at the start of a draw.
@@ -44,7 +44,7 @@ pub enum Shown {
 
 /// Where the cursor is.
 #[derive(Clone, Copy, Drop, PartialEq, Eq)]
-enum Place {
+enum Phase {
     /// Within a draw, at its column; the wrap is off.
     Drawing,
     /// Within a draw, but not at its column: at the right edge, or past the given columns; the wrap is off.
@@ -55,24 +55,24 @@ enum Place {
     Waiting,
 }
 
-impl Place {
+impl Phase {
     /// Whether the cursor is between two draws: then the wrap is on.
     fn is_between(self) -> bool
         ensures { result ≡ is_between self }
     {
         match self {
-            Place::Resting | Place::Waiting => true,
-            Place::Drawing | Place::Edge => false,
+            Phase::Resting | Phase::Waiting => true,
+            Phase::Drawing | Phase::Edge => false,
         }
     }
 
-    /// Its place after the start of a draw.
-    fn drawn(self) -> Place
+    /// The cursor's phase after the start of a draw.
+    fn drawn(self) -> Phase
         ensures { result ≡ drawn_place self }
     {
         match self {
-            Place::Resting | Place::Drawing => Place::Drawing,
-            Place::Waiting | Place::Edge => Place::Edge,
+            Phase::Resting | Phase::Drawing => Phase::Drawing,
+            Phase::Waiting | Phase::Edge => Phase::Edge,
         }
     }
 }
@@ -85,17 +85,17 @@ const EDGE: usize = 9_999;
 const BREATH: usize = 1_024;
 
 /// Where the cursor waits before the first draw.
-fn first_place(row: Option<OwnRow>) -> Place
+fn first_place(row: Option<OwnRow>) -> Phase
     ensures { result ≡ first_place row }
 {
     match row {
-        None => Place::Resting,
-        Some(_) => Place::Waiting,
+        None => Phase::Resting,
+        Some(_) => Phase::Waiting,
     }
 }
 
 impl<T> EndedRows<T> {
-    /// This terminal, or one row of it.
+    /// The ended rows of this terminal, or one row of it.
     pub fn new(term: T, row: Option<OwnRow>) -> EndedRows<T>
         ensures { result ≡ new_rows term row }
     {
@@ -118,7 +118,7 @@ impl<T> EndedRows<T> {
         EndedRows { shown, ..self }
     }
 
-    /// The terminal behind it.
+    /// The terminal behind the ended rows.
     pub fn term(&self) -> &T
         ensures { result.now ≡ self.now.term }
     {
@@ -160,8 +160,8 @@ impl<T> EndedRows<T> {
         ensures { self.new ≡ record self.old { column = column; place = moved_place self.old.place } }
     {
         self.column = column;
-        if self.place == Place::Edge {
-            self.place = Place::Drawing;
+        if self.place == Phase::Edge {
+            self.place = Phase::Drawing;
         }
     }
 }
@@ -242,7 +242,7 @@ impl<T: TermLike> EndedRows<T> {
             return self.rest();
         }
         self.go_to_edge()?;
-        self.place = Place::Waiting;
+        self.place = Phase::Waiting;
         Ok(())
     }
 
@@ -250,10 +250,10 @@ impl<T: TermLike> EndedRows<T> {
     fn rest(&mut self) -> io::Result<()>
         ensures { self.old.column ≡ 0 → Falls T.view (Held T.view true) (Ended T.view) (λ s. s) self.old self.new result }
     {
-        if self.place == Place::Edge {
+        if self.place == Phase::Edge {
             self.send("\r")?;
         }
-        self.place = Place::Resting;
+        self.place = Phase::Resting;
         Ok(())
     }
 
@@ -266,7 +266,7 @@ impl<T: TermLike> EndedRows<T> {
         self.send(" ")
     }
 
-    /// Writes a text as it is.
+    /// Sends a text as it is to the terminal behind the ended rows.
     fn send(&mut self, text: &str) -> io::Result<()>
         ensures writes { Writes text.now (T.view self.old.term) (T.view self.new.term) result }
         ensures same { self.new ≡ record self.old { term = self.new.term; sent = self.new.sent } }
@@ -275,7 +275,7 @@ impl<T: TermLike> EndedRows<T> {
         self.term.write_str(text)
     }
 
-    /// Goes up `n` rows; 0 is no move.
+    /// Leaves the row, and goes up `n` rows; 0 is no move.
     fn go_up(&mut self, n: usize) -> io::Result<()>
         ensures { Carries T.view (Within T.view) (Within T.view) (rows_moved UP n) self.old self.new result }
     {
@@ -286,7 +286,7 @@ impl<T: TermLike> EndedRows<T> {
         self.term.move_cursor_up(n)
     }
 
-    /// Goes down `n` rows; 0 is no move.
+    /// Leaves the row, and goes down `n` rows; 0 is no move.
     fn go_down(&mut self, n: usize) -> io::Result<()>
         ensures { (wraps : Bool) → Falls T.view (Held T.view wraps) (Held T.view wraps) (rows_moved DOWN n) self.old self.new result }
     {
@@ -306,14 +306,14 @@ impl<T: TermLike> EndedRows<T> {
             return Ok(());
         }
         self.written = false;
-        self.place = Place::Edge;
+        self.place = Phase::Edge;
         let told = self.term.width() as usize;
         self.send("\r")?;
         self.go_right(told)?;
         self.send("\u{1b}[K")
     }
 
-    /// Goes right by `n` columns.
+    /// Goes right by `n` columns of the row.
     fn go_right(&mut self, n: usize) -> io::Result<()>
         ensures writes { Writes (move_bytes RIGHT n) (T.view self.old.term) (T.view self.new.term) result }
         ensures same { self.new ≡ record self.old { term = self.new.term } }
@@ -330,7 +330,7 @@ impl<T: TermLike> EndedRows<T> {
         self.go_right(column)
     }
 
-    /// Goes to the front of the row.
+    /// Goes to the front of the row by CR.
     fn go_to_front(&mut self) -> io::Result<()>
         ensures { Falls T.view (Within T.view) (Within T.view) (at_column 0) self.old self.new result }
     {
@@ -338,7 +338,7 @@ impl<T: TermLike> EndedRows<T> {
         self.send("\r")
     }
 
-    /// Goes to the front of the next row.
+    /// Goes to the front of the next row by CR LF.
     fn go_to_next_row(&mut self) -> io::Result<()>
         ensures { Falls T.view (Within T.view) (Within T.view) next_front self.old self.new result }
     {
@@ -347,7 +347,7 @@ impl<T: TermLike> EndedRows<T> {
         self.send("\r\n")
     }
 
-    /// Empties the row, and goes to its front.
+    /// Empties the row on the terminal behind the ended rows, and goes to its front.
     fn empty_row(&mut self) -> io::Result<()>
         ensures { Falls T.view (Within T.view) (Within T.view) front_emptied self.old self.new result }
     {
@@ -355,7 +355,7 @@ impl<T: TermLike> EndedRows<T> {
         self.term.clear_line()
     }
 
-    /// Flushes the terminal.
+    /// Flushes the terminal behind the ended rows.
     fn hand_on(&mut self) -> io::Result<()>
         ensures writes { Writes [] (T.view self.old.term) (T.view self.new.term) result }
         ensures same { self.new ≡ record self.old { term = self.new.term } }
@@ -367,7 +367,7 @@ impl<T: TermLike> EndedRows<T> {
     fn leave_edge(&mut self) -> io::Result<()>
         ensures { Falls T.view (Within T.view) (Within T.view) (λ s. s) self.old self.new result }
     {
-        if self.place != Place::Edge {
+        if self.place != Phase::Edge {
             return Ok(());
         }
         self.go_to(self.column)
@@ -399,7 +399,7 @@ impl<T: TermLike> EndedRows<T> {
         self.put_run(piece.text)
     }
 
-    /// Writes a colour sequence.
+    /// Puts a colour sequence, which needs no room in the row.
     fn put_colour(&mut self, text: &str) -> io::Result<()>
         ensures { Falls T.view (WithinIf T.view (IsExact (Colour (chars text.now)))) (Within T.view) (λ s. s) self.old self.new result }
     {
@@ -419,7 +419,7 @@ impl<T: TermLike> EndedRows<T> {
         self.send(text)
     }
 
-    /// Writes characters one by one.
+    /// Puts characters one by one, wrapped into rows.
     fn put_chars(&mut self, text: &str) -> io::Result<()>
         ensures { Falls T.view (WithinIf T.view (AreShown (chars text.now))) (Within T.view) (all_put (chars text.now)) self.old self.new result }
     {
@@ -455,7 +455,7 @@ impl<T: TermLike> EndedRows<T> {
         Ok(())
     }
 
-    /// How many columns of the row are left.
+    /// How many columns of the row are left for a text that is put.
     fn room(&self) -> usize
         ensures { result ≡ (T.view self.now.term).columns - self.now.column }
     {

@@ -23,7 +23,7 @@ impl Model for MoveBytes {
 }
 
 impl MoveBytes {
-    /// ESC `[`, the number and the letter.
+    /// The bytes of a move: ESC `[`, the number and the letter.
     pub(crate) fn new(letter: u8, n: usize) -> MoveBytes
         requires { 0 < n }
         ensures { result ≡ move_bytes letter n }
@@ -39,7 +39,7 @@ impl MoveBytes {
         }
     }
 
-    /// The bytes.
+    /// The bytes of the move.
     pub(crate) fn as_slice(&self) -> &[u8]
         ensures { result.now ≡ self.now }
     {

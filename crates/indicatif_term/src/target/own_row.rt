@@ -24,14 +24,14 @@ impl OwnRow {
         Some(OwnRow { number, of })
     }
 
-    /// How many rows stand below it.
+    /// How many of the rows stand below this one.
     pub fn below(self) -> usize
         ensures { result + self.number ≡ self.of }
     {
         (self.of - self.number) as usize
     }
 
-    /// Whether it is the last one.
+    /// Whether this row is the last one of them.
     pub fn is_last(self) -> bool
         ensures { result ≡ (self.number == self.of) }
     {

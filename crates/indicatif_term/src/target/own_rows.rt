@@ -61,7 +61,7 @@ impl<T: Debug> Debug for OwnRows<T> {
 }
 
 impl<T> OwnRows<T> {
-    /// This terminal, whose cursor stands at the front of an empty row.
+    /// Own rows on this terminal, whose cursor stands at the front of an empty row.
     pub fn new(term: T) -> OwnRows<T>
         ensures { result ≡ own_rows term None }
     {
@@ -70,8 +70,8 @@ impl<T> OwnRows<T> {
         }
     }
 
-    /// One row of this terminal, where other programs draw on those above and below it. The cursor stands on the last of these rows. Each
-    /// draw goes up to its own row and back, and is one write behind a `BufWriter`. So no program waits for another.
+    /// One own row of this terminal, where other programs draw on those above and below it. The cursor stands on the last of these rows.
+    /// Each draw goes up to its own row and back, and is one write behind a `BufWriter`. So no program waits for another.
     ///
     /// A draw must have one line, so give the terminal one row. What others write while bars stand begins on a new row, below the last row.
     ///
@@ -86,7 +86,7 @@ impl<T> OwnRows<T> {
         }
     }
 
-    /// This terminal, with a known width: it wraps rows by itself, and only the calls' own bytes are written.
+    /// Rows of this terminal, with a known width: it wraps rows by itself, and only the calls' own bytes are written.
     ///
     /// ```
     /// let term = OwnRows::left_to_terminal(Term::new(writer, 24, 80)); // writes what the `Term` does
@@ -116,7 +116,7 @@ impl<T> OwnRows<T> {
         }
     }
 
-    /// The terminal behind it.
+    /// The terminal behind the own rows.
     ///
     /// ```
     /// let writer = own.term().writer();

@@ -51,7 +51,7 @@ impl<W: Write> Term<W> {
         }
     }
 
-    /// The writer.
+    /// The writer behind the terminal.
     pub fn writer(&self) -> &W
         ensures { result.now ≡ self.now.writer }
     {

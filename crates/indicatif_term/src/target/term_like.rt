@@ -22,11 +22,11 @@ pub trait TermLike {
     /// What contracts see of it: what can be read of it, its size, how often a call has failed, and the kind of the last failure.
     ghost view: { Self → TermView };
 
-    /// Columns.
+    /// How many columns the terminal has.
     fn width(&self) -> u16
         ensures { result ≡ (view self.now).columns };
 
-    /// Rows.
+    /// How many rows the terminal has.
     fn height(&self) -> u16
         ensures { result ≡ (view self.now).rows };
 
@@ -34,27 +34,27 @@ pub trait TermLike {
     fn faults(&self) -> u64
         ensures { result ≡ (view self.now).faults };
 
-    /// Up `n` rows: ESC `[` n `A`, and nothing if `n` is 0.
+    /// Moves the cursor up `n` rows: ESC `[` n `A`, and nothing if `n` is 0.
     fn move_cursor_up(&mut self, n: usize) -> io::Result<()>
         ensures { Writes (move_bytes UP n) (view self.old) (view self.new) result };
 
-    /// Down `n` rows: ESC `[` n `B`, and nothing if `n` is 0.
+    /// Moves the cursor down `n` rows: ESC `[` n `B`, and nothing if `n` is 0.
     fn move_cursor_down(&mut self, n: usize) -> io::Result<()>
         ensures { Writes (move_bytes DOWN n) (view self.old) (view self.new) result };
 
-    /// Right `n` columns: ESC `[` n `C`, and nothing if `n` is 0.
+    /// Moves the cursor right `n` columns: ESC `[` n `C`, and nothing if `n` is 0.
     fn move_cursor_right(&mut self, n: usize) -> io::Result<()>
         ensures { Writes (move_bytes RIGHT n) (view self.old) (view self.new) result };
 
-    /// Left `n` columns: ESC `[` n `D`, and nothing if `n` is 0.
+    /// Moves the cursor left `n` columns: ESC `[` n `D`, and nothing if `n` is 0.
     fn move_cursor_left(&mut self, n: usize) -> io::Result<()>
         ensures { Writes (move_bytes LEFT n) (view self.old) (view self.new) result };
 
-    /// The text, then CR LF.
+    /// Writes the text, then CR LF.
     fn write_line(&mut self, s: &str) -> io::Result<()>
         ensures { Writes (line_bytes s.now) (view self.old) (view self.new) result };
 
-    /// The text.
+    /// Writes the text as it is.
     fn write_str(&mut self, s: &str) -> io::Result<()>
         ensures { Writes s.now (view self.old) (view self.new) result };
 

@@ -117,7 +117,7 @@ impl CountOfUnit {
     }
 }
 
-/// Days if there are any, and hours, minutes and seconds.
+/// A duration as days, if there are any, hours, minutes and seconds.
 pub(crate) fn formatted_text(nanos: u64) -> ShortText
     ensures { result ≡ formatted_duration nanos }
 {
@@ -136,7 +136,7 @@ pub(crate) fn formatted_text(nanos: u64) -> ShortText
     text
 }
 
-/// The count and the unit in words.
+/// A duration in words: its count and its unit.
 pub(crate) fn words_text(nanos: u64) -> ShortText
     ensures { result ≡ human_duration nanos }
 {
@@ -151,7 +151,7 @@ pub(crate) fn words_text(nanos: u64) -> ShortText
     text
 }
 
-/// The count and the unit's letter.
+/// A duration in short: its count and its unit's letter.
 pub(crate) fn letter_text(nanos: u64) -> ShortText
     ensures { result ≡ short_duration nanos }
 {

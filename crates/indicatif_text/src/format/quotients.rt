@@ -25,7 +25,7 @@ struct LongDivision {
 }
 
 impl LongDivision {
-    /// The division after the point.
+    /// The long division of a quotient, after its point.
     fn new(quotient: Quotient) -> LongDivision
         requires { 0 < quotient.den }
         ensures rest { result.rest ≡ quotient.num % quotient.den }
@@ -37,7 +37,7 @@ impl LongDivision {
         }
     }
 
-    /// The next decimal.
+    /// The next decimal of the quotient.
     #[inline(always)]
     fn next_digit(&mut self) -> u8
         ensures digit { result ≡ self.old.rest * 10 / self.old.den }
@@ -70,8 +70,8 @@ pub(crate) struct Rounded {
 }
 
 impl Rounded {
-    /// One pass over the decimals: a number that is rounded down ends in its last decimal other than 0, one that is rounded up in its last
-    /// other than 9.
+    /// A quotient rounded to some decimals, in one pass over them: a number that is rounded down ends in its last decimal other than 0, one
+    /// that is rounded up in its last other than 9.
     pub(crate) fn of(quotient: Quotient, decimals: u16) -> Rounded
         requires { 0 < quotient.den }
         ensures shown { result.shown ≤ decimals }

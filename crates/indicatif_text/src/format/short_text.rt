@@ -36,7 +36,7 @@ impl Model for ShortText {
 }
 
 impl ShortText {
-    /// The empty text.
+    /// The empty short text.
     #[inline(always)]
     pub(crate) fn new() -> ShortText
         ensures { result ≡ [] }
@@ -47,7 +47,7 @@ impl ShortText {
         }
     }
 
-    /// The current text.
+    /// The short text as it stands.
     #[inline(always)]
     pub(crate) fn as_str(&self) -> &str
         ensures { result.now ≡ self.now }

@@ -30,7 +30,8 @@ impl Draft {
     ghost use Rattle.indicatif_text.specs.Inside.Reading.{layout_of};
     ghost use Rattle.indicatif_text.specs.Inside.Draft.{Sketch, GoesOn, TakesIn, sketch_of, empty_sketch, sketched_parts, fixed_sketch, closed_sketch, parted_sketch, with_part, with_run, added};
 
-    /// Nothing yet, with memory for the texts of a text of `len` bytes, and for one part for every four bytes, up to `FIRST_PARTS`.
+    /// A draft of which nothing is read yet, with memory for the texts of a text of `len` bytes, and for one part for every four bytes, up
+    /// to `FIRST_PARTS`.
     pub(super) fn new(alloc: Global, len: usize) -> Result<Draft, AllocError>
         ensures { IfOk result (λ draft. sketch_of draft ≡ empty_sketch) }
     {
@@ -51,7 +52,7 @@ impl Draft {
         self.fixed = self.texts.len() - self.start;
     }
 
-    /// Makes the text after the parts the text of a further part.
+    /// Makes the draft's text after its parts the text of a further part.
     #[inline]
     fn close(&mut self, kind: Kind) -> Result<(), AllocError>
         ensures { OnOk result (sketch_of self.new ≡ parted_sketch (sketch_of self.old) kind) }
@@ -75,7 +76,7 @@ impl Draft {
         self.close(Kind::Literal)
     }
 
-    /// Adds the end of a line.
+    /// Adds the end of a line to the draft.
     #[inline(never)]
     fn push_new_line(&mut self) -> Result<(), AllocError>
         ensures { OnOk result (sketch_of self.new ≡ with_part (sketch_of self.old) LineBreak) }
@@ -84,7 +85,7 @@ impl Draft {
         self.close(Kind::NewLine)
     }
 
-    /// Adds literal characters.
+    /// Adds literal characters to the draft.
     #[inline]
     pub(super) fn push_run(&mut self, text: &str) -> Result<(), AllocError>
         ensures { OnOk result (sketch_of self.new ≡ with_run (sketch_of self.old) (chars text.now)) }
@@ -93,7 +94,7 @@ impl Draft {
         Ok(())
     }
 
-    /// Adds a literal character.
+    /// Adds a literal character to the draft.
     #[inline(never)]
     fn push_literal(&mut self, c: char) -> Result<(), AllocError>
         ensures { OnOk result (sketch_of self.new ≡ added (sketch_of self.old) (Char c)) }
@@ -102,7 +103,7 @@ impl Draft {
         Ok(())
     }
 
-    /// Drops the literal run.
+    /// Drops the run of literal characters that was read last.
     #[inline(never)]
     fn drop_run(&mut self)
         ensures { sketch_of self.new ≡ added (sketch_of self.old) LastBrace }

@@ -15,19 +15,6 @@ pub type Front<R> = ProgressBar<InMemoryTerm, RowClock, R>;
 #[derive(Drop)]
 pub struct Bar<R: Wait + Copy + Clone + Drop>(pub Front<R>);
 
-/// The result of a call that gives an owner.
-pub type Given<R> = Result<Front<R>, Refusal>;
-
-impl<R: Wait + Copy + Clone + Drop> Bar<R> {
-    /// The owner from a call.
-    pub fn given(given: Given<R>) -> Result<Bar<R>, Bad> {
-        match given {
-            Ok(bar) => Ok(Bar(bar)),
-            Err(refusal) => Err(Bad::Refused(refusal)),
-        }
-    }
-}
-
 /// A bar without an owner.
 #[derive(Drop)]
 pub struct Weak<R: Wait + Copy + Clone + Drop>(WeakProgressBar<InMemoryTerm, RowClock, R>);
@@ -40,23 +27,16 @@ impl<R: Wait + Copy + Clone + Drop> Weak<R> {
 
     /// A weak bar that refers to this bar.
     pub fn of(bar: &Front<R>) -> Result<Weak<R>, Bad> {
-        let Ok(weak) = bar.downgrade() else {
-            return Err(Bad::Refused(Refusal::Memory));
-        };
-        let copy: Result<_, _> = weak.clone();
-        match copy {
-            Ok(weak) => Ok(Weak(weak)),
-            Err(_) => Err(Bad::Refused(Refusal::Memory)),
-        }
+        let weak = bar.downgrade()?;
+        Ok(Weak(weak.clone()?))
     }
 
     /// An owner, if there are owners.
     pub fn upgrade(&self) -> Result<Option<Bar<R>>, Bad> {
-        match self.0.upgrade() {
-            Ok(Some(bar)) => Ok(Some(Bar(bar))),
-            Ok(None) => Ok(None),
-            Err(_) => Err(Bad::Refused(Refusal::Memory)),
-        }
+        Ok(match self.0.upgrade()? {
+            Some(bar) => Some(Bar(bar)),
+            None => None,
+        })
     }
 }
 
@@ -117,47 +97,36 @@ impl<R: Wait + Copy + Clone + Drop> Maker<R> {
     /// A board with this mark, which keeps its history if it is recorded.
     pub fn board(&self, mark: u64, is_recorded: bool) -> Result<Shared<R>, Bad> {
         let Setup { target, clock } = self.room.setup(self.alloc)?;
-        let board = match is_recorded {
-            true => MultiProgress::recorded(self.rt, self.alloc, target, clock, mark),
-            false => MultiProgress::new(self.rt, self.alloc, Setup { target, clock }, mark),
-        };
-        match board {
-            Ok(board) => Ok(Shared(board)),
-            Err(refusal) => Err(Bad::Refused(refusal)),
-        }
+        Ok(Shared(match is_recorded {
+            true => MultiProgress::recorded(self.rt, self.alloc, target, clock, mark)?,
+            false => MultiProgress::new(self.rt, self.alloc, Setup { target, clock }, mark)?,
+        }))
     }
 
     /// A bar made in this way: `new`, without a length if there is none, `spinner`, or on a `target`.
     pub fn made(&self, way: &str, len: Option<u64>) -> Result<Bar<R>, Bad> {
-        let Setup { target, clock } = self.room.setup(self.alloc)?;
-        Bar::given(match (way, len) {
-            ("target", _) => ProgressBar::with_draw_target(self.rt, self.alloc, len, target, clock),
-            ("spinner", None) => {
-                ProgressBar::new_spinner(self.rt, self.alloc, Setup { target, clock })
+        let setup = self.room.setup(self.alloc)?;
+        Ok(Bar(match (way, len) {
+            ("target", _) => {
+                let Setup { target, clock } = setup;
+                ProgressBar::with_draw_target(self.rt, self.alloc, len, target, clock)?
             }
-            ("new", Some(len)) => {
-                ProgressBar::new(self.rt, self.alloc, len, Setup { target, clock })
-            }
-            ("new", None) => ProgressBar::no_length(self.rt, self.alloc, Setup { target, clock }),
+            ("spinner", None) => ProgressBar::new_spinner(self.rt, self.alloc, setup)?,
+            ("new", Some(len)) => ProgressBar::new(self.rt, self.alloc, len, setup)?,
+            ("new", None) => ProgressBar::no_length(self.rt, self.alloc, setup)?,
             _ => return Err(Bad::Step),
-        })
+        }))
     }
 
     /// A bar with this length in the style of a template.
     pub fn bar(&self, len: Option<u64>, template: &str) -> Result<Bar<R>, Bad> {
         let style = ProgressStyle::with_template(self.alloc, template)?;
-        match self.made("new", len) {
-            Ok(bar) => Bar::given(bar.0.with_style(style)),
-            Err(bad) => Err(bad),
-        }
+        Ok(Bar(self.made("new", len)?.0.with_style(style)?))
     }
 
     /// A bar whose one line is its message, this text.
     pub fn saying(&self, text: &str) -> Result<Bar<R>, Bad> {
-        match self.bar(None, "{msg}") {
-            Ok(bar) => Bar::given(bar.0.with_message(text)),
-            Err(bad) => Err(bad),
-        }
+        Ok(Bar(self.bar(None, "{msg}")?.0.with_message(text)?))
     }
 }
 
@@ -175,9 +144,10 @@ pub fn contents(term: Option<&InMemoryTerm>) -> Option<Result<String, Refusal>> 
 }
 
 /// Appends the contents; `nothing` if there is no terminal.
-pub fn push_contents(contents: Option<Result<String, Refusal>>, got: &mut Got) {
+pub fn push_contents(contents: Option<Result<String, Refusal>>, got: &mut Got) -> Result<(), Bad> {
     match contents {
-        Some(contents) => got.text_of(contents),
+        Some(contents) => got.text(contents?.as_str()),
         None => got.text("nothing"),
     }
+    Ok(())
 }

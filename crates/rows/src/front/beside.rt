@@ -8,7 +8,6 @@
 use crate::front::bars::{Bar, Pace, Room, Target, spinner};
 use crate::front::clock::RowClock;
 use crate::front::fronts::room_of;
-use crate::front::history::{rows_of, same_rows};
 use crate::front::tell::{Told, further, tell};
 use indicatif::{
     BarCommand, BarState, Clock, InMemoryTerm, LoneBar, LoneCall, Moment, NoTracker, ProgressBar,
@@ -16,6 +15,7 @@ use indicatif::{
 };
 use scripts::got::{Bad, Got};
 use scripts::lone::lone_call;
+use scripts::replay::rows_of;
 use scripts::row::{Words, headed};
 use scripts::spelling::number;
 use std::alloc::Global;
@@ -52,16 +52,14 @@ fn style(alloc: Global) -> Result<ProgressStyle<NoTracker>, Refusal> {
 
 /// A target with this rate.
 fn target(alloc: Global, room: Room, rate: &str) -> Result<Target, Bad> {
-    let pace = match (rate, number(rate)) {
-        ("hidden", _) => return Ok(ProgressDrawTarget::hidden()),
-        (_, Ok(0)) => None,
-        (_, Ok(hz)) => Some(Pace { hz, made: 0 }),
-        (_, Err(bad)) => return Err(bad),
-    };
-    match (Room { pace, ..room }).target(alloc) {
-        Ok(target) => Ok(target),
-        Err(refusal) => Err(Bad::Refused(refusal)),
+    if rate == "hidden" {
+        return Ok(ProgressDrawTarget::hidden());
     }
+    let pace = match number(rate)? {
+        0 => None,
+        hz => Some(Pace { hz, made: 0 }),
+    };
+    Ok(Room { pace, ..room }.target(alloc)?)
 }
 
 /// A shared bar with this rate.
@@ -75,10 +73,7 @@ fn shared<R: Wait + Copy + Clone + Drop>(
         target: target(alloc, room, rate)?,
         clock: room.clock,
     };
-    Bar::given(match ProgressBar::new(rt, alloc, 10, setup) {
-        Ok(bar) => bar.with_style(style),
-        Err(refusal) => Err(refusal),
-    })
+    Ok(Bar(ProgressBar::new(rt, alloc, 10, setup)?.with_style(style)?))
 }
 
 /// A `LoneBar` with this rate, made at the moment of the first, and then given the same style.
@@ -91,10 +86,8 @@ fn lone_bar(
     let target = target(alloc, room, rate)?;
     let bar = BarState::new(alloc, Some(10), clock.now())?;
     let mut bar = Box::new(alloc, Lone(LoneBar::new(bar, target)))?;
-    match bar.0.with_style(style, clock.now()) {
-        Ok(_) => Ok(bar),
-        Err(refusal) => Err(Bad::Refused(refusal)),
-    }
+    bar.0.with_style(style, clock.now())?;
+    Ok(bar)
 }
 
 impl<R: Wait + Copy + Clone + Drop> Both<R> {
@@ -115,8 +108,13 @@ impl<R: Wait + Copy + Clone + Drop> Both<R> {
 
     /// Whether both show the same.
     fn show_same(&self) -> bool {
-        let rows = self.shared.0.with_term(rows_of);
-        same_rows(rows, rows_of(self.lone.0.term())) == Ok(true)
+        match (
+            self.shared.0.with_term(rows_of),
+            rows_of(self.lone.0.term()),
+        ) {
+            (Ok(one), Ok(other)) => one == other,
+            _ => false,
+        }
     }
 
     /// Whether both have the same numbers.
@@ -177,74 +175,63 @@ impl<R: Wait + Copy + Clone + Drop> Both<R> {
     }
 
     /// Sets another target with this rate for both: the answer of the shared one, and whether they show the same.
-    fn turn(&mut self, rate: &str, got: &mut Got) {
-        let one = target(self.alloc, self.room, rate);
-        match (one, target(self.alloc, self.room, rate)) {
-            (Ok(one), Ok(other)) => {
-                let answer = self.shared.0.set_draw_target(one);
-                let _ = self.lone.0.set_draw_target(other);
-                got.answer(answer);
-                got.text(if self.show_same() { " same" } else { " rows" });
-            }
-            (Err(bad), _) => got.bad(bad),
-            (_, Err(bad)) => got.bad(bad),
-        }
+    fn turn(&mut self, rate: &str, got: &mut Got) -> Result<(), Bad> {
+        let one = target(self.alloc, self.room, rate)?;
+        let other = target(self.alloc, self.room, rate)?;
+        got.answer(self.shared.0.set_draw_target(one));
+        let _ = self.lone.0.set_draw_target(other);
+        got.text(if self.show_same() { " same" } else { " rows" });
+        Ok(())
     }
 
     /// Makes a call of both; whether nothing differs, otherwise appends what does.
-    fn is_same(&mut self, call: &str, got: &mut Got) -> bool {
-        match self.differ_by(call) {
-            Ok(None) => return true,
-            Ok(Some(what)) => {
-                got.text(call);
-                got.text(": ");
-                got.text(what);
-            }
-            Err(bad) => got.bad(bad),
-        }
-        false
+    fn is_same(&mut self, call: &str, got: &mut Got) -> Result<bool, Bad> {
+        let Some(what) = self.differ_by(call)? else {
+            return Ok(true);
+        };
+        got.number(format_args!("{call}: {what}"));
+        Ok(false)
     }
 
     /// Makes each of these calls.
-    fn each(&mut self, calls: &[String], got: &mut Got) {
+    fn each(&mut self, calls: &[String], got: &mut Got) -> Result<(), Bad> {
         for call in calls {
-            if !self.is_same(call.as_str(), got) {
-                return;
+            if !self.is_same(call.as_str(), got)? {
+                return Ok(());
             }
         }
-        got.number(calls.len());
-        got.text(" same");
+        got.number(format_args!("{} same", calls.len()));
+        Ok(())
     }
 
     /// Makes `times` of these calls, by the numbers of a generator.
-    fn random(&mut self, calls: &[String], (times, mut seed): (u32, u64), got: &mut Got) {
+    fn random(
+        &mut self,
+        calls: &[String],
+        (times, mut seed): (u32, u64),
+        got: &mut Got,
+    ) -> Result<(), Bad> {
         for _ in 0..times {
-            let Some(call) = chosen(calls, &mut seed) else {
-                return got.bad(Bad::Step);
-            };
-            if !self.is_same(call, got) {
-                return;
+            if !self.is_same(chosen(calls, &mut seed)?, got)? {
+                return Ok(());
             }
         }
-        got.number(times);
-        got.text(" same");
+        got.number(format_args!("{times} same"));
+        Ok(())
     }
 }
 
 /// One of these calls, by the next number of a fixed generator: Marsaglia's xorshift of 64 bits, with the shifts 13, 7 and 17.
-fn chosen<'a>(calls: &'a [String], seed: &mut u64) -> Option<&'a str> {
+fn chosen<'a>(calls: &'a [String], seed: &mut u64) -> Result<&'a str, Bad> {
     let mut x = *seed;
     x ^= x.wrapping_shl(13);
     x ^= x >> 7;
     x ^= x.wrapping_shl(17);
     *seed = x;
-    let count = calls.len() as u64;
-    if count == 0 {
-        return None;
-    }
+    let count = calls.len().max(1) as u64;
     match calls.get((x % count) as usize) {
-        Some(call) => Some(call.as_str()),
-        None => None,
+        Some(call) => Ok(call.as_str()),
+        None => Err(Bad::Step),
     }
 }
 
@@ -261,86 +248,53 @@ pub fn begin<R: Wait + Copy + Clone + Drop>(rt: R, alloc: Global) -> Result<Box<
 
 impl<R: Wait + Copy + Clone + Drop> Pair<R> {
     /// Makes a step.
-    pub fn step(&mut self, step: &str, got: &mut Got) {
-        match step.split_once(' ') {
-            Some(("learn", call)) => {
-                let kept = match String::from_str(self.alloc, call) {
-                    Ok(call) => self.calls.push(call).is_ok(),
-                    Err(_) => false,
-                };
-                if !kept {
-                    got.bad(Bad::Refused(Refusal::Memory));
-                }
-            }
-            Some(("on", rest)) => match Both::on(self.rt, self.alloc, rest) {
-                Ok(both) => self.both = Some(both),
-                Err(bad) => got.bad(bad),
-            },
-            _ => self.tell(step, got),
+    pub fn step(&mut self, step: &str, got: &mut Got) -> Result<(), Bad> {
+        match headed(step) {
+            ("learn", call) => self.calls.push(String::from_str(self.alloc, call)?)?,
+            ("on", rest) => self.both = Some(Both::on(self.rt, self.alloc, rest)?),
+            _ => self.tell(step, got)?,
         }
+        Ok(())
     }
 
     /// Makes a step of both bars.
-    fn tell(&mut self, step: &str, got: &mut Got) {
+    fn tell(&mut self, step: &str, got: &mut Got) -> Result<(), Bad> {
         let Some(both) = &mut self.both else {
-            return got.bad(Bad::Step);
+            return Err(Bad::Step);
         };
-        if step == "each" {
-            return both.each(&self.calls, got);
-        }
-        let (name, rest) = headed(step);
-        match name {
-            "turn" => both.turn(rest, got),
-            "random" => match times_of(rest) {
-                Ok(times) => both.random(&self.calls, times, got),
-                Err(bad) => got.bad(bad),
-            },
-            "call" => {
-                if both.is_same(rest, got) {
-                    got.text("same");
-                }
+        match headed(step) {
+            ("each", "") => both.each(&self.calls, got),
+            ("turn", rate) => both.turn(rate, got),
+            ("random", rest) => {
+                let (times, seed) = headed(rest);
+                both.random(&self.calls, (number(times)?, number(seed)?), got)
             }
-            _ => got.bad(Bad::Step),
+            ("call", call) => {
+                let is_same = both.is_same(call, got)?;
+                got.text(if is_same { "same" } else { "" });
+                Ok(())
+            }
+            _ => Err(Bad::Step),
         }
     }
-}
-
-/// The number of calls, and the seed of a generator.
-fn times_of(rest: &str) -> Result<(u32, u64), Bad> {
-    let mut words = Words::of(rest);
-    let times = (words.number(), words.last());
-    words.done(times)
 }
 
 // ---- calls of a bar that stands alone
 
-/// Makes the call of a text of a `LoneBar`.
+/// Makes the call of a text of a `LoneBar`. A wrapper's call, and a builder, become a command.
 fn tell_alone(bar: &mut Lone, alloc: Global, text: &str, now: Moment) -> Result<Told, Bad> {
-    match (text, text.split_once(' ')) {
-        ("suspend", _) => Ok(bar.0.suspend(now, || ()).1),
-        (_, Some(("further", n))) => match number(n) {
-            Ok(delta) => Ok(bar.0.update(|state| further(state, delta), now)),
-            Err(bad) => Err(bad),
-        },
-        _ => match call_of(alloc, text) {
-            Ok(call) => Ok(bar.0.call(call, now)),
-            Err(bad) => Err(bad),
-        },
-    }
-}
-
-/// The call of a text. A wrapper's call, and a builder, become a command.
-fn call_of(alloc: Global, text: &str) -> Result<LoneCall<NoTracker>, Bad> {
-    let (name, rest) = headed(text);
-    match (name, number(rest)) {
-        ("at_end", _) if rest.is_empty() => Ok(LoneCall::Bar(BarCommand::FinishUsingStyle)),
-        ("set_style" | "with_style", _) => match spinner(alloc, rest) {
-            Ok(style) => Ok(LoneCall::Bar(BarCommand::SetStyle(style))),
-            Err(refusal) => Err(Bad::Refused(refusal)),
-        },
-        ("advance", Ok(n)) => Ok(LoneCall::Bar(BarCommand::Inc(n))),
-        ("place", Ok(n)) => Ok(LoneCall::Bar(BarCommand::SetPosition(n))),
-        ("with_elapsed", Ok(n)) => Ok(LoneCall::Bar(BarCommand::SetElapsed(n))),
-        _ => lone_call(alloc, text),
-    }
+    let command = match headed(text) {
+        ("suspend", "") => return Ok(bar.0.suspend(now, || ()).1),
+        ("further", n) => {
+            let delta = number(n)?;
+            return Ok(bar.0.update(|state| further(state, delta), now));
+        }
+        ("at_end", "") => BarCommand::FinishUsingStyle,
+        ("set_style" | "with_style", last) => BarCommand::SetStyle(spinner(alloc, last)?),
+        ("advance", n) => BarCommand::Inc(number(n)?),
+        ("place", n) => BarCommand::SetPosition(number(n)?),
+        ("with_elapsed", n) => BarCommand::SetElapsed(number(n)?),
+        _ => return Ok(bar.0.call(lone_call(alloc, text)?, now)),
+    };
+    Ok(bar.0.call(LoneCall::Bar(command), now))
 }

@@ -15,7 +15,7 @@ use crate::front::counted::Counted;
 use crate::front::polls::{Asked, poll};
 use crate::front::scripted::{Scripted, kind_name, script_of};
 use futures::test::MockTask;
-use indicatif::{Moves, ProgressBarIter};
+use indicatif::{Drawn, Moves, ProgressBarIter, Refusal};
 use scripts::got::{Bad, Got};
 use scripts::row::{Words, headed};
 use scripts::spelling::{number, unescaped};
@@ -63,59 +63,50 @@ pub fn begin<R: AllocGlobal + RandomSource>(
     rest: &str,
 ) -> Result<Box<OverCounted>, Bad> {
     let mut words = Words::of(rest);
-    let position = words.number();
-    let position = words.done(position)?;
-    let wrapped = ProgressBarIter::new(script_of(alloc, words.rest())?, Counted::at(position));
+    let bar = Counted::at(words.number()?);
+    let wrapped = ProgressBarIter::new(script_of(alloc, words.rest())?, bar);
     passed_over(rt, alloc, wrapped)
 }
 
 /// Makes a step, or reads the bar.
-pub fn step(over: &mut OverCounted, step: &str, got: &mut Got) {
+pub fn step(over: &mut OverCounted, step: &str, got: &mut Got) -> Result<(), Bad> {
     let Some(wrapped) = &mut over.wrapped else {
-        return got.bad(Bad::Step);
+        return Err(Bad::Step);
     };
     let bar = &mut wrapped.progress;
-    match (step, step.split_once(' ')) {
-        (_, Some(("place", place))) => match number(place) {
-            Ok(place) => bar.position = place,
-            Err(bad) => got.bad(bad),
-        },
-        ("finished", _) => got.flag(bar.finished),
-        ("pos", _) => got.number(bar.position),
-        ("stands", _) => bar.push(got),
-        _ => asks(over, step, got),
+    match headed(step) {
+        ("place", place) => bar.position = number(place)?,
+        ("finished", "") => got.flag(bar.finished),
+        ("pos", "") => got.number(bar.position),
+        ("stands", "") => bar.push(got),
+        _ => return asks(over, step, got),
     }
+    Ok(())
 }
 
 /// Makes a step of the wrapped value.
-pub fn asks<P: Moves + Drop>(over: &mut Over<P>, step: &str, got: &mut Got) {
-    match (step, step.split_once(' ')) {
-        ("written", _) => unwraps(over, got),
-        (_, Some(("write" | "write_all" | "poll_write", text))) => {
-            match unescaped(over.alloc, text) {
-                Ok(text) => writes(over, (step, text.as_bytes()), got),
-                Err(bad) => got.bad(bad),
-            }
+pub fn asks<P: Moves + Drop>(over: &mut Over<P>, step: &str, got: &mut Got) -> Result<(), Bad> {
+    match headed(step) {
+        ("written", "") => unwraps(over, got),
+        (name @ ("write" | "write_all" | "poll_write"), text) => {
+            let text = unescaped(over.alloc, text)?;
+            writes(over, (name, text.as_bytes()), got)
         }
-        (_, Some(("seek", to))) => seeks(over, to, got),
-        (_, Some((name, count))) => match number(count) {
-            Ok(count) => counts(over, (name, count), got),
-            Err(bad) => got.bad(bad),
-        },
-        (_, None) => bare(over, step, got),
+        ("seek", to) => seeks(over, seek_of(to)?, got),
+        (name, "") => bare(over, name, got),
+        (name, count) => counts(over, (name, number(count)?), got),
     }
 }
 
 /// Unwraps, and shows what was written.
-fn unwraps<P: Moves + Drop>(over: &mut Over<P>, got: &mut Got) {
-    match over.wrapped.take() {
-        Some(wrapped) => {
-            let (inner, bar) = wrapped.into_inner();
-            drop(bar);
-            got.bytes(inner.written());
-        }
-        None => got.bad(Bad::Step),
-    }
+fn unwraps<P: Moves + Drop>(over: &mut Over<P>, got: &mut Got) -> Result<(), Bad> {
+    let Some(wrapped) = over.wrapped.take() else {
+        return Err(Bad::Step);
+    };
+    let (inner, bar) = wrapped.into_inner();
+    drop(bar);
+    got.bytes(inner.written());
+    Ok(())
 }
 
 // ---- what came
@@ -146,39 +137,47 @@ pub fn push_done(done: io::Result<()>, got: &mut Got) {
 
 // ---- calls
 
-fn writes<P: Moves + Drop>(over: &mut Over<P>, (step, bytes): (&str, &[u8]), got: &mut Got) {
+fn writes<P: Moves + Drop>(
+    over: &mut Over<P>,
+    (name, bytes): (&str, &[u8]),
+    got: &mut Got,
+) -> Result<(), Bad> {
     let Some(wrapped) = &mut over.wrapped else {
-        return got.bad(Bad::Step);
+        return Err(Bad::Step);
     };
-    match headed(step).0 {
+    match name {
         "write" => push_number(wrapped.write(bytes), got),
         "write_all" => push_done(wrapped.write_all(bytes), got),
         _ => poll(wrapped, &over.task, Asked::Write(bytes), got),
     }
+    Ok(())
 }
 
-fn seeks<P: Moves + Drop>(over: &mut Over<P>, to: &str, got: &mut Got) {
-    match (&mut over.wrapped, seek_of(to)) {
-        (Some(wrapped), Ok(to)) => push_number(wrapped.seek(to), got),
-        (None, _) => got.bad(Bad::Step),
-        (_, Err(bad)) => got.bad(bad),
-    }
+fn seeks<P: Moves + Drop>(over: &mut Over<P>, to: SeekFrom, got: &mut Got) -> Result<(), Bad> {
+    let Some(wrapped) = &mut over.wrapped else {
+        return Err(Bad::Step);
+    };
+    push_number(wrapped.seek(to), got);
+    Ok(())
 }
 
 fn seek_of(to: &str) -> Result<SeekFrom, Bad> {
-    let (name, place) = headed(to);
-    match name {
-        "start" => Ok(SeekFrom::Start(number(place)?)),
-        "end" => Ok(SeekFrom::End(number(place)?)),
-        "current" => Ok(SeekFrom::Current(number(place)?)),
+    match headed(to) {
+        ("start", place) => Ok(SeekFrom::Start(number(place)?)),
+        ("end", place) => Ok(SeekFrom::End(number(place)?)),
+        ("current", place) => Ok(SeekFrom::Current(number(place)?)),
         _ => Err(Bad::Step),
     }
 }
 
 /// A call with a number: bytes that are consumed, items, or a read into the front of the buffer.
-fn counts<P: Moves + Drop>(over: &mut Over<P>, (name, count): (&str, usize), got: &mut Got) {
+fn counts<P: Moves + Drop>(
+    over: &mut Over<P>,
+    (name, count): (&str, usize),
+    got: &mut Got,
+) -> Result<(), Bad> {
     let Some(wrapped) = &mut over.wrapped else {
-        return got.bad(Bad::Step);
+        return Err(Bad::Step);
     };
     match name {
         "consume" => wrapped.consume(count),
@@ -187,14 +186,19 @@ fn counts<P: Moves + Drop>(over: &mut Over<P>, (name, count): (&str, usize), got
                 poll(wrapped, &over.task, Asked::Next, got);
             }
         }
-        _ => reads(over, (name, count), got),
+        _ => return reads(over, (name, count), got),
     }
+    Ok(())
 }
 
 /// A read into the front of the buffer, or the buffer itself.
-fn reads<P: Moves + Drop>(over: &mut Over<P>, (name, count): (&str, usize), got: &mut Got) {
+fn reads<P: Moves + Drop>(
+    over: &mut Over<P>,
+    (name, count): (&str, usize),
+    got: &mut Got,
+) -> Result<(), Bad> {
     let (Some(wrapped), Some(room)) = (&mut over.wrapped, over.room.get_mut(..count)) else {
-        return got.bad(Bad::Step);
+        return Err(Bad::Step);
     };
     match name {
         "room" => got.bytes(room),
@@ -207,13 +211,14 @@ fn reads<P: Moves + Drop>(over: &mut Over<P>, (name, count): (&str, usize), got:
             Err(e) => got.text(kind_name(e.kind())),
         },
         "poll_read" => poll(wrapped, &over.task, Asked::Read(room), got),
-        _ => got.bad(Bad::Step),
+        _ => return Err(Bad::Step),
     }
+    Ok(())
 }
 
-fn bare<P: Moves + Drop>(over: &mut Over<P>, name: &str, got: &mut Got) {
+fn bare<P: Moves + Drop>(over: &mut Over<P>, name: &str, got: &mut Got) -> Result<(), Bad> {
     let Some(wrapped) = &mut over.wrapped else {
-        return got.bad(Bad::Step);
+        return Err(Bad::Step);
     };
     let task = &over.task;
     match name {
@@ -224,14 +229,20 @@ fn bare<P: Moves + Drop>(over: &mut Over<P>, name: &str, got: &mut Got) {
             Err(e) => got.text(kind_name(e.kind())),
         },
         "next" => push_item(Iterator::next(wrapped), got),
-        "last" => match wrapped.last_draw() {
-            Some(drawn) => got.answer(drawn),
-            None => got.text("none"),
-        },
+        "last" => push_last(wrapped.last_draw(), got),
         "poll_next" => poll(wrapped, task, Asked::Next, got),
         "poll_flush" => poll(wrapped, task, Asked::Flush, got),
         "poll_shutdown" => poll(wrapped, task, Asked::ShutDown, got),
-        _ => to_end(wrapped, over.alloc, name, got),
+        _ => return to_end(wrapped, over.alloc, name, got),
+    }
+    Ok(())
+}
+
+/// Appends the answer of the last draw, or `none`.
+pub fn push_last(last: Option<Result<Drawn, Refusal>>, got: &mut Got) {
+    match last {
+        Some(drawn) => got.answer(drawn),
+        None => got.text("none"),
     }
 }
 
@@ -244,7 +255,12 @@ pub fn push_item(item: Option<u8>, got: &mut Got) {
 }
 
 /// The rest, or a line of it.
-fn to_end<P: Moves + Drop>(wrapped: &mut Wrapped<P>, alloc: Global, name: &str, got: &mut Got) {
+fn to_end<P: Moves + Drop>(
+    wrapped: &mut Wrapped<P>,
+    alloc: Global,
+    name: &str,
+    got: &mut Got,
+) -> Result<(), Bad> {
     let mut text = String::new(alloc);
     let mut bytes = Vec::new(alloc);
     match name {
@@ -252,9 +268,10 @@ fn to_end<P: Moves + Drop>(wrapped: &mut Wrapped<P>, alloc: Global, name: &str, 
         "read_line" => push_number(wrapped.read_line(&mut text), got),
         "read_to_end" => push_number(wrapped.read_to_end(&mut bytes), got),
         "copy" => push_number(io::copy(wrapped, &mut bytes), got),
-        _ => return got.bad(Bad::Step),
+        _ => return Err(Bad::Step),
     }
     got.text(" ");
     got.text(text.as_str());
     got.bytes(&bytes);
+    Ok(())
 }

@@ -1,5 +1,6 @@
 //! The moments of clocks of bars and boards: moments in a row, which may also go back, and then steps.
 use indicatif::{Clock, Moment, StepClock};
+use scripts::got::Bad;
 use scripts::row::Words;
 
 /// A number of readings of a clock at one moment.
@@ -42,13 +43,13 @@ impl Clock for RowClock {
 }
 
 /// The readings of words: the number, and the moment, of each.
-pub fn moments_of(words: &mut Words<'_>) -> Told {
+pub fn moments_of(words: &mut Words<'_>) -> Result<Told, Bad> {
     let mut told = [Readings::default(); 4];
     for readings in &mut told {
         if !words.rest().is_empty() {
-            readings.count = words.number();
-            readings.moment = words.number();
+            readings.count = words.number()?;
+            readings.moment = words.number()?;
         }
     }
-    told
+    Ok(told)
 }

@@ -22,9 +22,7 @@ impl Counted {
 
     /// Appends its position, and how many moves it made.
     pub fn push(&self, got: &mut Got) {
-        got.number(self.position);
-        got.text(" ");
-        got.number(self.moves);
+        got.number(format_args!("{} {}", self.position, self.moves));
     }
 }
 

@@ -4,7 +4,7 @@
 //! for a target of this size there. A stream that is no terminal has `not` before its variables.
 use indicatif::machine::{StreamTerm, facts_of, on_stream, sized_target, wants_colors};
 use indicatif::{Facts, ProgressDrawTarget, TermLike};
-use scripts::got::Got;
+use scripts::got::{Bad, Got};
 use scripts::row::Words;
 use scripts::spelling::unescaped_bytes;
 use std::alloc::Global;
@@ -106,55 +106,36 @@ impl Write for Stream {
     }
 }
 
-/// Appends the facts of an environment.
-pub fn said(alloc: Global, rest: &str, got: &mut Got) {
-    let told = Told { words: rest, alloc };
-    match facts_of(&(told, alloc), &Stream::of(alloc, rest)) {
-        Ok(facts) => push_facts(&facts, got),
-        Err(error) => got.bad(error.into()),
+/// Appends what a question asks of an environment; whether the step with this name is one.
+pub fn asked(alloc: Global, name: &str, rest: &str, got: &mut Got) -> Result<bool, Bad> {
+    let rt = (Told { words: rest, alloc }, alloc);
+    let stream = Stream::of(alloc, rest);
+    match name {
+        "environment" => push_facts(&facts_of(&rt, &stream)?, got),
+        "colours" => got.flag(wants_colors(&rt, &stream)?),
+        "stream" => push_target(on_stream(&rt, stream)?.target, got),
+        "sized" => push_sized(alloc, rest, got)?,
+        _ => return Ok(false),
     }
-}
-
-/// Appends whether an environment wants colours.
-pub fn wants(alloc: Global, rest: &str, got: &mut Got) {
-    let told = Told { words: rest, alloc };
-    match wants_colors(&(told, alloc), &Stream::of(alloc, rest)) {
-        Ok(colours) => got.flag(colours),
-        Err(error) => got.bad(error.into()),
-    }
-}
-
-/// Appends the setup of a bar on a stream.
-pub fn opens(alloc: Global, rest: &str, got: &mut Got) {
-    let told = Told { words: rest, alloc };
-    match on_stream(&(told, alloc), Stream::of(alloc, rest)) {
-        Ok(setup) => push_target(setup.target, got),
-        Err(error) => got.bad(error.into()),
-    }
+    Ok(true)
 }
 
 /// Appends a target on a stream with a given size.
-pub fn sizes(alloc: Global, rest: &str, got: &mut Got) {
+fn push_sized(alloc: Global, rest: &str, got: &mut Got) -> Result<(), Bad> {
     let mut words = Words::of(rest);
-    let (rows, cols): (u16, u16) = (words.number(), words.number());
-    let rest = words.rest();
-    if let Err(bad) = words.done(()) {
-        return got.bad(bad);
-    }
-    let told = Told { words: rest, alloc };
-    match sized_target(&(told, alloc), Stream::of(alloc, rest), rows, cols) {
-        Ok(target) => push_target(target, got),
-        Err(error) => got.bad(error.into()),
-    }
+    let (rows, cols) = (words.number()?, words.number()?);
+    let words = words.rest();
+    let stream = Stream::of(alloc, words);
+    let target = sized_target(&(Told { words, alloc }, alloc), stream, rows, cols)?;
+    push_target(target, got);
+    Ok(())
 }
 
 /// Appends a target's size, and who ends full rows there.
 fn push_target(target: ProgressDrawTarget<StreamTerm<Stream>>, got: &mut Got) {
     match target.into_term() {
         Some(mut term) => {
-            got.number(term.height());
-            got.text(" ");
-            got.number(term.width());
+            got.number(format_args!("{} {}", term.height(), term.width()));
             got.text(match turns_wrap_off(&mut term) {
                 Ok(true) => " program",
                 Ok(false) => " terminal",
@@ -174,17 +155,10 @@ fn turns_wrap_off(term: &mut StreamTerm<Stream>) -> io::Result<bool> {
 }
 
 fn push_facts(facts: &Facts, got: &mut Got) {
-    got.number(facts.rows);
-    got.text(" ");
-    got.number(facts.cols);
-    got.text(" ");
+    got.number(format_args!("{} {} ", facts.rows, facts.cols));
     got.flag(facts.attended);
     match &facts.term {
-        Some(kind) => {
-            got.text(" \"");
-            got.text(kind.as_str());
-            got.text("\"");
-        }
+        Some(kind) => got.number(format_args!(" \"{}\"", kind.as_str())),
         None => got.text(" none"),
     }
 }

@@ -34,10 +34,11 @@ use crate::front::history::{Answered, Look, Question, shown};
 use crate::front::readings::read;
 use crate::front::scripted::script_of;
 use crate::front::tell::{Told, tell};
+use indicatif::machine::Shares;
 use indicatif::{Drawn, MultiProgressAlignment, ProgressBar, ProgressDrawTarget, Refusal};
 use scripts::got::{Bad, Got};
 use scripts::row::{Words, headed};
-use scripts::spelling::{flag, number, unescaped};
+use scripts::spelling::{flag, number, optional, unescaped};
 use std::alloc::Global;
 use std::random::RandomSource;
 use std::sync::Wait;
@@ -50,7 +51,7 @@ struct Wrapped<R: Wait + Copy + Clone + Drop>(Box<Over<Front<R>>>);
 
 /// Boards and owners of bars, and the wrapped value of one of these bars. That is separate: a step without it is proved without it.
 #[derive(Drop)]
-pub struct World<R: Wait + Copy + Clone + Drop> {
+pub struct WithWrapped<R: Wait + Copy + Clone + Drop> {
     fronts: Fronts<R>,
     wrapped: Option<Wrapped<R>>,
 }
@@ -70,13 +71,11 @@ struct Fronts<R: Wait + Copy + Clone + Drop> {
 
 /// The next four words, `ROWS COLS FROM STEP`.
 pub fn room_of(words: &mut Words<'_>) -> Result<Room, Bad> {
-    let (rows, cols) = (words.number(), words.number());
-    let clock = RowClock::stepping(words.number(), words.number());
-    words.done(Room {
-        rows,
-        cols,
+    Ok(Room {
+        rows: words.number()?,
+        cols: words.number()?,
         pace: None,
-        clock,
+        clock: RowClock::stepping(words.number()?, words.number()?),
     })
 }
 
@@ -85,7 +84,7 @@ pub fn begin<R: Wait + Copy + Clone + Drop>(
     rt: R,
     alloc: Global,
     rest: &str,
-) -> Result<Box<World<R>>, Bad> {
+) -> Result<Box<WithWrapped<R>>, Bad> {
     let room = room_of(&mut Words::of(rest))?;
     let fronts = Fronts {
         maker: Maker { rt, alloc, room },
@@ -97,160 +96,110 @@ pub fn begin<R: Wait + Copy + Clone + Drop>(
         answer: Answered::Untold,
         noted: 0,
     };
-    let world = World {
+    let world = WithWrapped {
         fronts,
         wrapped: None,
     };
-    match Box::new(alloc, world) {
-        Ok(world) => Ok(world),
-        Err(_) => Err(Bad::Refused(Refusal::Memory)),
-    }
+    Ok(Box::new(alloc, world)?)
 }
 
 impl<R: Wait + Copy + Clone + Drop> Fronts<R> {
     /// The current board.
-    fn board(&self) -> Option<&FrontBoard<R>> {
+    fn board(&self) -> Result<&FrontBoard<R>, Bad> {
         match self.boards.get(self.on) {
-            Some(board) => Some(&board.0),
-            None => None,
+            Some(board) => Ok(&board.0),
+            None => Err(Bad::Step),
         }
     }
 
     /// The bar of the owner with this number.
-    fn bar(&self, place: &str) -> Option<&Front<R>> {
-        let Ok(place) = number::<usize>(place) else {
-            return None;
-        };
-        match self.bars.get(place) {
-            Some(bar) => Some(&bar.0),
-            None => None,
-        }
-    }
-
-    /// Stores an owner, or appends why there is none.
-    fn store(&mut self, bar: Result<Bar<R>, Bad>, got: &mut Got) {
-        let stored = match bar {
-            Ok(bar) => match self.bars.push(bar) {
-                Ok(()) => Ok(()),
-                Err(_) => Err(Bad::Refused(Refusal::Memory)),
-            },
-            Err(bad) => Err(bad),
-        };
-        if let Err(bad) = stored {
-            got.bad(bad);
+    fn bar(&self, place: &str) -> Result<&Front<R>, Bad> {
+        match self.bars.get(number::<usize>(place)?) {
+            Some(bar) => Ok(&bar.0),
+            None => Err(Bad::Step),
         }
     }
 
     // ---- what is made from now on
 
     /// Sets how bars are made, or the current board.
-    fn sets(&mut self, step: &str, got: &mut Got) {
+    fn sets(&mut self, step: &str) -> Result<(), Bad> {
         let mut words = Words::of(step);
-        let mut room = self.maker.room;
-        let mut on = self.on;
         match words.word() {
             "rate" => {
-                room.pace = Some(Pace {
-                    hz: words.number(),
-                    made: words.number(),
+                self.maker.room.pace = Some(Pace {
+                    hz: words.number()?,
+                    made: words.number()?,
                 });
             }
-            "moments" => room.clock.told = moments_of(&mut words),
-            _ => on = words.last::<usize>().wrapping_sub(1),
+            "moments" => self.maker.room.clock.told = moments_of(&mut words)?,
+            _ => self.on = words.number::<usize>()?.wrapping_sub(1),
         }
-        match words.done(()) {
-            Ok(()) => {
-                self.maker.room = room;
-                self.on = on;
-            }
-            Err(bad) => got.bad(bad),
-        }
+        Ok(())
     }
 
     // ---- boards and owners
 
     /// Adds a board, with or without a history.
-    fn begins(&mut self, is_recorded: bool, got: &mut Got) {
+    fn begins(&mut self, is_recorded: bool) -> Result<(), Bad> {
         let count = self.boards.len();
         let mark = (count as u64).wrapping_add(1);
-        match self.maker.board(mark, is_recorded) {
-            Ok(board) => {
-                self.on = count;
-                if self.boards.push(board).is_err() {
-                    got.bad(Bad::Refused(Refusal::Memory));
-                }
-            }
-            Err(bad) => got.bad(bad),
-        }
+        self.boards.push(self.maker.board(mark, is_recorded)?)?;
+        self.on = count;
+        Ok(())
     }
 
     /// Releases or drops the last owner.
-    fn goes(&mut self, is_released: bool, got: &mut Got) {
+    fn goes(&mut self, is_released: bool) -> Result<(), Bad> {
         self.answer = Answered::Untold;
-        match self.bars.pop() {
-            Some(bar) => match is_released {
-                true => bar.0.release(),
-                false => drop(bar),
-            },
-            None => got.bad(Bad::Step),
+        match (self.bars.pop(), is_released) {
+            (Some(bar), true) => bar.0.release(),
+            (Some(bar), false) => drop(bar),
+            (None, _) => return Err(Bad::Step),
         }
+        Ok(())
     }
 
     /// A bar that stands alone, or another owner, if the step asks for one.
-    fn coming(&self, step: &str) -> Option<Result<Bar<R>, Bad>> {
-        Some(match (step, step.split_once(' ')) {
-            ("hidden_bar", _) => {
-                let maker = &self.maker;
-                Bar::given(ProgressBar::hidden(maker.rt, maker.alloc, maker.room.clock))
-            }
-            ("upgrade", _) => match self.weak.upgrade() {
-                Ok(Some(bar)) => Ok(bar),
-                Ok(None) => Err(Bad::Step),
-                Err(bad) => Err(bad),
+    fn coming(&self, step: &str) -> Result<Option<Bar<R>>, Bad> {
+        let Maker { rt, alloc, room } = &self.maker;
+        Ok(Some(match headed(step) {
+            ("hidden_bar", "") => Bar(ProgressBar::hidden(*rt, *alloc, room.clock)?),
+            ("upgrade", "") => match self.weak.upgrade()? {
+                Some(bar) => bar,
+                None => return Err(Bad::Step),
             },
-            (_, Some(("alone", text))) => self.maker.saying(text),
-            (_, Some(("bar", rest))) => self.styled(rest),
-            (_, Some(("own", place))) => self.another(place),
-            (_, Some(("made", rest))) => self.made(rest),
-            _ => return None,
-        })
-    }
-
-    fn styled(&self, rest: &str) -> Result<Bar<R>, Bad> {
-        let mut words = Words::of(rest);
-        let len = words.optional();
-        let template = words.text(self.maker.alloc)?;
-        self.maker.bar(len, template.as_str())
+            ("alone", text) => self.maker.saying(text)?,
+            ("bar", rest) => {
+                let (len, template) = headed(rest);
+                let template = unescaped(*alloc, template)?;
+                self.maker.bar(optional(len)?, template.as_str())?
+            }
+            ("own", place) => self.another(place)?,
+            ("made", rest) => self.made(rest)?,
+            _ => return Ok(None),
+        }))
     }
 
     /// A bar made in one of the ways.
     fn made(&self, rest: &str) -> Result<Bar<R>, Bad> {
-        let mut words = Words::of(rest);
-        let (way, len) = (words.word(), words.optional());
-        let len = words.done(len)?;
-        match (way, len, self.board()) {
-            ("board", Some(len), Some(board)) => Bar::given(board.new_bar(len)),
-            ("board", None, Some(board)) => Bar::given(board.new_spinner()),
-            _ => self.maker.made(way, len),
+        let (way, len) = headed(rest);
+        match (way, optional(len)?) {
+            ("board", Some(len)) => Ok(Bar(self.board()?.new_bar(len)?)),
+            ("board", None) => Ok(Bar(self.board()?.new_spinner()?)),
+            (way, len) => self.maker.made(way, len),
         }
     }
 
     /// Another owner of the same bar.
     fn another(&self, place: &str) -> Result<Bar<R>, Bad> {
-        let Some(bar) = self.bar(place) else {
-            return Err(Bad::Step);
-        };
-        let other: Result<_, _> = bar.clone();
-        match other {
-            Ok(bar) => Ok(Bar(bar)),
-            Err(_) => Err(Bad::Refused(Refusal::Memory)),
-        }
+        Ok(Bar(self.bar(place)?.clone()?))
     }
 
     // ---- insertions
 
-    /// Inserts a bar.
-    fn takes_in(&mut self, step: &str, got: &mut Got) {
+    /// Inserts a bar, whose owner comes back from the board.
+    fn takes_in(&mut self, step: &str, got: &mut Got) -> Result<(), Bad> {
         let mut words = Words::of(step);
         let name = words.word();
         let place = match name {
@@ -258,14 +207,10 @@ impl<R: Wait + Copy + Clone + Drop> Fronts<R> {
             "insert" | "back" | "before" | "after" => words.word(),
             _ => return self.settles(step, got),
         };
-        let taken = match self.entrant(words.rest()) {
-            Ok(bar) => self.taken((name, place), bar),
-            Err(bad) => Err(bad),
-        };
-        if taken.is_ok() {
-            self.answer = Answered::Answer(Ok(Drawn::Limited));
-        }
-        self.store(taken, got);
+        let bar = self.entrant(words.rest())?;
+        let bar = self.taken((name, place), bar)?;
+        self.answer = Answered::Answer(Ok(Drawn::Limited));
+        Ok(self.bars.push(bar)?)
     }
 
     /// The bar of a word.
@@ -282,46 +227,32 @@ impl<R: Wait + Copy + Clone + Drop> Fronts<R> {
 
     /// The owner that comes back from the board.
     fn taken(&self, (name, place): (&str, &str), bar: Bar<R>) -> Result<Bar<R>, Bad> {
-        let Some(board) = self.board() else {
-            return Err(Bad::Step);
+        let board = self.board()?;
+        let given = match name {
+            "insert" => board.insert(number(place)?, bar.0),
+            "back" => board.insert_from_back(number(place)?, bar.0),
+            "before" => board.insert_before(self.bar(place)?, bar.0),
+            "after" => board.insert_after(self.bar(place)?, bar.0),
+            _ => board.add(bar.0),
         };
-        let given = match (name, number(place), self.bar(place)) {
-            ("insert", Ok(index), _) => board.insert(index, bar.0),
-            ("back", Ok(count), _) => board.insert_from_back(count, bar.0),
-            ("before", _, Some(anchor)) => board.insert_before(anchor, bar.0),
-            ("after", _, Some(anchor)) => board.insert_after(anchor, bar.0),
-            ("add", _, _) => board.add(bar.0),
-            _ => return Err(Bad::Step),
-        };
-        Bar::given(given)
+        Ok(Bar(given?))
     }
 
     // ---- calls of a board
 
     /// A call of the board that neither draws nor lends.
-    fn settles(&mut self, step: &str, got: &mut Got) {
-        let Some(board) = self.board() else {
-            return got.bad(Bad::Step);
-        };
-        let (name, word) = headed(step);
-        let answer = match name {
-            "top" => board.set_alignment(MultiProgressAlignment::Top),
-            "bottom" => board.set_alignment(MultiProgressAlignment::Bottom),
-            "turn" | "hide" => match self.turned_to(name == "hide") {
-                Ok(target) => board.set_draw_target(target),
-                Err(refusal) => return got.bad(Bad::Refused(refusal)),
-            },
-            "move" => match flag(word) {
-                Ok(on) => board.set_move_cursor(on),
-                Err(bad) => return got.bad(bad),
-            },
-            "remove" => match self.bar(word) {
-                Some(bar) => board.remove(bar),
-                None => return got.bad(Bad::Step),
-            },
+    fn settles(&mut self, step: &str, got: &mut Got) -> Result<(), Bad> {
+        let board = self.board()?;
+        let settled = match headed(step) {
+            ("top", "") => board.set_alignment(MultiProgressAlignment::Top),
+            ("bottom", "") => board.set_alignment(MultiProgressAlignment::Bottom),
+            ("turn", "") => board.set_draw_target(self.target()?),
+            ("hide", "") => board.set_draw_target(ProgressDrawTarget::hidden()),
+            ("move", word) => board.set_move_cursor(flag(word)?),
+            ("remove", place) => board.remove(self.bar(place)?),
             _ => return self.draws(step, got),
         };
-        match answer {
+        match settled {
             Ok(()) => {
                 self.answer = Answered::Answer(Ok(Drawn::Limited));
                 got.text("done");
@@ -331,23 +262,19 @@ impl<R: Wait + Copy + Clone + Drop> Fronts<R> {
                 got.refusal(refusal);
             }
         }
+        Ok(())
     }
 
-    /// Another target, or a hidden one.
-    fn turned_to(&self, is_hidden: bool) -> Result<Target, Refusal> {
-        match is_hidden {
-            true => Ok(ProgressDrawTarget::hidden()),
-            false => self.maker.room.target(self.maker.alloc),
-        }
+    /// Another target.
+    fn target(&self) -> Result<Target, Refusal> {
+        self.maker.room.target(self.maker.alloc)
     }
 
     /// Reads the board, or makes a call of it that draws.
-    fn draws(&mut self, step: &str, got: &mut Got) {
-        let Some(board) = self.board() else {
-            return got.bad(Bad::Step);
-        };
+    fn draws(&mut self, step: &str, got: &mut Got) -> Result<(), Bad> {
+        let board = self.board()?;
         match step {
-            "shows" => push_contents(board.with_term(contents), got),
+            "shows" => push_contents(board.with_term(contents), got)?,
             "hidden" => got.flag(board.is_hidden()),
             "order" => {
                 shown(board, self.look(Question::Order), got);
@@ -356,57 +283,43 @@ impl<R: Wait + Copy + Clone + Drop> Fronts<R> {
                 shown(board, self.look(Question::Moments), got);
             }
             _ => {
-                let told = self.board_told(step);
+                let told = self.board_told(step)?;
                 self.answered(told, got);
             }
         }
+        Ok(())
     }
 
     /// Keeps the answer of a call, and appends it.
-    fn answered(&mut self, told: Result<Told, Bad>, got: &mut Got) {
-        match told {
-            Ok(told) => {
-                self.answer = Answered::Answer(told);
-                got.answer(told);
-            }
-            Err(bad) => got.bad(bad),
-        }
+    fn answered(&mut self, told: Told, got: &mut Got) {
+        self.answer = Answered::Answer(told);
+        got.answer(told);
     }
 
     /// The answer of a call of the board that draws.
     fn board_told(&self, step: &str) -> Result<Told, Bad> {
-        let Some(board) = self.board() else {
-            return Err(Bad::Step);
-        };
-        match (step, step.strip_prefix("log ")) {
-            ("clear", _) => Ok(board.clear()),
-            ("suspend", _) => Ok(board.suspend(|| ()).1),
-            (_, Some(text)) => match unescaped(self.maker.alloc, text) {
-                Ok(text) => Ok(board.println(text.as_str())),
-                Err(bad) => Err(bad),
-            },
-            (_, None) => Err(Bad::Step),
+        let board = self.board()?;
+        match headed(step) {
+            ("clear", "") => Ok(board.clear()),
+            ("suspend", "") => Ok(board.suspend(|| ()).1),
+            ("log", text) => {
+                let text = unescaped(self.maker.alloc, text)?;
+                Ok(board.println(text.as_str()))
+            }
+            _ => Err(Bad::Step),
         }
     }
 
     /// The answer of a call of a bar.
     fn bar_told(&self, place: &str, rest: &str) -> Result<Told, Bad> {
-        let Some(bar) = self.bar(place) else {
-            return Err(Bad::Step);
-        };
-        match (rest, rest.strip_prefix("as ")) {
-            ("target", _) => match self.turned_to(false) {
-                Ok(target) => Ok(bar.set_draw_target(target)),
-                Err(refusal) => Err(Bad::Refused(refusal)),
-            },
-            (_, Some(other)) => match self.bar(other) {
-                Some(other) => Ok(match other.style() {
-                    Ok(style) => bar.set_style(style),
-                    Err(refusal) => Err(refusal),
-                }),
-                None => Err(Bad::Step),
-            },
-            (_, None) => tell(bar, self.maker.alloc, rest),
+        let bar = self.bar(place)?;
+        match headed(rest) {
+            ("target", "") => Ok(bar.set_draw_target(self.target()?)),
+            ("as", other) => Ok(match self.bar(other)?.style() {
+                Ok(style) => bar.set_style(style),
+                Err(refusal) => Err(refusal),
+            }),
+            _ => tell(bar, self.maker.alloc, rest),
         }
     }
 
@@ -421,30 +334,23 @@ impl<R: Wait + Copy + Clone + Drop> Fronts<R> {
     }
 
     /// The calls that the history has gained since it was last read.
-    fn push_added(&mut self, got: &mut Got) {
+    fn push_added(&mut self, got: &mut Got) -> Result<(), Bad> {
         let question = Question::Added {
             from: self.looked_at,
             answer: self.answer,
         };
-        match self.board() {
-            Some(board) => self.looked_at = shown(board, self.look(question), got),
-            None => got.bad(Bad::Step),
-        }
+        self.looked_at = shown(self.board()?, self.look(question), got);
+        Ok(())
     }
 
     /// A call of a bar or of the board, whose answer is that of the entry that it adds.
-    fn adds_by(&mut self, step: &str, got: &mut Got) {
+    fn adds_by(&mut self, step: &str, got: &mut Got) -> Result<(), Bad> {
         let told = match step.split_once(": ") {
-            Some((place, rest)) => self.bar_told(place, rest),
-            None => self.board_told(step),
+            Some((place, rest)) => self.bar_told(place, rest)?,
+            None => self.board_told(step)?,
         };
-        match told {
-            Ok(told) => {
-                self.answer = Answered::Answer(told);
-                self.push_added(got);
-            }
-            Err(bad) => got.bad(bad),
-        }
+        self.answer = Answered::Answer(told);
+        self.push_added(got)
     }
 }
 
@@ -452,9 +358,7 @@ impl<R: AllocGlobal + RandomSource + Wait + Copy + Clone + Drop> Fronts<R> {
     /// The value that a bar wraps by the call with this name.
     fn wrapped_by(&self, name: &str, rest: &str) -> Result<Wrapped<R>, Bad> {
         let (place, script) = headed(rest);
-        let Some(bar) = self.bar(place) else {
-            return Err(Bad::Step);
-        };
+        let bar = self.bar(place)?;
         let inner = script_of(self.maker.alloc, script)?;
         let wrapped = match name {
             "wrap_iter" => bar.wrap_iter(inner),
@@ -465,113 +369,92 @@ impl<R: AllocGlobal + RandomSource + Wait + Copy + Clone + Drop> Fronts<R> {
             "wrap_async_write" => bar.wrap_async_write(inner),
             _ => return Err(Bad::Step),
         };
-        let over = match wrapped {
-            Ok(wrapped) => passed_over(&self.maker.rt, self.maker.alloc, wrapped),
-            Err(_) => Err(Bad::Refused(Refusal::Memory)),
-        };
-        match over {
-            Ok(over) => Ok(Wrapped(over)),
-            Err(bad) => Err(bad),
-        }
+        let over = passed_over(&self.maker.rt, self.maker.alloc, wrapped?)?;
+        Ok(Wrapped(over))
     }
 }
 
-impl<
-    R: AllocGlobal + RandomSource + Wait + Threads + Clock + Copy + Clone + Drop + Send + 'static,
-> World<R> {
+impl<R: Shares + RandomSource> WithWrapped<R> {
     /// Makes a step, or reads something.
-    pub fn step(&mut self, step: &str, got: &mut Got) {
+    pub fn step(&mut self, step: &str, got: &mut Got) -> Result<(), Bad> {
         let (name, rest) = headed(step);
-        match name {
-            "|" => match &mut self.wrapped {
-                Some(wrapped) => asks(&mut wrapped.0, rest, got),
-                None => got.bad(Bad::Step),
-            },
-            _ if name.starts_with("wrap_") => match self.fronts.wrapped_by(name, rest) {
-                Ok(wrapped) => self.wrapped = Some(wrapped),
-                Err(bad) => got.bad(bad),
-            },
-            _ => self.fronts.step(step, got),
+        if name.starts_with("wrap_") {
+            self.wrapped = Some(self.fronts.wrapped_by(name, rest)?);
+            return Ok(());
+        }
+        if name != "|" {
+            return self.fronts.step(step, got);
+        }
+        match &mut self.wrapped {
+            Some(wrapped) => asks(&mut wrapped.0, rest, got),
+            None => Err(Bad::Step),
         }
     }
 }
 
-impl<
-    R: AllocGlobal + RandomSource + Wait + Threads + Clock + Copy + Clone + Drop + Send + 'static,
-> Fronts<R> {
+impl<R: Shares + RandomSource> Fronts<R> {
     /// Makes a step without the wrapped value. Unknown steps go to `takes_in`, then to `settles`, and then to `draws`.
-    fn step(&mut self, step: &str, got: &mut Got) {
+    fn step(&mut self, step: &str, got: &mut Got) -> Result<(), Bad> {
         let (name, rest) = headed(step);
         match step.split_once(": ") {
             Some((place, call)) if name != "adds" => return self.of_bar(place, call, got),
             _ => (),
         }
         match name {
-            "board" | "recorded" => self.begins(name == "recorded", got),
-            "release" | "drop" => self.goes(name == "release", got),
-            "adds" if rest.is_empty() => self.push_added(got),
-            "adds" => self.adds_by(rest, got),
-            "history_rests" => self.history_rests(got),
-            "rate" | "moments" | "on" => self.sets(step, got),
+            "board" | "recorded" => self.begins(name == "recorded")?,
+            "release" | "drop" => self.goes(name == "release")?,
+            "adds" if rest.is_empty() => self.push_added(got)?,
+            "adds" => self.adds_by(rest, got)?,
+            "history_rests" => self.history_rests(got)?,
+            "rate" | "moments" | "on" => self.sets(step)?,
             "never" => self.weak = Weak::never(),
-            "upgrades" => match self.weak.upgrade() {
-                Ok(bar) => got.flag(bar.is_some()),
-                Err(bad) => got.bad(bad),
-            },
-            "weak" => match self.bar(rest) {
-                Some(bar) => match Weak::of(bar) {
-                    Ok(weak) => self.weak = weak,
-                    Err(bad) => got.bad(bad),
-                },
-                None => got.bad(Bad::Step),
-            },
-            _ => match self.coming(step) {
-                Some(bar) => self.store(bar, got),
-                None => self.takes_in(step, got),
+            "upgrades" => got.flag(self.weak.upgrade()?.is_some()),
+            "weak" => self.weak = Weak::of(self.bar(rest)?)?,
+            _ => match self.coming(step)? {
+                Some(bar) => self.bars.push(bar)?,
+                None => self.takes_in(step, got)?,
             },
         }
+        Ok(())
     }
 
     /// Sets a bar's ticker, reads the bar, or makes a call of it.
-    fn of_bar(&mut self, place: &str, rest: &str, got: &mut Got) {
+    fn of_bar(&mut self, place: &str, rest: &str, got: &mut Got) -> Result<(), Bad> {
         let rt = &self.maker.rt;
-        match (self.bar(place), rest, rest.split_once(' ')) {
-            (None, _, _) => got.bad(Bad::Step),
-            (Some(bar), "note", _) => self.noted = bar.ticks(),
-            (Some(bar), "ticks_since", _) => got.number(bar.ticks().wrapping_sub(self.noted)),
-            (Some(bar), "rests", _) => got.flag(rests(rt, bar, 1)),
-            (Some(bar), "comes_to_rest", _) => got.flag(rests(rt, bar, 500)),
-            (Some(bar), _, Some(("ticks_past", ticks))) => match number::<u64>(ticks) {
-                Ok(ticks) => got.flag(ticks_past(rt, bar, ticks.saturating_add(self.noted))),
-                Err(bad) => got.bad(bad),
-            },
-            (Some(bar), _, Some(("ticker", nanos))) => match set_ticker(bar, nanos) {
-                Ok(()) => self.answer = Answered::Untold,
-                Err(bad) => got.bad(bad),
-            },
-            (Some(bar), _, _) => {
-                if !read(bar, rest, got) {
-                    let told = self.bar_told(place, rest);
+        let bar = self.bar(place)?;
+        match headed(rest) {
+            ("note", "") => self.noted = bar.ticks(),
+            ("ticks_since", "") => got.number(bar.ticks().wrapping_sub(self.noted)),
+            ("rests", "") => got.flag(rests(rt, bar, 1)),
+            ("comes_to_rest", "") => got.flag(rests(rt, bar, 500)),
+            ("ticks_past", ticks) => {
+                let before = number::<u64>(ticks)?.saturating_add(self.noted);
+                got.flag(ticks_past(rt, bar, before));
+            }
+            ("ticker", nanos) => {
+                set_ticker(bar, nanos)?;
+                self.answer = Answered::Untold;
+            }
+            _ => {
+                if !read(bar, rest, got)? {
+                    let told = self.bar_told(place, rest)?;
                     self.answered(told, got);
                 }
             }
         }
+        Ok(())
     }
 }
 
 impl<R: Wait + Clock + Copy + Clone + Drop> Fronts<R> {
     /// Whether nothing is added to the board's history for 50 milliseconds.
-    fn history_rests(&self, got: &mut Got) {
-        match self.board() {
-            Some(board) => {
-                let mut unsaid = Got::new(self.maker.alloc);
-                let before = shown(board, self.look(Question::Order), &mut unsaid);
-                pause(&self.maker.rt);
-                let after = shown(board, self.look(Question::Order), &mut unsaid);
-                got.flag(after == before);
-            }
-            None => got.bad(Bad::Step),
-        }
+    fn history_rests(&self, got: &mut Got) -> Result<(), Bad> {
+        let board = self.board()?;
+        let mut unsaid = Got::new(self.maker.alloc);
+        let before = shown(board, self.look(Question::Order), &mut unsaid);
+        pause(&self.maker.rt);
+        got.flag(shown(board, self.look(Question::Order), &mut unsaid) == before);
+        Ok(())
     }
 }
 
@@ -587,15 +470,11 @@ fn set_ticker<R: Wait + Threads + Clock + Copy + Clone + Drop + Send + 'static>(
     bar: &Front<R>,
     nanos: &str,
 ) -> Result<(), Bad> {
-    let set = match (nanos, number(nanos)) {
-        ("off", _) => bar.disable_steady_tick(),
-        (_, Ok(nanos)) => bar.enable_steady_tick(nanos),
-        (_, Err(bad)) => return Err(bad),
-    };
-    match set {
-        Ok(()) => Ok(()),
-        Err(refusal) => Err(Bad::Refused(refusal)),
+    match nanos {
+        "off" => bar.disable_steady_tick()?,
+        _ => bar.enable_steady_tick(number(nanos)?)?,
     }
+    Ok(())
 }
 
 /// Whether the bar has ticked more often than the given number, at the latest after 10,000 readings a millisecond apart.

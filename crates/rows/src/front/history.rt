@@ -2,10 +2,9 @@
 use crate::front::bars::{FrontBoard, Room};
 use crate::front::entries::push_call;
 use crate::front::tell::Told;
-use indicatif::{
-    Answer, Board, Drawn, Entry, InMemoryTerm, NoTracker, RecordReader, Recorded, Refusal,
-};
+use indicatif::{Answer, Drawn, Entry, InMemoryTerm, NoTracker, RecordReader, Recorded, Refusal};
 use scripts::got::Got;
+use scripts::replay::is_one_run;
 use std::alloc::Global;
 use std::sync::Wait;
 
@@ -72,7 +71,14 @@ impl RecordReader<InMemoryTerm, NoTracker> for Look {
 fn answer(look: &Look, record: &Recorded<NoTracker, InMemoryTerm>, said: &mut Got) -> usize {
     match look.question {
         Question::Order => said.numbers(record.board().order()),
-        Question::Moments => push_moments(record.entries(), said),
+        Question::Moments => {
+            let mut parting = "";
+            for entry in record.entries() {
+                said.text(parting);
+                said.number(entry.now);
+                parting = " ";
+            }
+        }
         Question::Added { from, answer } => {
             let added = record.entries().get(from..).unwrap_or(&[]);
             let mut parting = "";
@@ -92,76 +98,19 @@ fn answer(look: &Look, record: &Recorded<NoTracker, InMemoryTerm>, said: &mut Go
     record.entries().len()
 }
 
-/// Appends the moments of calls, separated by spaces.
-fn push_moments(entries: &[Entry<NoTracker>], said: &mut Got) {
-    let mut parting = "";
-    for entry in entries {
-        said.text(parting);
-        said.number(entry.now);
-        parting = " ";
-    }
-}
-
 /// Whether a call had this answer; one that neither draws nor is refused counts as `Limited`.
 fn is_answered(entry: Option<&Entry<NoTracker>>, wanted: Answered) -> bool {
     let (Some(entry), Answered::Answer(wanted)) = (entry, wanted) else {
         return true;
     };
     match &entry.answer {
-        Answer::Id(_) | Answer::Done => wanted == Ok(Drawn::Limited),
+        Answer::Id(_) | Answer::Accepted => wanted == Ok(Drawn::Limited),
         Answer::Drawn(drawn) => wanted == Ok(*drawn),
         Answer::Refused(refusal) => wanted == Err(*refusal),
     }
 }
 
-/// A new board.
-#[derive(Drop)]
-struct Fresh(Board<NoTracker, InMemoryTerm>);
-
 /// Whether a new board makes the kept calls with the same answers, and then shows the same rows.
 fn is_replayed(look: &Look, recorded: &Recorded<NoTracker, InMemoryTerm>) -> Result<bool, Refusal> {
-    let target = look.room.target(look.alloc)?;
-    let fresh = Fresh(Board::new(look.alloc, target, recorded.opening().mark));
-    match Box::new(look.alloc, fresh) {
-        Ok(mut fresh) => replays(&mut fresh.0, look.alloc, recorded),
-        Err(_) => Err(Refusal::Memory),
-    }
-}
-
-/// Whether a board makes these calls with the same answers, and then shows the same rows.
-fn replays(
-    fresh: &mut Board<NoTracker, InMemoryTerm>,
-    alloc: Global,
-    recorded: &Recorded<NoTracker, InMemoryTerm>,
-) -> Result<bool, Refusal> {
-    for entry in recorded.entries() {
-        let call = entry.call.try_clone(alloc)?;
-        if fresh.call(call, entry.now) != entry.answer {
-            return Ok(false);
-        }
-    }
-    same_rows(rows_of(fresh.term()), rows_of(recorded.board().term()))
-}
-
-/// The rows of a terminal, those that scrolled away first; none without a terminal.
-pub type Rows = Result<Option<Vec<String>>, Refusal>;
-
-/// The rows of a terminal, if there is one.
-pub fn rows_of(term: Option<&InMemoryTerm>) -> Rows {
-    match term {
-        Some(term) => match term.picture() {
-            Ok(rows) => Ok(Some(rows)),
-            Err(refusal) => Err(refusal),
-        },
-        None => Ok(None),
-    }
-}
-
-/// Whether two terminals show the same rows; two missing ones do.
-pub fn same_rows(one: Rows, other: Rows) -> Result<bool, Refusal> {
-    match (one, other) {
-        (Ok(one), Ok(other)) => Ok(one == other),
-        (Err(refusal), _) => Err(refusal),
-        (_, Err(refusal)) => Err(refusal),
-    }
+    is_one_run(look.alloc, recorded, look.room.target(look.alloc)?)
 }

@@ -2,6 +2,7 @@
 //!
 //! `list POSITION ITEMS`, the items separated by spaces, begins; `next`, `next_back`, `size` (the two bounds and the length), `last`,
 //! `stands`, `finished`, and `unwrap`, which gives the position of the bar that comes back.
+use crate::front::bytes::push_last;
 use crate::front::counted::Counted;
 use indicatif::{ProgressBarIter, ProgressIterator};
 use scripts::got::{Bad, Got};
@@ -30,9 +31,8 @@ pub fn items_of(alloc: Global, words: &str) -> Result<IntoIter<u32>, Bad> {
 /// A list, wrapped.
 pub fn begin(alloc: Global, rest: &str) -> Result<Box<List>, Bad> {
     let mut words = Words::of(rest);
-    let position = words.number();
-    let position = words.done(position)?;
-    let wrapped = items_of(alloc, words.rest())?.progress_with(Counted::at(position));
+    let bar = Counted::at(words.number()?);
+    let wrapped = items_of(alloc, words.rest())?.progress_with(bar);
     let list = List {
         wrapped: Some(wrapped),
     };
@@ -40,45 +40,31 @@ pub fn begin(alloc: Global, rest: &str) -> Result<Box<List>, Bad> {
 }
 
 /// Makes a step, or reads the bar.
-pub fn step(list: &mut List, step: &str, got: &mut Got) {
-    if step == "unwrap" {
-        return unwraps(list, got);
-    }
+pub fn step(list: &mut List, step: &str, got: &mut Got) -> Result<(), Bad> {
     let Some(wrapped) = &mut list.wrapped else {
-        return got.bad(Bad::Step);
+        return Err(Bad::Step);
     };
     match step {
         "next" => push_item(wrapped.next(), got),
         "next_back" => push_item(wrapped.next_back(), got),
-        "size" => {
-            let (least, most) = wrapped.size_hint();
-            got.number(least);
-            got.text(" ");
-            match most {
-                Some(most) => got.number(most),
-                None => got.text("-"),
-            }
-            got.text(" ");
-            got.number(wrapped.len());
-        }
-        "last" => match wrapped.last_draw() {
-            Some(drawn) => got.answer(drawn),
-            None => got.text("none"),
+        "size" => match wrapped.size_hint() {
+            (least, Some(most)) => got.number(format_args!("{least} {most} {}", wrapped.len())),
+            (least, None) => got.number(format_args!("{least} -")),
         },
+        "last" => push_last(wrapped.last_draw(), got),
         "finished" => got.flag(wrapped.progress.finished),
         "stands" => wrapped.progress.push(got),
-        _ => got.bad(Bad::Step),
+        "unwrap" => unwraps(list.wrapped.take(), got),
+        _ => return Err(Bad::Step),
     }
+    Ok(())
 }
 
-fn unwraps(list: &mut List, got: &mut Got) {
-    match list.wrapped.take() {
-        Some(wrapped) => {
-            let (items, bar) = wrapped.into_inner();
-            drop(items);
-            bar.push(got);
-        }
-        None => got.bad(Bad::Step),
+fn unwraps(wrapped: Option<Wrapped>, got: &mut Got) {
+    if let Some(wrapped) = wrapped {
+        let (items, bar) = wrapped.into_inner();
+        drop(items);
+        bar.push(got);
     }
 }
 

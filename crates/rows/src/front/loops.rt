@@ -3,7 +3,8 @@
 //! `loop ROWS COLS FROM STEP HOW: ITEMS` begins, with a clock that starts at `FROM` and advances by `STEP`; `HOW` is `progress`, `count
 //! LEN`, `style TEMPLATE`, or `made` (a bar of length 1 that was made before). Then `next`, `shows`, `last`, `pos`, `len`, `finished`, and
 //! the builders: `with_style TEMPLATE`, `with_prefix TEXT`, `with_message TEXT`, `with_position N`, `with_elapsed N`, `with_finish CALL`.
-use crate::front::bars::Room;
+use crate::front::bars::{contents, push_contents};
+use crate::front::bytes::push_last;
 use crate::front::clock::RowClock;
 use crate::front::fronts::room_of;
 use crate::front::lists::{items_of, push_item};
@@ -22,7 +23,7 @@ use std::vec::IntoIter;
 /// A wrapped list with its own bar.
 type Wrapped = ProgressBarIter<IntoIter<u32>, OwnedBar<NoTracker, InMemoryTerm, RowClock>>;
 
-/// A shared board as a separate type.
+/// A loop as a separate type.
 #[derive(Drop)]
 struct Loop(Wrapped);
 
@@ -66,20 +67,10 @@ fn over(
         How::Progress => items.progress(alloc, setup),
         How::Count(len) => items.progress_count(alloc, len, setup),
         How::Style(style) => items.progress_with_style(alloc, style, setup),
-        How::Made => match BarState::new(alloc, Some(1), 0) {
-            Ok(bar) => {
-                let bar = OwnedBar::new(LoneBar::new(bar, setup.target), setup.clock);
-                Ok(ProgressBarIter::new(items, bar))
-            }
-            Err(refusal) => Err(refusal),
-        },
-    }
-}
-
-fn boxed(alloc: Global, wrapped: Result<Wrapped, Refusal>) -> Result<Box<Loop>, Bad> {
-    match wrapped {
-        Ok(wrapped) => Ok(Box::new(alloc, Loop(wrapped))?),
-        Err(refusal) => Err(Bad::Refused(refusal)),
+        How::Made => {
+            let bar = LoneBar::new(BarState::new(alloc, Some(1), 0)?, setup.target);
+            Ok(ProgressBarIter::new(items, OwnedBar::new(bar, setup.clock)))
+        }
     }
 }
 
@@ -87,65 +78,44 @@ fn boxed(alloc: Global, wrapped: Result<Wrapped, Refusal>) -> Result<Box<Loop>, 
 pub fn begin(alloc: Global, rest: &str) -> Result<Box<Looped>, Bad> {
     let mut words = Words::of(rest);
     let room = room_of(&mut words)?;
-    let wrapped = wrapped(alloc, room, words.rest())?;
-    let looped = Looped {
-        alloc,
-        wrapped: Some(wrapped),
-    };
-    Ok(Box::new(alloc, looped)?)
-}
-
-/// `HOW: ITEMS`, wrapped.
-fn wrapped(alloc: Global, room: Room, text: &str) -> Result<Box<Loop>, Bad> {
-    let (how, items) = text.split_once(": ").unwrap_or((text, ""));
-    let items = items_of(alloc, items)?;
-    let how = how_of(alloc, how)?;
-    let setup = room.setup(alloc)?;
-    boxed(alloc, over(alloc, how, setup, items))
+    let (how, items) = words.rest().split_once(": ").unwrap_or((words.rest(), ""));
+    let (items, how) = (items_of(alloc, items)?, how_of(alloc, how)?);
+    let wrapped = over(alloc, how, room.setup(alloc)?, items)?;
+    let wrapped = Some(Box::new(alloc, Loop(wrapped))?);
+    Ok(Box::new(alloc, Looped { alloc, wrapped })?)
 }
 
 impl Looped {
-    /// Makes a step, or reads the bar.
-    pub fn step(&mut self, step: &str, got: &mut Got) {
-        match (&mut self.wrapped, step.split_once(' ')) {
-            (_, Some(said)) => self.tell(said, got),
-            (Some(wrapped), None) => look(&mut wrapped.0, step, got),
-            (None, None) => got.bad(Bad::Step),
+    /// Makes a step, or reads the bar. A builder that is refused drops the loop.
+    pub fn step(&mut self, step: &str, got: &mut Got) -> Result<(), Bad> {
+        if let Some(said) = step.split_once(' ') {
+            let Some(wrapped) = self.wrapped.take() else {
+                return Err(Bad::Step);
+            };
+            let told = told(Box::into_inner(wrapped).0, said_of(self.alloc, said)?)?;
+            self.wrapped = Some(Box::new(self.alloc, Loop(told))?);
+            return Ok(());
         }
-    }
-
-    /// Calls a builder.
-    fn tell(&mut self, said: (&str, &str), got: &mut Got) {
-        let told = match (self.wrapped.take(), said_of(self.alloc, said)) {
-            (Some(wrapped), Ok(said)) => boxed(self.alloc, told(Box::into_inner(wrapped).0, said)),
-            (None, _) => Err(Bad::Step),
-            (_, Err(bad)) => Err(bad),
-        };
-        match told {
-            Ok(wrapped) => self.wrapped = Some(wrapped),
-            Err(bad) => got.bad(bad),
+        match &mut self.wrapped {
+            Some(wrapped) => look(&mut wrapped.0, step, got),
+            None => Err(Bad::Step),
         }
     }
 }
 
 /// Continues a loop, or reads its bar.
-fn look(wrapped: &mut Wrapped, step: &str, got: &mut Got) {
+fn look(wrapped: &mut Wrapped, step: &str, got: &mut Got) -> Result<(), Bad> {
     match step {
         "next" => push_item(wrapped.next(), got),
-        "shows" => match wrapped.progress.bar().term() {
-            Some(term) => got.text_of(term.contents()),
-            None => got.text("nothing"),
-        },
-        "last" => match wrapped.last_draw() {
-            Some(drawn) => got.answer(drawn),
-            None => got.text("none"),
-        },
+        "shows" => push_contents(contents(wrapped.progress.bar().term()), got)?,
+        "last" => push_last(wrapped.last_draw(), got),
         _ => {
-            if !read_bar(wrapped.progress.bar().bar(), step, 0, got) {
-                got.bad(Bad::Step);
+            if !read_bar(wrapped.progress.bar().bar(), step, 0, got)? {
+                return Err(Bad::Step);
             }
         }
     }
+    Ok(())
 }
 
 /// A builder.

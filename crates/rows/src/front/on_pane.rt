@@ -22,13 +22,13 @@ use std::rc::Rc;
 
 /// The board.
 #[derive(Drop)]
-struct Shown(Board<NoTracker, OwnRows<Term<Wire>>>);
+struct OnOwnRows(Board<NoTracker, OwnRows<Term<Wire>>>);
 
 /// The board, and its pane.
 #[derive(Drop)]
 pub struct OnPane {
     at: At,
-    board: Box<Shown>,
+    board: Box<OnOwnRows>,
     pane: Rc<Pane>,
 }
 
@@ -47,35 +47,23 @@ pub fn begin(alloc: Global, name: &str, rest: &str) -> Result<Box<OnPane>, Bad> 
         _ => OwnRows::new(term),
     };
     let target = ProgressDrawTarget::term_like(term);
-    let board = at.boxed(Shown(Board::new(alloc, target, MARK)))?;
+    let board = at.boxed(OnOwnRows(Board::new(alloc, target, MARK)))?;
     at.boxed(OnPane { at, board, pane })
 }
 
 /// Makes a call of a board, and appends its answer.
-pub fn call<T: TermLike + Drop>(
+fn call<T: TermLike + Drop>(
     board: &mut Board<NoTracker, T>,
     at: At,
     step: &str,
     got: &mut Got,
-) {
-    match answers(board, at, step) {
-        Ok(answers) => {
-            for answer in answers {
-                push_answer(answer, got);
-            }
-        }
-        Err(bad) => got.bad(bad),
-    }
-}
-
-fn answers<T: TermLike + Drop>(
-    board: &mut Board<NoTracker, T>,
-    at: At,
-    step: &str,
-) -> Result<Vec<Answer>, Bad> {
+) -> Result<(), Bad> {
     let call = board_call(at, step)?;
     let calls = vec![in at.alloc; (call, at.now)]?;
-    Ok(board.run(calls)?)
+    for answer in board.run(calls)? {
+        push_answer(answer, got);
+    }
+    Ok(())
 }
 
 impl OnPane {
@@ -85,40 +73,27 @@ impl OnPane {
     }
 
     /// Makes a step, or reads something.
-    pub fn step(&mut self, step: &str, got: &mut Got) {
-        let at = self.at;
-        if self.pane.step(at.alloc, step, got) {
-            return;
+    pub fn step(&mut self, step: &str, got: &mut Got) -> Result<(), Bad> {
+        if self.pane.step(self.at.alloc, step, got)? {
+            return Ok(());
         }
         match headed(step) {
-            ("size" | "target" | "pane", words) => self.resize(step, words, got),
-            _ => call(&mut self.board.0, at, step, got),
+            (name @ ("size" | "target" | "pane"), words) => self.resize(name, size(words)?),
+            _ => call(&mut self.board.0, self.at, step, got),
         }
     }
 
-    /// Gives the board another size or a target of this size, or resizes the pane.
-    fn resize(&mut self, step: &str, words: &str, got: &mut Got) {
-        match (headed(step).0, size(words)) {
-            ("size", Ok((rows, columns))) => got.done(self.board.0.resize(rows, columns)),
-            ("target", Ok((rows, columns))) => self.go_on(rows, columns, got),
-            (_, Ok((rows, columns))) => got.done(self.pane.resize(rows, columns)),
-            (_, Err(bad)) => got.bad(bad),
-        }
-    }
-
-    /// Gives the board a target of this size.
-    fn go_on(&mut self, rows: u16, columns: u16, got: &mut Got) {
-        let pane: Result<_, _> = self.pane.clone();
-        match pane {
-            Ok(pane) => {
-                let term = OwnRows::left_to_terminal(Term::new(Wire(pane), rows, columns));
-                drop(
-                    self.board
-                        .0
-                        .set_draw_target(ProgressDrawTarget::term_like(term)),
-                );
+    /// Gives the board another size or a target of this size, whose rows the terminal ends, or resizes the pane.
+    fn resize(&mut self, name: &str, (rows, columns): (u16, u16)) -> Result<(), Bad> {
+        match name {
+            "size" => self.board.0.resize(rows, columns)?,
+            "pane" => self.pane.resize(rows, columns)?,
+            _ => {
+                let term = Term::new(Wire(self.pane.clone()?), rows, columns);
+                let target = ProgressDrawTarget::term_like(OwnRows::left_to_terminal(term));
+                drop(self.board.0.set_draw_target(target));
             }
-            Err(error) => got.bad(error.into()),
         }
+        Ok(())
     }
 }

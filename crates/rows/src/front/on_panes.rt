@@ -28,9 +28,8 @@ pub struct OnPanes {
 /// Boards without bars.
 pub fn begin(alloc: Global, name: &str, rest: &str) -> Result<Box<OnPanes>, Bad> {
     let mut words = Words::of(rest);
-    let bounds: (u16, u16) = (words.number(), words.number());
+    let (first, last): (u16, u16) = (words.number()?, words.number()?);
     let sizes = words.rest();
-    let (first, last) = words.done(bounds)?;
     let mut boards = Vec::new(alloc);
     for number in first..=last {
         let board = begin_one(alloc, name, sizes, number)?;
@@ -48,12 +47,20 @@ fn begin_one(alloc: Global, name: &str, sizes: &str, number: u16) -> Result<Box<
     on_pane::begin(alloc, "told", sizes.as_str())
 }
 
+/// Makes a step, whose result is all that `given` then has.
+fn make(one: &mut Numbered, step: &str, given: &mut Got) {
+    given.clear();
+    if let Err(bad) = one.board.step(step, given) {
+        given.bad(bad);
+    }
+}
+
 impl OnPanes {
     /// Makes a step of each.
     pub fn step(&mut self, step: &str, got: &mut Got) {
         match headed(step) {
             ("breaks", "") => self.break_all(),
-            ("any", step) => self.make(step),
+            ("any", step) => self.make_any(step),
             _ => self.agree(step, got),
         }
     }
@@ -64,11 +71,10 @@ impl OnPanes {
         }
     }
 
-    fn make(&mut self, step: &str) {
+    fn make_any(&mut self, step: &str) {
         let mut given = Got::new(self.alloc);
         for one in &mut self.boards {
-            given.clear();
-            one.board.step(step, &mut given);
+            make(one, step, &mut given);
         }
     }
 
@@ -78,8 +84,7 @@ impl OnPanes {
         let mut given = Got::new(self.alloc);
         let mut is_first = true;
         for one in &mut self.boards {
-            given.clear();
-            one.board.step(step, &mut given);
+            make(one, step, &mut given);
             if is_first {
                 wanted.text(given.as_str());
             } else if given.as_str() != wanted.as_str() {

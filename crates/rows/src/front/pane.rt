@@ -6,7 +6,7 @@
 use indicatif::{Refusal, Term, width};
 use scripts::got::{Bad, Got};
 use scripts::row::{Words, headed};
-use scripts::screen::{Screen, push_filled};
+use scripts::screen::{Screen, filled, size};
 use scripts::spelling::{number, unescaped};
 use std::alloc::Global;
 use std::cell::{Cell, RefCell};
@@ -45,10 +45,9 @@ impl Pane {
     /// A terminal with one size, on a pane of another: `ROWS COLS on ROWS COLS`.
     pub fn told(alloc: Global, rest: &str) -> Result<(Rc<Pane>, Term<Wire>), Bad> {
         let mut words = Words::of(rest);
-        let told = (words.number(), words.number());
+        let told = (words.number()?, words.number()?);
         words.word();
-        let size = (words.number(), words.last());
-        let (rows, columns) = words.done(size)?;
+        let (rows, columns) = size(words.rest())?;
         let pane = Pane::new(alloc, rows, columns)?;
         let term = Term::new(Wire(pane.clone()?), told.0, told.1);
         Ok((pane, term))
@@ -56,31 +55,24 @@ impl Pane {
 
     /// Makes a step of the pane, or reads it: `others TEXT`, `fails N`, `wraps`, `rows`, `above N`, `clipped N TEXT`, `written`. Whether
     /// the step is one.
-    pub fn step(&self, alloc: Global, step: &str, got: &mut Got) -> bool {
+    pub fn step(&self, alloc: Global, step: &str, got: &mut Got) -> Result<bool, Bad> {
         match headed(step) {
-            ("others", text) => match unescaped(alloc, text) {
-                Ok(text) => {
-                    if self.show(text.as_str()).is_err() {
-                        got.bad(Bad::Step);
-                    }
-                }
-                Err(bad) => got.bad(bad),
+            ("others", text) => match self.show(unescaped(alloc, text)?.as_str()) {
+                Ok(()) => (),
+                Err(_) => return Err(Bad::Step),
             },
-            ("fails", writes) => match number(writes) {
-                Ok(number) => self.fails.set(number),
-                Err(bad) => got.bad(bad),
-            },
+            ("fails", writes) => self.fails.set(number(writes)?),
             ("wraps", "") => got.flag(self.wraps.get()),
-            ("rows", "") => push_filled(self.screen.picture(), got),
-            ("above", count) => self.push_above(count, got),
+            ("rows", "") => got.rows(filled(&self.screen.picture()?)),
+            ("above", count) => {
+                let rows = self.screen.picture()?;
+                got.rows(rows.get(..number(count)?).unwrap_or(&rows));
+            }
             ("written", "") => self.push_written(got),
-            ("clipped", words) => match self.is_clipped(alloc, words) {
-                Ok(is_so) => got.flag(is_so),
-                Err(bad) => got.bad(bad),
-            },
-            _ => return false,
+            ("clipped", words) => got.flag(self.is_clipped(alloc, words)?),
+            _ => return Ok(false),
         }
-        true
+        Ok(true)
     }
 
     /// All bytes.
@@ -90,19 +82,10 @@ impl Pane {
         }
     }
 
-    /// The first rows, as many as given.
-    fn push_above(&self, count: &str, got: &mut Got) {
-        match (number::<usize>(count), self.screen.picture()) {
-            (Ok(count), Ok(rows)) => got.rows(rows.get(..count).unwrap_or(&rows)),
-            (Err(bad), _) => got.bad(bad),
-            (_, Err(refusal)) => got.bad(refusal.into()),
-        }
-    }
-
     /// Whether the rows after the given number are these, each cut before the last column.
     fn is_clipped(&self, alloc: Global, words: &str) -> Result<bool, Bad> {
         let mut words = Words::of(words);
-        let above: usize = words.number();
+        let above: usize = words.number()?;
         let text = words.text(alloc)?;
         let rows = self.screen.picture()?;
         let room = usize::from(self.columns.get().saturating_sub(1));
@@ -282,15 +265,12 @@ impl Write for Wire {
         let buf = buf.get(..taken).unwrap_or(buf);
         let left = self.0.fails.get();
         self.0.fails.set(left.saturating_sub(1));
-        let shown = match str::from_utf8(buf) {
-            _ if left == 1 => Err(Error::from(ErrorKind::BrokenPipe)),
-            Ok(text) => self.0.show(text),
-            Err(_) => Err(Error::from(ErrorKind::InvalidData)),
-        };
-        match shown {
-            Ok(()) => Ok(buf.len()),
-            Err(error) => Err(error),
+        match str::from_utf8(buf) {
+            _ if left == 1 => return Err(Error::from(ErrorKind::BrokenPipe)),
+            Ok(text) => self.0.show(text)?,
+            Err(_) => return Err(Error::from(ErrorKind::InvalidData)),
         }
+        Ok(buf.len())
     }
 
     fn flush(&mut self) -> io::Result<()> {

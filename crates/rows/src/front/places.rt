@@ -4,7 +4,7 @@
 //! begins with neither moves nor seeks: `seek P` and `move P BYTES` give the position that is shown.
 use indicatif::{MaxRingBuf, SeekMax};
 use scripts::got::{Bad, Got};
-use scripts::row::{Words, headed};
+use scripts::row::headed;
 use scripts::spelling::number;
 use std::alloc::Global;
 
@@ -29,18 +29,20 @@ pub fn begin(alloc: Global, rest: &str) -> Result<Box<Places>, Bad> {
 
 impl Places {
     /// Makes a step.
-    pub fn step(&mut self, step: &str, got: &mut Got) {
+    pub fn step(&mut self, step: &str, got: &mut Got) -> Result<(), Bad> {
         let (name, rest) = headed(step);
         let place = match (self, name) {
-            (Places::Ten(places), "put") => greatest(places, rest),
-            (Places::One(places), "put") => greatest(places, rest),
-            (Places::Seeks(seeks), _) => shown(seeks, name, rest),
-            _ => Err(Bad::Step),
+            (Places::Ten(places), "put") => greatest(places, rest)?,
+            (Places::One(places), "put") => greatest(places, rest)?,
+            (Places::Seeks(seeks), "seek") => seeks.update_seek(number(rest)?),
+            (Places::Seeks(seeks), "move") => {
+                let (place, bytes) = headed(rest);
+                seeks.update_seq(number(place)?, number(bytes)?)
+            }
+            _ => return Err(Bad::Step),
         };
-        match place {
-            Ok(place) => got.number(place),
-            Err(bad) => got.bad(bad),
-        }
+        got.number(place);
+        Ok(())
     }
 }
 
@@ -52,14 +54,4 @@ fn greatest<const N: usize>(places: &mut MaxRingBuf<N>, new: &str) -> Result<u64
         }
     }
     Ok(places.max())
-}
-
-fn shown(seeks: &mut SeekMax<5, 10>, name: &str, rest: &str) -> Result<u64, Bad> {
-    let mut words = Words::of(rest);
-    let place = words.number();
-    match (name, words.done(place), number(words.rest())) {
-        ("seek", Ok(place), _) => Ok(seeks.update_seek(place)),
-        ("move", Ok(place), Ok(bytes)) => Ok(seeks.update_seq(place, bytes)),
-        _ => Err(Bad::Step),
-    }
 }

@@ -4,7 +4,7 @@
 //!
 //! - `look @NOW`: the line that is due, with a line end after each row, or `-`.
 //! - Any other step is a command of the bar, and gives nothing.
-use indicatif::{Moment, PlainLines};
+use indicatif::PlainLines;
 use scripts::commands::command;
 use scripts::got::{Bad, Got};
 use scripts::lone::{Bar, bar_of};
@@ -23,41 +23,25 @@ pub struct Plain {
 pub fn begin(alloc: Global, rest: &str) -> Result<Box<Plain>, Bad> {
     let at = At { alloc, now: 0 };
     let mut words = Words::of(rest);
-    let every = words.number();
-    let len = words.optional();
-    let text = words.rest();
-    let bar = bar_of(at, text, words.done(len)?)?;
-    let lines = PlainLines::every(every);
+    let lines = PlainLines::every(words.number()?);
+    let len = words.optional()?;
+    let bar = bar_of(at, words.rest(), len)?;
     at.boxed(Plain { alloc, bar, lines })
 }
 
 impl Plain {
-    /// Makes a command, or asks for a line.
-    pub fn step(&mut self, step: &str, got: &mut Got) {
+    /// Makes a command, or asks for the line that is due.
+    pub fn step(&mut self, step: &str, got: &mut Got) -> Result<(), Bad> {
         let (call, now) = timed(step);
         let now = now.unwrap_or(0);
-        match call {
-            "look" => self.look(now, got),
-            _ => self.obey(call, now, got),
+        if call != "look" {
+            let _ = self.bar.apply(command(self.alloc, call)?, now);
+            return Ok(());
         }
-    }
-
-    /// The line that is due.
-    fn look(&mut self, now: Moment, got: &mut Got) {
-        match self.lines.line_of(&self.bar, now) {
-            Ok(Some(line)) => got.text(line.as_str()),
-            Ok(None) => got.text("-"),
-            Err(refusal) => got.refusal(refusal),
+        match self.lines.line_of(&self.bar, now)? {
+            Some(line) => got.text(line.as_str()),
+            None => got.text("-"),
         }
-    }
-
-    /// Makes a command.
-    fn obey(&mut self, call: &str, now: Moment, got: &mut Got) {
-        match command(self.alloc, call) {
-            Ok(command) => {
-                let _ = self.bar.apply(command, now);
-            }
-            Err(bad) => got.bad(bad),
-        }
+        Ok(())
     }
 }

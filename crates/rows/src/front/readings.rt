@@ -1,16 +1,20 @@
 //! The readings of a bar: `shows`, `message`, `prefix`, `pos`, `len`, `ticks`, `finished`, `hidden`, `tab_width`, `eta`, `duration`,
 //! `elapsed`; and `per_sec`, steps and the nanoseconds that they took.
 use crate::front::bars::{Front, contents, push_contents};
-use scripts::got::Got;
+use scripts::got::{Bad, Got};
 use scripts::lone::push_rate;
 use std::sync::Wait;
 
 /// Reads a bar; whether the text is a reading.
-pub fn read<R: Wait + Copy + Clone + Drop>(bar: &Front<R>, text: &str, got: &mut Got) -> bool {
+pub fn read<R: Wait + Copy + Clone + Drop>(
+    bar: &Front<R>,
+    text: &str,
+    got: &mut Got,
+) -> Result<bool, Bad> {
     match text {
-        "shows" => push_contents(bar.with_term(contents), got),
-        "message" => got.text_of(bar.message()),
-        "prefix" => got.text_of(bar.prefix()),
+        "shows" => push_contents(bar.with_term(contents), got)?,
+        "message" => got.text(bar.message()?.as_str()),
+        "prefix" => got.text(bar.prefix()?.as_str()),
         "pos" => got.number(bar.position()),
         "len" => got.optional(bar.length()),
         "ticks" => got.number(bar.ticks()),
@@ -21,7 +25,7 @@ pub fn read<R: Wait + Copy + Clone + Drop>(bar: &Front<R>, text: &str, got: &mut
         "duration" => got.number(bar.duration()),
         "elapsed" => got.number(bar.elapsed()),
         "per_sec" => push_rate(bar.per_sec(), got),
-        _ => return false,
+        _ => return Ok(false),
     }
-    true
+    Ok(true)
 }

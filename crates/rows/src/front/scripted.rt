@@ -35,16 +35,12 @@ pub struct Scripted {
 /// `TEXT`, `#N` (N bytes that are 0, 1, 2 and so on, modulo 256) or `*N` (N times `x`); after `, ` the effects of the calls.
 pub fn script_of(alloc: Global, rest: &str) -> Result<Scripted, Bad> {
     let (text, answers) = rest.split_once(", ").unwrap_or((rest, ""));
-    match (bytes_of(alloc, text), answers_of(alloc, answers)) {
-        (Ok(bytes), Ok(answers)) => Ok(Scripted {
-            bytes: Cursor::new(bytes),
-            written: Vec::new(alloc),
-            answers,
-            calls: 0,
-        }),
-        (Err(bad), _) => Err(bad),
-        (_, Err(bad)) => Err(bad),
-    }
+    Ok(Scripted {
+        bytes: Cursor::new(bytes_of(alloc, text)?),
+        written: Vec::new(alloc),
+        answers: answers_of(alloc, answers)?,
+        calls: 0,
+    })
 }
 
 fn bytes_of(alloc: Global, text: &str) -> Result<Vec<u8>, Bad> {
@@ -74,17 +70,16 @@ fn answers_of(alloc: Global, words: &str) -> Result<Vec<Answer>, Bad> {
 }
 
 fn answer_of(word: &str) -> Result<Answer, Bad> {
-    match (word, number(word)) {
-        ("pending", _) => Ok(Answer::Pending),
-        ("all", _) => Ok(Answer::Bytes(usize::MAX)),
-        ("interrupted", _) => Ok(Answer::Fails(ErrorKind::Interrupted)),
-        ("reset", _) => Ok(Answer::Fails(ErrorKind::ConnectionReset)),
-        ("broken", _) => Ok(Answer::Fails(ErrorKind::BrokenPipe)),
-        ("full", _) => Ok(Answer::Fails(ErrorKind::StorageFull)),
-        ("timed_out", _) => Ok(Answer::Fails(ErrorKind::TimedOut)),
-        (_, Ok(count)) => Ok(Answer::Bytes(count)),
-        (_, Err(bad)) => Err(bad),
-    }
+    Ok(match word {
+        "pending" => Answer::Pending,
+        "all" => Answer::Bytes(usize::MAX),
+        "interrupted" => Answer::Fails(ErrorKind::Interrupted),
+        "reset" => Answer::Fails(ErrorKind::ConnectionReset),
+        "broken" => Answer::Fails(ErrorKind::BrokenPipe),
+        "full" => Answer::Fails(ErrorKind::StorageFull),
+        "timed_out" => Answer::Fails(ErrorKind::TimedOut),
+        _ => Answer::Bytes(number(word)?),
+    })
 }
 
 /// A failure in a row.

@@ -15,6 +15,7 @@ use indicatif::{
 use scripts::called;
 use scripts::commands::command;
 use scripts::got::Bad;
+use scripts::row::headed;
 use scripts::spelling::{number, unescaped};
 use std::alloc::Global;
 use std::sync::Wait;
@@ -30,33 +31,22 @@ pub fn tell<R: Wait + Copy + Clone + Drop>(
     alloc: Global,
     text: &str,
 ) -> Result<Told, Bad> {
-    match text.split_once(' ') {
-        None if text == "suspend" => Ok(bar.suspend(|| ()).1),
-        None if text == "at_end" => Ok(moved(bar, text, 0)),
-        Some((name @ ("log" | "set_style" | "with_style" | "template"), rest)) => {
-            match unescaped(alloc, rest) {
-                Ok(text) => worded(bar, alloc, name, text.as_str()),
-                Err(bad) => Err(bad),
+    match headed(text) {
+        ("suspend", "") => Ok(bar.suspend(|| ()).1),
+        ("at_end", "") => Ok(moved(bar, text, 0)),
+        (name @ ("log" | "set_style" | "with_style" | "template"), rest) => {
+            worded(bar, alloc, name, unescaped(alloc, rest)?.as_str())
+        }
+        (name @ ("further" | "absorb" | "advance" | "place" | "with_elapsed"), rest) => {
+            numbered(bar, name, number(rest)?)
+        }
+        _ => {
+            let command = command(alloc, text)?;
+            match called!(bar, &command) {
+                Some(told) => Ok(told),
+                None => build(bar, command),
             }
         }
-        Some((name @ ("further" | "absorb" | "advance" | "place" | "with_elapsed"), rest)) => {
-            match number(rest) {
-                Ok(n) => numbered(bar, name, n),
-                Err(bad) => Err(bad),
-            }
-        }
-        _ => match command(alloc, text) {
-            Ok(command) => obeyed(bar, command),
-            Err(bad) => Err(bad),
-        },
-    }
-}
-
-/// Makes a command by the call with its name.
-fn obeyed<R: Wait + Copy + Clone + Drop>(bar: &Front<R>, command: Command) -> Result<Told, Bad> {
-    match called!(bar, &command) {
-        Some(told) => Ok(told),
-        None => build(bar, command),
     }
 }
 

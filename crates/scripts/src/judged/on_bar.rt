@@ -1,6 +1,6 @@
 //! A lone bar that makes the calls of a script.
 use super::on_board::{done, saying};
-use super::played::Stage;
+use super::played::Caller;
 use super::record::Size;
 use super::script::{Said, Step};
 use indicatif_bar::lone::LoneBar;
@@ -27,7 +27,7 @@ impl<T: Resize + Drop> OnBar<T> {
     }
 }
 
-impl<T: Resize + Drop> Stage for OnBar<T> {
+impl<T: Resize + Drop> Caller for OnBar<T> {
     fn make(&mut self, step: Step) -> Said {
         match step {
             Step::Tick(_) => self.bar.tick(0),

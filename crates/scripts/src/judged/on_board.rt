@@ -1,5 +1,5 @@
 //! A board that makes the calls of a script.
-use super::played::Stage;
+use super::played::Caller;
 use super::record::Size;
 use super::script::{Said, Step};
 use indicatif_bar::state::{BarCommand, BarState, ProgressFinish};
@@ -51,9 +51,9 @@ impl<T: Resize + Drop> OnBoard<T> {
 
     /// A board without bars on this terminal, which draws by cursor moves alone.
     pub fn moving(alloc: Global, term: T) -> Result<OnBoard<T>, Refusal> {
-        let mut stage = OnBoard::new(alloc, term)?;
-        stage.board.set_move_cursor(true);
-        Ok(stage)
+        let mut caller = OnBoard::new(alloc, term)?;
+        caller.board.set_move_cursor(true);
+        Ok(caller)
     }
 
     /// Adds a new bar with this message before another, or last.
@@ -111,7 +111,7 @@ impl<T: Resize + Drop> OnBoard<T> {
     }
 }
 
-impl<T: Resize + Drop> Stage for OnBoard<T> {
+impl<T: Resize + Drop> Caller for OnBoard<T> {
     fn make(&mut self, step: Step) -> Said {
         match step {
             Step::Tick(bar) => self.command(bar, BarCommand::Tick),

@@ -7,7 +7,7 @@ use std::alloc::Global;
 use std::io::ErrorKind;
 
 /// Makes the calls of a script.
-pub trait Stage {
+pub trait Caller {
     /// Makes a call.
     fn make(&mut self, step: Step) -> Said;
 
@@ -19,15 +19,15 @@ pub trait Stage {
 ///
 /// A call in which the writer failed answers `BrokenPipe`, and its draw leaves all bars in the order. Any other gives its answer as if
 /// nothing had failed.
-pub fn played<S: Stage>(
-    stage: &mut S,
+pub fn played<S: Caller>(
+    caller: &mut S,
     record: &Record,
     script: &[Step],
     judge: &mut Judge,
 ) -> Result<u64, Finding> {
     let mut failed: u64 = 0;
     for step in script {
-        if is_failing(stage, record, *step, judge)? {
+        if is_failing(caller, record, *step, judge)? {
             failed = failed.saturating_add(1);
         }
     }
@@ -35,20 +35,20 @@ pub fn played<S: Stage>(
 }
 
 /// Makes a call and checks its answer and its rows; whether the writer failed in it.
-fn is_failing<S: Stage>(
-    stage: &mut S,
+fn is_failing<S: Caller>(
+    caller: &mut S,
     record: &Record,
     step: Step,
     judge: &mut Judge,
 ) -> Result<bool, Finding> {
     let before = record.point();
-    let order = copied(judge.alloc, stage.order())?;
-    let said = stage.make(step);
+    let order = copied(judge.alloc, caller.order())?;
+    let said = caller.make(step);
     let has_failed = record.point().failures != before.failures;
     let bytes = record.since(judge.alloc, before)?;
     judge.reads(&bytes, has_failed)?;
     let held = match has_failed {
-        true => failed(said, &order, stage.order()),
+        true => failed(said, &order, caller.order()),
         false => succeeded(said, (step, &bytes), judge),
     };
     held?;

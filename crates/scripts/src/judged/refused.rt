@@ -3,7 +3,7 @@
 //! While a script is played, what its calls do is noted in memory that was taken before. It is judged after the last call, when there is
 //! memory again.
 use super::judge::{Finding, Judge, Look};
-use super::played::{Stage, resized};
+use super::played::{Caller, resized};
 use super::record::{Plan, Point, Record, Size};
 use super::script::{Said, Step};
 use indicatif_text::columns::{Drawn, Refusal};
@@ -11,10 +11,10 @@ use std::alloc::Global;
 use std::io::ErrorKind;
 use std::rc::Rc;
 
-/// Makes stages, each on a terminal with a record.
-pub trait Stages {
-    /// A stage.
-    type Made: Stage + Drop;
+/// Makes callers, each on a terminal with a record.
+pub trait Callers {
+    /// A caller.
+    type Made: Caller + Drop;
 
     /// A new one.
     fn on(&self, record: &Rc<Record>) -> Result<Self::Made, Refusal>;
@@ -28,7 +28,7 @@ pub trait Stages {
 pub enum Where {
     /// No call was refused memory.
     Nowhere,
-    /// The stage wasn't made.
+    /// The caller wasn't made.
     Unmade,
     /// This call answered `Memory`.
     Call(usize),
@@ -56,14 +56,6 @@ struct Note {
     end: usize,
 }
 
-/// Whether there was memory for everything.
-fn found_room(has_found: bool) -> Result<(), Finding> {
-    match has_found {
-        true => Ok(()),
-        false => Err(Finding::Memory),
-    }
-}
-
 /// What the calls of a script did.
 #[derive(Drop)]
 pub struct Notes {
@@ -81,18 +73,17 @@ impl Notes {
     }
 
     /// Makes a call, and notes what it does.
-    fn take<S: Stage>(
+    fn take<S: Caller>(
         &mut self,
-        stage: &mut S,
+        caller: &mut S,
         record: &Record,
         step: Step,
     ) -> Result<(), Finding> {
-        let said = stage.make(step);
-        let has_order = self.orders.extend_from_slice(stage.order()).is_ok();
+        let said = caller.make(step);
+        self.orders.extend_from_slice(caller.order())?;
         let end = self.orders.len();
         let point = record.point();
-        let has_note = self.calls.push(Note { said, point, end }).is_ok();
-        found_room(has_order && has_note)
+        Ok(self.calls.push(Note { said, point, end })?)
     }
 
     /// The note of the last of the first `calls` calls.
@@ -131,28 +122,24 @@ impl Notes {
     /// The answers of the calls that are compared.
     fn answers(&self, alloc: Global, calls: &[Turn]) -> Result<Vec<Said>, Finding> {
         let mut answers = Vec::new(alloc);
-        let mut has_room = true;
         for (note, call) in self.calls.iter().zip(calls.iter()) {
             if call.is_compared {
-                has_room &= answers.push(note.said).is_ok();
+                answers.push(note.said)?;
             }
         }
-        match found_room(has_room) {
-            Ok(()) => Ok(answers),
-            Err(finding) => Err(finding),
-        }
+        Ok(answers)
     }
 }
 
 /// Makes the calls of a script, and notes what they do.
-pub fn noted<S: Stage>(
-    stage: &mut S,
+pub fn noted<S: Caller>(
+    caller: &mut S,
     record: &Record,
     script: &[Step],
     notes: &mut Notes,
 ) -> Result<(), Finding> {
     for step in script {
-        notes.take(stage, record, *step)?;
+        notes.take(caller, record, *step)?;
     }
     Ok(())
 }
@@ -179,20 +166,20 @@ pub struct Run<'a, M> {
     pub alloc: Global,
     /// The size of the terminal.
     pub size: Size,
-    /// The stages that make the script.
-    pub stages: &'a M,
+    /// The callers that make the script.
+    pub callers: &'a M,
     /// What was written.
     pub record: &'a Record,
     /// The notes of its calls.
     pub notes: &'a Notes,
 }
 
-impl<M: Stages> Run<'_, M> {
+impl<M: Callers> Run<'_, M> {
     /// Where memory was refused, in a run that is as defined.
     ///
     /// Each call answers as if nothing had been refused, or `Memory`, or `Terminal` with the kind `OutOfMemory` if the terminal's own
     /// growth was refused; the first of these leaves the order unchanged. A call with `Memory` writes nothing. Rows above stand after each
-    /// byte. What follows, by its answers and the rows of each draw, is what a new stage does that makes the same calls with enough memory:
+    /// byte. What follows, by its answers and the rows of each draw, is what a new caller does that makes the same calls with enough memory:
     /// without the refused call, or with what that call had begun; or on a terminal that fails at that very call of the writer. Only one
     /// call answers `Memory`.
     pub fn judged(&self) -> Result<Where, Finding> {
@@ -214,7 +201,7 @@ impl<M: Stages> Run<'_, M> {
             judge: Judge::new(self.alloc, self.size, Look::EachByte)?,
             found: Where::Nowhere,
         };
-        for (at, step) in self.stages.script().iter().enumerate() {
+        for (at, step) in self.callers.script().iter().enumerate() {
             self.look(&mut seen, (at, *step))?;
         }
         Ok(seen.found)
@@ -242,46 +229,23 @@ impl<M: Stages> Run<'_, M> {
     ) -> Result<(), Finding> {
         match (said, seen.found) {
             (Err(Refusal::Terminal(ErrorKind::OutOfMemory)), Where::Nowhere) if has_failed => {
-                self.breaks(seen, at)
+                self.leaves_the_order(at)?;
+                seen.found = Where::Terminal(at);
             }
-            (_, _) if has_failed => Err(Finding::Answer),
-            (said, _) if said == step.wanted() => self.succeeds(seen, (at, step), said, bytes),
-            (Err(Refusal::Memory), Where::Nowhere) => self.refuses(seen, (at, step), bytes),
-            (Err(Refusal::Memory), _) => Err(Finding::Answer),
-            (_, Where::Call(_)) => Ok(()),
-            _ => Err(Finding::Answer),
+            _ if has_failed => return Err(Finding::Answer),
+            (said, _) if said == step.wanted() => {
+                resized(said, (step, bytes), &mut seen.judge)?;
+                log(&mut seen.judge, step, said)?;
+            }
+            (Err(Refusal::Memory), Where::Nowhere) => {
+                self.leaves_the_order(at)?;
+                is_unwritten(step, bytes)?;
+                seen.found = Where::Call(at);
+            }
+            (Err(Refusal::Memory), _) => return Err(Finding::Answer),
+            (_, Where::Call(_)) => (),
+            _ => return Err(Finding::Answer),
         }
-    }
-
-    /// Looks at a call in which the terminal's own memory was refused.
-    fn breaks(&self, seen: &mut Seen, at: usize) -> Result<(), Finding> {
-        self.leaves_the_order(at)?;
-        seen.found = Where::Terminal(at);
-        Ok(())
-    }
-
-    /// Looks at a call that answered as if nothing had failed.
-    fn succeeds(
-        &self,
-        seen: &mut Seen,
-        (at, step): (usize, Step),
-        said: Said,
-        bytes: &[u8],
-    ) -> Result<(), Finding> {
-        resized(said, (step, bytes), &mut seen.judge)?;
-        log(&mut seen.judge, step, said)
-    }
-
-    /// Looks at a call that answered `Memory`.
-    fn refuses(
-        &self,
-        seen: &mut Seen,
-        (at, step): (usize, Step),
-        bytes: &[u8],
-    ) -> Result<(), Finding> {
-        self.leaves_the_order(at)?;
-        is_unwritten(step, bytes)?;
-        seen.found = Where::Call(at);
         Ok(())
     }
 
@@ -299,7 +263,7 @@ impl<M: Stages> Run<'_, M> {
         if self.is_like(at, &[])? {
             return Ok(true);
         }
-        let Some(step) = self.stages.script().get(at) else {
+        let Some(step) = self.callers.script().get(at) else {
             return Ok(false);
         };
         if let Some(begun) = step.begun() {
@@ -318,7 +282,7 @@ impl<M: Stages> Run<'_, M> {
 
     /// The first call after this one that draws bars, and whether it erases rows of bars that are gone.
     fn next_draw(&self, at: usize) -> Option<(usize, bool)> {
-        let script = self.stages.script();
+        let script = self.callers.script();
         let from = at.saturating_add(1);
         for at in from..script.len() {
             let step = script.get(at)?;
@@ -329,24 +293,18 @@ impl<M: Stages> Run<'_, M> {
         None
     }
 
-    /// Whether a new stage gives the same answers and rows from this call on, and has the same order at the end. It makes the calls that
+    /// Whether a new caller gives the same answers and rows from this call on, and has the same order at the end. It makes the calls that
     /// weren't refused, and another one before one of them, if one is given.
     fn is_like(&self, from: usize, others: &[(usize, Step)]) -> Result<bool, Finding> {
-        let mine = self.own_calls(from)?;
-        let calls = self.new_calls(from, others)?;
-        self.is_as_new(&mine, &calls)
-    }
-
-    /// Whether a new stage that makes the second calls gives the answers and rows of the run in the first, and has the same order at the
-    /// end.
-    fn is_as_new(&self, mine: &[Turn], calls: &[Turn]) -> Result<bool, Finding> {
-        let fresh = self.fresh(calls, Plan::Never)?;
-        self.goes_as(&fresh, mine, calls)
-    }
-
-    fn goes_as(&self, fresh: &Fresh, mine: &[Turn], calls: &[Turn]) -> Result<bool, Finding> {
+        let mine = self.turns(from, None)?;
+        let calls = self.turns(from, Some(others))?;
+        let fresh = self.fresh(&calls, Plan::Never)?;
         let order = self.notes.order(mine.len()) == fresh.notes.order(calls.len());
-        Ok(order && self.answers_as(fresh, mine, calls)? && self.shows_as(fresh, mine, calls)?)
+        Ok(
+            order
+                && self.answers_as(&fresh, &mine, &calls)?
+                && self.shows_as(&fresh, &mine, &calls)?,
+        )
     }
 
     fn answers_as(&self, fresh: &Fresh, mine: &[Turn], calls: &[Turn]) -> Result<bool, Finding> {
@@ -355,50 +313,21 @@ impl<M: Stages> Run<'_, M> {
         Ok(answers == wanted)
     }
 
-    /// The calls of the run. Those from this one on that weren't refused are compared.
-    fn own_calls(&self, from: usize) -> Result<Vec<Turn>, Finding> {
-        let mut calls = Vec::new(self.alloc);
-        let mut has_room = true;
-        for (at, step) in self.stages.script().iter().enumerate() {
-            let is_compared = from <= at && !self.notes.is_refused(at);
-            let turn = Turn {
-                step: *step,
-                is_compared,
-            };
-            has_room &= calls.push(turn).is_ok();
-        }
-        match found_room(has_room) {
-            Ok(()) => Ok(calls),
-            Err(finding) => Err(finding),
-        }
-    }
-
-    /// The calls of the run that weren't refused, and another one before one of them, if one is given. Those from this one on are compared.
-    fn new_calls(&self, from: usize, others: &[(usize, Step)]) -> Result<Vec<Turn>, Finding> {
-        let mut calls = Vec::new(self.alloc);
-        let mut has_room = true;
-        for (at, step) in self.stages.script().iter().enumerate() {
-            for (place, step) in others {
-                if *place == at {
-                    let turn = Turn {
-                        step: *step,
-                        is_compared: false,
-                    };
-                    has_room &= calls.push(turn).is_ok();
-                }
-            }
-            if !self.notes.is_refused(at) {
-                let turn = Turn {
+    /// The calls of the run; or those of a new caller, which makes those that weren't refused, and others before some of them. Those of the run
+    /// from this one on that weren't refused are compared.
+    fn turns(&self, from: usize, others: Option<&[(usize, Step)]>) -> Result<Vec<Turn>, Finding> {
+        let mut turns = Vec::new(self.alloc);
+        for (at, step) in self.callers.script().iter().enumerate() {
+            let is_refused = self.notes.is_refused(at);
+            push_others(&mut turns, others.unwrap_or(&[]), at)?;
+            if others.is_none() || !is_refused {
+                turns.push(Turn {
                     step: *step,
-                    is_compared: from <= at,
-                };
-                has_room &= calls.push(turn).is_ok();
+                    is_compared: from <= at && !is_refused,
+                })?;
             }
         }
-        match found_room(has_room) {
-            Ok(()) => Ok(calls),
-            Err(finding) => Err(finding),
-        }
+        Ok(turns)
     }
 
     /// Whether the same rows stand after the compared calls that drew, and after the last one.
@@ -407,78 +336,65 @@ impl<M: Stages> Run<'_, M> {
         Ok(shown == self.shown((&fresh.record, &fresh.notes), calls)?)
     }
 
-    /// The rows after each of these calls that drew and is compared, and after the last one.
-    fn shown(&self, played: (&Record, &Notes), calls: &[Turn]) -> Result<Pictures, Finding> {
+    /// The rows after each of these calls that drew and is compared, and after the last one. The draw of a bar's drop may be lost: the next
+    /// draw shows it.
+    fn shown(
+        &self,
+        (record, notes): (&Record, &Notes),
+        calls: &[Turn],
+    ) -> Result<Vec<Vec<String>>, Finding> {
         let mut judge = Judge::new(self.alloc, self.size, Look::EachCall)?;
         let mut pictures = Vec::new(self.alloc);
-        push_pictures(&mut pictures, &mut judge, played, calls)?;
+        for (at, (note, call)) in notes.calls.iter().zip(calls.iter()).enumerate() {
+            if is_shown(&mut judge, record, (notes.before(at), note), call)? {
+                pictures.push(judge.rows()?)?;
+            }
+        }
+        pictures.push(judge.rows()?)?;
         Ok(pictures)
     }
 
-    /// Whether a new stage on a terminal that fails at the same call of its writer writes the same bytes, and answers the same except for
+    /// Whether a new caller on a terminal that fails at the same call of its writer writes the same bytes, and answers the same except for
     /// the kind of the failure.
     fn follows_a_failure(&self, at: usize) -> Result<bool, Finding> {
         let plan = Plan::Call(self.record.failed_call());
-        let calls = self.own_calls(at.saturating_add(1))?;
+        let calls = self.turns(at.saturating_add(1), None)?;
         let fresh = self.fresh(&calls, plan)?;
-        self.breaks_as(&fresh, &calls)
+        let bytes = bytes_of(self.alloc, &fresh.record, &fresh.notes)?;
+        let are_same = bytes == bytes_of(self.alloc, self.record, self.notes)?;
+        Ok(are_same && self.answers_as(&fresh, &calls, &calls)?)
     }
 
-    fn breaks_as(&self, fresh: &Fresh, calls: &[Turn]) -> Result<bool, Finding> {
-        Ok(self.answers_as(fresh, calls, calls)? && self.bytes()? == fresh.bytes(self.alloc)?)
-    }
-
-    /// The run of a new stage that makes these calls.
+    /// The run of a new caller that makes these calls.
     fn fresh(&self, calls: &[Turn], plan: Plan) -> Result<Fresh, Finding> {
         let record = Record::new(self.alloc, plan, 4096)?;
-        let mut stage = self.stages.on(&record)?;
+        let mut caller = self.callers.on(&record)?;
         let mut notes = Notes::new(self.alloc)?;
         for call in calls {
-            notes.take(&mut stage, &record, call.step)?;
+            notes.take(&mut caller, &record, call.step)?;
         }
         Ok(Fresh { record, notes })
     }
-
-    /// The bytes of all calls.
-    fn bytes(&self) -> Result<Vec<u8>, Finding> {
-        bytes_of(self.alloc, self.record, self.notes)
-    }
 }
 
-/// Calls that a new stage has made.
+/// Appends the calls that a new caller makes before this one.
+fn push_others(turns: &mut Vec<Turn>, others: &[(usize, Step)], at: usize) -> Result<(), Finding> {
+    for (place, step) in others {
+        if *place == at {
+            turns.push(Turn {
+                step: *step,
+                is_compared: false,
+            })?;
+        }
+    }
+    Ok(())
+}
+
+/// Calls that a new caller has made.
 #[derive(Drop)]
 struct Fresh {
     record: Rc<Record>,
     notes: Notes,
-}
-
-impl Fresh {
-    fn bytes(&self, alloc: Global) -> Result<Vec<u8>, Finding> {
-        bytes_of(alloc, &self.record, &self.notes)
-    }
-}
-
-/// Rows that stand, one picture after another.
-type Pictures = Vec<Vec<String>>;
-
-/// Passes the bytes of these calls to the judge; appends the rows after each of them that drew and is compared, and after the last one. The
-/// draw of a bar's drop may be lost: the next draw shows it.
-fn push_pictures(
-    pictures: &mut Pictures,
-    judge: &mut Judge,
-    (record, notes): (&Record, &Notes),
-    calls: &[Turn],
-) -> Result<(), Finding> {
-    for (at, (note, call)) in notes.calls.iter().zip(calls.iter()).enumerate() {
-        if is_shown(judge, record, (notes.before(at), note), call)? {
-            push_rows(pictures, judge)?;
-        }
-    }
-    push_rows(pictures, judge)
-}
-
-fn push_rows(pictures: &mut Pictures, judge: &Judge) -> Result<(), Finding> {
-    Ok(pictures.push(judge.rows()?)?)
 }
 
 /// Passes the bytes of a call from this point on to the judge; whether the call drew and is compared.

@@ -6,16 +6,16 @@ use Rattle.unicode_width.specs.Width.{char_width}
 use Rattle.indicatif_term.proofs.cases.calm_texts.Goals as goal
 
 pub returns-clause-text : goal.returns-clause-text
-unfolding digits encode
+unfolding digits encode char_width
 returns-clause-text c = refl
 
 pub returns-clause-letter : goal.returns-clause-letter
-unfolding char_width
+unfolding char_width encode
 returns-clause-letter c = refl
 
-pub returns-clause-mark : goal.returns-clause-mark
-unfolding char_width
-returns-clause-mark c = refl
+pub returns-clause-joiner : goal.returns-clause-joiner
+unfolding char_width encode
+returns-clause-joiner c = refl
 
 pub returns-clause-bell : goal.returns-clause-bell
 unfolding char_width

@@ -32,9 +32,3 @@ returns-clause-escape c = refl
 pub returns-clause-too_wide : goal.returns-clause-too_wide
 unfolding unicode_width chars visible
 returns-clause-too_wide c = refl
-
-pub returns-clause-counts : goal.returns-clause-counts
-returns-clause-counts c = refl
-
-pub returns-clause-scrolled : goal.returns-clause-scrolled
-returns-clause-scrolled c = refl

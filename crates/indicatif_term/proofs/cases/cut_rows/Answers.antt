@@ -27,6 +27,6 @@ pub returns-clause-too_wide : goal.returns-clause-too_wide
 unfolding after unicode_width is_utf8 chars encode recut resized
 returns-clause-too_wide c = refl
 
-pub returns-clause-marked : goal.returns-clause-marked
+pub returns-clause-joiner : goal.returns-clause-joiner
 unfolding after unicode_width is_utf8 chars encode recut resized
-returns-clause-marked c = refl
+returns-clause-joiner c = refl

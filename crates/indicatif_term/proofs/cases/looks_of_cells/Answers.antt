@@ -21,9 +21,9 @@ pub returns-clause-continued : goal.returns-clause-continued
 unfolding char_width unicode_width rows_of visible
 returns-clause-continued c = refl
 
-pub returns-clause-marked : goal.returns-clause-marked
+pub returns-clause-joiner : goal.returns-clause-joiner
 unfolding char_width unicode_width rows_of visible
-returns-clause-marked c = refl
+returns-clause-joiner c = refl
 
 pub returns-clause-rows : goal.returns-clause-rows
 unfolding char_width unicode_width rows_of visible

@@ -4,7 +4,7 @@ ghost use Rattle.indicatif_text.specs.Columns.{width_of};
 ghost use Rattle.std.specs.Int.{is_in_range};
 ghost use Rattle.indicatif_term.specs.Screen.{blank_screen, top};
 ghost use Rattle.indicatif_term.specs.Resizes.{recut_screen, resized, used_rows};
-ghost use Rattle.indicatif_term.specs.Inside.Resizing.{LastingPut, marks_joined, glyph_put, row_put, next_row, rows_ended, rows_begun};
+ghost use Rattle.indicatif_term.specs.Inside.Resizing.{LastingPut, all_joined, glyph_put, row_put, next_row, rows_ended, rows_begun};
 
 use crate::cells::glyph::Glyph;
 use crate::cells::grid::Grid;
@@ -19,7 +19,7 @@ struct CursorRows {
 }
 
 impl Grid {
-    /// Sets the size: each row is wrapped again, and rows aren't joined. Refused: `Memory`; then nothing has changed.
+    /// Sets the grid's size: each row is wrapped again, and rows aren't joined. Refused: `Memory`; then nothing has changed.
     pub(crate) fn resize(&mut self, height: u16, columns: u16) -> Result<(), Refusal>
         requires rows { 0 < height }
         requires columns { 0 < columns }
@@ -35,14 +35,14 @@ impl Grid {
         Ok(())
     }
 
-    /// Whether it has this size.
+    /// Whether the grid has this size.
     fn has_size(&self, height: u16, columns: u16) -> bool
         ensures { result ≡ ((self.now.columns == columns) && (self.now.height == height)) }
     {
         self.columns == columns && self.height == height
     }
 
-    /// The grid that it becomes. Refused: `Memory`.
+    /// The grid that this one becomes at another size. Refused: `Memory`.
     fn recut(&self, height: u16, columns: u16) -> Result<Grid, Refusal>
         requires rows { 0 < height }
         requires columns { 0 < columns }
@@ -74,7 +74,7 @@ impl Grid {
         Ok(CursorRows { first, last })
     }
 
-    /// Goes to this row, or to the first one of the window if it is above that, and to this column.
+    /// Moves the new grid's cursor to this row, or to the first one of the window if it is above that, and to this column.
     fn go_to(&mut self, row: usize, column: u16)
         requires in_rows { row < length self.old.rows }
         requires in_columns { column ≤ self.old.columns }
@@ -85,7 +85,7 @@ impl Grid {
         self.column = column;
     }
 
-    /// Puts rows, and goes to the front of the next one after each. Refused: `Memory`.
+    /// Puts old rows on the new grid, and goes to the front of the next one after each. Refused: `Memory`.
     fn put_ended(&mut self, rows: &[Row]) -> Result<(), Refusal>
         ensures put { OnOk result (self.new ≡ rows_ended self.old rows.now) }
         ensures refused { IfErr result (λ e. e ≡ Refusal.Memory) }
@@ -97,7 +97,7 @@ impl Grid {
         Ok(())
     }
 
-    /// Puts rows down to the last one that isn't blank, each from the front of the next one on. Refused: `Memory`.
+    /// Puts old rows on the new grid, down to the last one that isn't blank, each from the front of the next one on. Refused: `Memory`.
     fn put_used(&mut self, rows: &[Row]) -> Result<(), Refusal>
         ensures put { OnOk result (self.new ≡ rows_begun self.old (used_rows rows.now)) }
         ensures refused { IfErr result (λ e. e ≡ Refusal.Memory) }
@@ -105,7 +105,7 @@ impl Grid {
         self.put_begun(&rows[..used_length(rows)])
     }
 
-    /// Puts rows, each from the front of the next one on. Refused: `Memory`.
+    /// Puts old rows on the new grid, each from the front of the next one on. Refused: `Memory`.
     fn put_begun(&mut self, rows: &[Row]) -> Result<(), Refusal>
         ensures put { OnOk result (self.new ≡ rows_begun self.old rows.now) }
         ensures refused { IfErr result (λ e. e ≡ Refusal.Memory) }
@@ -117,7 +117,7 @@ impl Grid {
         Ok(())
     }
 
-    /// Goes to the front of the next row. Refused: `Memory`.
+    /// Goes to the front of the new grid's next row. Refused: `Memory`.
     fn begin_row(&mut self) -> Result<(), Refusal>
         ensures begun { OnOk result (self.new ≡ next_row self.old) }
         ensures refused { IfErr result (λ e. e ≡ Refusal.Memory) }
@@ -126,7 +126,7 @@ impl Grid {
         self.feed_line()
     }
 
-    /// Puts the characters of a row, without the blanks at its end. Refused: `Memory`.
+    /// Puts the characters of an old row on the new grid, without the blanks at its end. Refused: `Memory`.
     fn put_row(&mut self, row: &Row) -> Result<(), Refusal>
         ensures put { OnOk result (self.new ≡ row_put self.old row.now) }
         ensures refused { IfErr result (λ e. e ≡ Refusal.Memory) }
@@ -138,7 +138,7 @@ impl Grid {
         Ok(())
     }
 
-    /// Puts a character with its marks, if it fits into a row. Refused: `Memory`.
+    /// Puts a character with its joiners on the new grid, if it fits into a row. Refused: `Memory`.
     fn put_glyph(&mut self, glyph: &Glyph) -> Result<(), Refusal>
         ensures put { OnOk result (self.new ≡ glyph_put self.old glyph.now) }
         ensures refused { IfErr result (λ e. e ≡ Refusal.Memory) }
@@ -147,10 +147,10 @@ impl Grid {
             return Ok(());
         }
         self.put(glyph.base())?;
-        self.join_marks(glyph.marks_reversed())
+        self.join_all(glyph.joiners_reversed())
     }
 
-    /// Whether a character has columns, and no more than a row.
+    /// Whether a character has a place on the new grid: it has columns, and no more than a row.
     fn has_place(&self, c: char) -> bool
         ensures { result ≡ is_in_range 1 self.now.columns (width_of c) }
     {
@@ -158,21 +158,21 @@ impl Grid {
         1 <= columns && columns <= usize::from(self.columns)
     }
 
-    /// Joins marks to the character before the cursor, from the last of these to the first. Refused: `Memory`.
-    fn join_marks(&mut self, reversed: &[char]) -> Result<(), Refusal>
-        ensures joined { OnOk result (self.new ≡ marks_joined self.old (reverse reversed.now)) }
+    /// Joins joiners to the character before the new grid's cursor, from the last of these to the first. Refused: `Memory`.
+    fn join_all(&mut self, reversed: &[char]) -> Result<(), Refusal>
+        ensures joined { OnOk result (self.new ≡ all_joined self.old (reverse reversed.now)) }
         ensures refused { IfErr result (λ e. e ≡ Refusal.Memory) }
     {
         let mut left = reversed.len();
         while left > 0 {
             left -= 1;
-            self.put_mark(reversed[left])?;
+            self.put_joiner(reversed[left])?;
         }
         Ok(())
     }
 }
 
-/// How many rows there are up to the last one that isn't blank.
+/// How many of the old rows there are up to the last one that isn't blank.
 fn used_length(rows: &[Row]) -> usize
     ensures within { result ≤ length rows.now }
     ensures used { take result rows.now ≡ used_rows rows.now }

@@ -12,7 +12,7 @@ returns c = record {
   empty = (refl, refl);
   whole_rows = (refl, refl, refl);
   wide_rows = (refl, refl);
-  marked_rows = (refl, refl, refl);
+  joined_rows = (refl, refl, refl);
   colours =
       (refl, refl, refl, refl);
   pieces = refl;

@@ -6,16 +6,22 @@ use Rattle.uses.proofs.ReceiptLemmas.{unbroken_behind}
 use Rattle.uses.proofs.receipts.both_stand.Goals as goal
 
 pub returns : goal.returns
-returns g c = λ held one other.
+returns g c = λ held.
     let m = g.K.Tracks.means in
     let lent = c.with_record.ensures in
     let found = lent.2 held in
-    let run : IsOneRun m found.0 = subst (λ history. IfSome history (IsOneRun m)) found.1 lent.1 in
-    let rows = c.what_a_receipt_says.ensures.rows in (
-      found.0,
+    let r = found.0 in
+    let run : IsOneRun m r = subst (λ history. IfSome history (IsOneRun m)) found.1 lent.1 in
+    let first = c.args.one.now in
+    let second = c.args.other.now in
+    let says = c.what_a_receipt_says.ensures in (
+      r,
       run,
-      λ fine. (
-        rows _ found.0 _ run.2 c.args.one.now found.2 (ap answer_of one) (unbroken_behind (suc c.args.one.now.number) found.0.steps fine),
-        rows _ found.0 _ run.2 c.args.other.now found.3 (ap answer_of other) (unbroken_behind (suc c.args.other.now.number) found.0.steps fine),
+      found.2,
+      found.3,
+      λ one other. (
+        says.rows _ r _ run.2 first found.2 (ap answer_of one) (unbroken_behind (suc first.number) r.steps found.4),
+        says.rows _ r _ run.2 second found.3 (ap answer_of other) (unbroken_behind (suc second.number) r.steps found.4),
+        λ less. says.in_order _ r _ run.2 first second found.2 found.3 less (ap answer_of one) (ap answer_of other) (unbroken_behind (suc first.number) r.steps found.4),
       ),
     )

@@ -11,10 +11,10 @@ pub returns-in-Id-clause-made : goal.returns-in-Id-clause-made
 returns-in-Id-clause-made c =
     called (call_of c.args.call) (answer_of c.call.result) c.args.self.now.board c.call.new.self (ap (λ a. is_refused (answer_of a)) c.in-Id.is) c.call.ensures.leads
 
-pub returns-in-Done-clause-made : goal.returns-in-Done-clause-made
-returns-in-Done-clause-made c =
+pub returns-in-Accepted-clause-made : goal.returns-in-Accepted-clause-made
+returns-in-Accepted-clause-made c =
     let fine : is_refused (answer_of c.call.result) ≡ false =
-    elim c.in-Done.is [ inl e ↦ ap (λ a. is_refused (answer_of a)) e | inr e ↦ ap (λ a. is_refused (answer_of a)) e.1 ] in
+    elim c.in-Accepted.is [ inl e ↦ ap (λ a. is_refused (answer_of a)) e | inr e ↦ ap (λ a. is_refused (answer_of a)) e.1 ] in
     called (call_of c.args.call) (answer_of c.call.result) c.args.self.now.board c.call.new.self fine c.call.ensures.leads
 
 pub returns-in-Refused-clause-refused : goal.returns-in-Refused-clause-refused

@@ -28,7 +28,7 @@ use Rattle.indicatif_board.specs.Slots.{SlotTable}
 use Rattle.indicatif_board.proofs.BarRecordLemmas.{evenly, left_head, left_record}
 use Rattle.indicatif_board.proofs.MemberLemmas.{laid_lists, laid_limiter, leaders_of, dropped_bars}
 use Rattle.indicatif_board.proofs.BoardDrawLemmas.{ready_holds, asked_so, frame_drew, broken_holds, written_holds}
-use Rattle.indicatif_board.proofs.LeavingLemmas.{same_left}
+use Rattle.indicatif_board.proofs.LeavingLemmas.{same_left, none_left}
 use Rattle.indicatif_board.proofs.multi.Board.draw.Goals as goal
 
 pub returns-then-is_no-clause-drew : goal.returns-then-is_no-clause-drew
@@ -38,8 +38,7 @@ returns-then-is_no-clause-drew g c = λ mark takes s number inside placed.
     let old = known g.T.TermLike.view c.args.self.now in
     let target = target_of old in
     let d = draw_of target takes c.args.ask c.args.now (writing_as c.args.writing) s (named_laid_out tracks target c.args.now number s) (named_layout_takes tracks number s) in
-    let shown : AreShownAs c.note_place.new.self s = subst (λ b. AreShownAs b s) (sym c.note_place.ensures) inside.1 in
-    (s, (inside.0, shown, inside.2), drew_none (board (board_bars tracks) mark) old d s.lists (Ok Limited) s refl refl (outcome-unasked target d (sym c.is_no.ensures ∙ c.if-is_no.true)))
+    (s, inside, drew_none (board (board_bars tracks) mark) old d s.lists (Ok Limited) s refl refl (outcome-unasked target d (sym c.is_no.ensures ∙ c.if-is_no.true)))
 
 pub returns-then-width-eq0-clause-drew : goal.returns-then-width-eq0-clause-drew
 unfolding IsIn
@@ -234,10 +233,10 @@ returns-then-not-allows-clause-keeps g c =
     (refl, ap (option_map engine_moves) (sym c.in-Some.is), λ off. ap (option_map engine_term) (sym c.in-Some.is), λ none. refl)
 
 pub returns-then-is_no-clause-slots : goal.returns-then-is_no-clause-slots
-returns-then-is_no-clause-slots g c = same_left c.args.self.now.shown.table c.note_place.new.self.table (ap (λ b. b.table) c.note_place.ensures)
+returns-then-is_no-clause-slots g c = none_left c.args.self.now.shown.table
 
 pub returns-then-is_no-clause-stay : goal.returns-then-is_no-clause-stay
-returns-then-is_no-clause-stay g c = λ other. ap (λ b. b.table) c.note_place.ensures
+returns-then-is_no-clause-stay g c = λ other. refl
 
 pub returns-in_default-clause-slots : goal.returns-in_default-clause-slots
 returns-in_default-clause-slots g c = same_left c.args.self.now.shown.table c.note_place.new.self.table (ap (λ b. b.table) c.note_place.ensures)

@@ -1,6 +1,6 @@
 use Rattle.std.proofs.Common.{◌∙◌, true, false, refl, sym, ap, Some, Ok}
 use Rattle.indicatif_board.specs.BoardValues.{id_of}
-use Rattle.indicatif_board.specs.Boards.{Remove, Refused, Done}
+use Rattle.indicatif_board.specs.Boards.{Remove, Refused, Accepted}
 use Rattle.indicatif_board.specs.Members.{without}
 use Rattle.indicatif_board.specs.Multi.{IsIn, known}
 use Rattle.indicatif_text.specs.declared.refusal.Refusal.TheVariants.{ForeignBar}
@@ -25,7 +25,7 @@ returns-in-Ok-clause-leads g c = λ now mark s inside.
     let next = record s { members = without id.number s.members } in (
       next,
       (inside.0, c.take_out.ensures.out s id.number inside.1 f.1.0, inside.2),
-      made_at_once tracks mark old old (Remove id) now s false Done next (removed_deed mark id s true (c.if-id-self.false ∙ inside.0) (there_is_member mark id s f.0)) refl refl,
+      made_at_once tracks mark old old (Remove id) now s false Accepted next (removed_deed mark id s true (c.if-id-self.false ∙ inside.0) (there_is_member mark id s f.0)) refl refl,
     )
 
 pub returns-in-Err-clause-leads : goal.returns-in-Err-clause-leads
@@ -36,7 +36,7 @@ returns-in-Err-clause-leads g c = λ now mark s inside.
     let id = id_of c.args.id in
     let why = c.in-Err.ensures.found mark s inside in
     let own = c.if-id-self.false ∙ inside.0 in
-    (s, inside, made_at_once tracks mark old old (Remove id) now s false Done s (removed_deed mark id s false own (absent_is_none mark id s c.in-Err.field-0 own why)) refl refl)
+    (s, inside, made_at_once tracks mark old old (Remove id) now s false Accepted s (removed_deed mark id s false own (absent_is_none mark id s c.in-Err.field-0 own why)) refl refl)
 
 pub returns-in-Ok-clause-bar : goal.returns-in-Ok-clause-bar
 unfolding IsIn

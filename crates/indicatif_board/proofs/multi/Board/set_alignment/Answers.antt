@@ -1,6 +1,6 @@
 use Rattle.std.proofs.Common.{refl, false}
 use Rattle.indicatif_term.specs.DrawTargets.{is_bottom}
-use Rattle.indicatif_board.specs.Boards.{Align, Done}
+use Rattle.indicatif_board.specs.Boards.{Align, Accepted}
 use Rattle.indicatif_board.specs.Multi.{IsIn, known}
 use Rattle.indicatif_board.proofs.BoardCallLemmas.{made_at_once}
 use Rattle.indicatif_board.proofs.multi.Board.set_alignment.Goals as goal
@@ -19,5 +19,5 @@ returns-clause-leads g c = λ now mark s inside.
         record { members_are = holds.members_are; frame_is = holds.frame_is; made_is = holds.made_is; bottom_is = refl },
         inside.2,
       ),
-      made_at_once tracks mark old old (Align bottom) now s false Done next refl refl refl,
+      made_at_once tracks mark old old (Align bottom) now s false Accepted next refl refl refl,
     )

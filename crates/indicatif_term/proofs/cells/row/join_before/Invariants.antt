@@ -6,9 +6,9 @@ use Rattle.indicatif_term.proofs.cells.row.join_before.Given as goal
 abbrev pub invariant-loop-left : goal.invariant-loop-left
 invariant-loop-left l = record {
   within : l.left ≤ length l.cells;
-  is : joined_at l.at l.mark (map (cell_shown l.fn.marks.items) l.fn.cells) ≡ joined_at l.left l.mark (map (cell_shown l.marks.items) l.cells);
+  is : joined_at l.at l.joiner (map (cell_shown l.fn.joiners.items) l.fn.cells) ≡ joined_at l.left l.joiner (map (cell_shown l.joiners.items) l.cells);
   same : l.cells ≡ l.fn.cells;
-  marks : l.marks.items ≡ l.fn.marks.items;
+  joiners : l.joiners.items ≡ l.fn.joiners.items;
 }
 
 abbrev pub decreases-loop-left : goal.decreases-loop-left

@@ -19,4 +19,4 @@ loop-column-preserved c =
     ap (set c.loop-column.cells c.loop-column.column) c.continued.ensures
     ∙ one_more_written c.args.cells.now c.loop-column.cells (character_cells c.args.c k) c.args.at c.loop-column.column Continued c.loop-column.invariant
     (omega (arith, length-replicate m Continued, c.loop-column.auto.column)) (omega (arith, c.requires.fits, c.loop-column-test.true))
-    ∙ ap (λ cells. overwritten c.args.at (Written (record { base = c.args.c; marks = [] }) ∷ cells) c.args.cells.now) (replicate_more m Continued ∙ ap (λ n. replicate n Continued) (sym e))
+    ∙ ap (λ cells. overwritten c.args.at (Written (record { base = c.args.c; joiners = [] }) ∷ cells) c.args.cells.now) (replicate_more m Continued ∙ ap (λ n. replicate n Continued) (sym e))

@@ -6,4 +6,4 @@ use Rattle.indicatif_term.proofs.cells.row.show_cells.Given as goal
 
 abbrev pub invariant-loop-cell : goal.invariant-loop-cell
 invariant-loop-cell l =
-    string_bytes l.out ≡ string_bytes l.initial.out ++ encode_utf8_all (flat_map cell_text (map (cell_shown l.marks) (take l.cell-index l.cells)))
+    string_bytes l.out ≡ string_bytes l.initial.out ++ encode_utf8_all (flat_map cell_text (map (cell_shown l.joiners) (take l.cell-index l.cells)))

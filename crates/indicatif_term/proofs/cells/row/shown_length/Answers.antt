@@ -9,7 +9,7 @@ use Rattle.indicatif_term.proofs.cells.row.shown_length.Goals as goal
 
 pub returns-then-not-is_blank-clause-shown : goal.returns-then-not-is_blank-clause-shown
 returns-then-not-is_blank-clause-shown c =
-    let f = cell_shown c.args.marks.now in
+    let f = cell_shown c.args.joiners.now in
     let row = map f c.args.cells.now in
     let n = c.loop-shown.shown - 1 in
     let next : c.loop-shown.shown ≡ suc n = omega arith in
@@ -22,7 +22,7 @@ returns-then-not-is_blank-clause-shown c =
 
 pub loop-shown-preserved : goal.loop-shown-preserved
 loop-shown-preserved c =
-    let f = cell_shown c.args.marks.now in
+    let f = cell_shown c.args.joiners.now in
     let row = map f c.args.cells.now in
     let n = c.loop-shown.shown - 1 in
     let next : c.loop-shown.shown ≡ n + 1 = omega arith in
@@ -37,6 +37,6 @@ loop-shown-preserved c =
 
 pub returns-clause-shown : goal.returns-clause-shown
 returns-clause-shown c =
-    let row = map (cell_shown c.args.marks.now) c.args.cells.now in
+    let row = map (cell_shown c.args.joiners.now) c.args.cells.now in
     let none : c.loop-shown.shown ≡ 0 = omega arith in
     sym (trimmed-all row (ap (λ k. list_all is_blank (drop k row)) (sym none) ∙ c.loop-shown.invariant.blank))

@@ -8,7 +8,7 @@ use Rattle.indicatif_term.proofs.cells.row.shown_length.Given as goal
 abbrev pub invariant-loop-shown : goal.invariant-loop-shown
 invariant-loop-shown l = record {
   within : l.shown ≤ length l.cells;
-  blank : list_all is_blank (drop l.shown (map (cell_shown l.marks) l.cells)) ≡ true;
+  blank : list_all is_blank (drop l.shown (map (cell_shown l.joiners) l.cells)) ≡ true;
 }
 
 abbrev pub decreases-loop-shown : goal.decreases-loop-shown

@@ -1,12 +1,12 @@
-use Rattle.std.proofs.Common.{ap, sym, subst, append-nil, ◌+◌, ◌∙◌, [], false}
+use Rattle.std.proofs.Common.{ap, sym, subst, append-nil, ◌+◌, [], false}
 use Rattle.indicatif_term.specs.Counts.{CountsOf}
-use Rattle.indicatif_term.specs.declared.engine.remembered.Remembered.{Remembered}
 use Rattle.std.proofs.Math.Logic.{∥∥₁_map}
 use Rattle.indicatif_term.specs.Inside.Bytes.{paint_bytes}
 use Rattle.indicatif_term.specs.Frames.{is_fault}
 use Rattle.indicatif_term.specs.Lists.{cleared}
 use Rattle.indicatif_term.specs.Engines.{engine_term}
-use Rattle.indicatif_term.proofs.RememberedLemmas.{nothing_shown}
+use Rattle.indicatif_term.proofs.RememberedLemmas.{nothing_shown, cleared_live}
+use Rattle.indicatif_term.specs.Inside.Remembering.{IsNothing}
 use Rattle.indicatif_term.proofs.DrawingLemmas.{cleared-adds, cleared-known, cleared-sound}
 use Rattle.indicatif_term.proofs.EngineLemmas.{paints_refused, paints_by, fits_counts, fits_failed, fits_forgets, fits_by, suits_made, clear_paints}
 use Rattle.indicatif_term.proofs.engine.Engine.clear.Goals as goal
@@ -18,14 +18,14 @@ returns-in_err-of-clause-paints g c = λ l fits.
 pub remember-requires : goal.remember-requires
 remember-requires g c = ∥∥₁_map c.args.self.now.some (λ x.
     let l = cleared x.0 in
-    (l, suits_made c.cleared-next.result _ l (c.cleared-next.ensures x.0 x.1.counted) (cleared-sound x.0) (nothing_shown c.nothing-forgotten.result l c.nothing-forgotten.ensures)))
+    (l, suits_made c.cleared-next.result _ l (c.cleared-next.ensures x.0 x.1.counted) (cleared-sound x.0) (nothing_shown c.nothing-forgotten.result l c.nothing-forgotten.ensures (cleared_live x.0))))
 
 pub returns-clause-lists : goal.returns-clause-lists
 returns-clause-lists g c = λ l fits.
     let made = c.remember.ensures.remembered in
     fits_by _ _ c.ended.result c.ended.new.self l (cleared l) c.ended.ensures.remembers
     (subst (λ k. CountsOf k (cleared l)) (sym made.0) (c.cleared-next.ensures l (fits_counts c.args.self.now l fits))) (cleared-sound l)
-    (nothing_shown _ (cleared l) (ap (λ (r : Remembered). r.width) made.2 ∙ c.nothing-forgotten.ensures))
+    (nothing_shown _ (cleared l) (subst IsNothing (sym made.2) c.nothing-forgotten.ensures) (cleared_live l))
 
 pub returns-clause-paints : goal.returns-clause-paints
 returns-clause-paints g c = λ l fits.

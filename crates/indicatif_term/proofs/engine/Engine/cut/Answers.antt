@@ -16,6 +16,6 @@ returns-clause-suits g c = λ l s sound.
     take_all (length d - at) (drop at d) (omega (arith, length-drop at d)) ∙ ap (drop at) c.deref.ensures.value ∙ ap (λ k. drop k hs) at_is in
     let x = c.in_ok-cut.ensures.cut in
     let counted = c.in_ok-counts.ensures.counts w c.args.cols l s.counted
-    (last ∙ last_heights w c.args.cols c.args.rows l e.counts c.in_ok-counts.counts e.failed e.shown c.of-2.result c.in_ok-cut.cut s sound c.requires.rows x enough) in
-    resized_suits w c.args.cols c.args.rows l e.counts c.in_ok-counts.counts e.failed e.shown c.of-2.result c.in_ok-cut.cut s sound c.requires.rows x enough counted
-    (c.of-2.ensures.lines ∙ c.of.ensures) c.of-2.ensures.marked
+    (last ∙ last_heights w c.args.cols c.args.rows l e.counts c.in_ok-counts.counts e.failed e.shown c.of.result c.in_ok-cut.cut s sound c.requires.rows x enough) in
+    resized_suits w c.args.cols c.args.rows l e.counts c.in_ok-counts.counts e.failed e.shown c.of.result c.in_ok-cut.cut s sound c.requires.rows x enough counted
+    c.of.ensures.lines c.of.ensures.width c.of.ensures.live

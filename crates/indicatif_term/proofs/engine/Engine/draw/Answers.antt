@@ -7,12 +7,13 @@ use Rattle.indicatif_term.specs.Counts.{CountsOf}
 use Rattle.indicatif_term.specs.Inside.Changes.{placed_height, change_bytes}
 use Rattle.indicatif_term.specs.Inside.Renewed.{IsRenewed}
 use Rattle.indicatif_term.specs.Standing.{placed}
-use Rattle.indicatif_term.specs.Remembered.{AreRemembered, live_lines}
+use Rattle.indicatif_term.specs.Remembered.{live_lines}
 use Rattle.indicatif_term.specs.Frames.{bar_lines, all_lines}
 use Rattle.indicatif_term.specs.Engines.{engine_term, Fits}
 use Rattle.indicatif_term.specs.DrawTargets.{is_bottom}
 use Rattle.indicatif_term.proofs.DrawingLemmas.{drawn-adds, drawn-known, drawn-sound}
-use Rattle.indicatif_term.proofs.EngineLemmas.{paints_by, led, fits_counts, fits_failed, fits_forgets, fits_by, fits_shown, answer_made, Redraws}
+use Rattle.indicatif_term.proofs.RememberedLemmas.{IsShown}
+use Rattle.indicatif_term.proofs.EngineLemmas.{live_known, paints_by, led, fits_counts, fits_failed, fits_forgets, fits_by, fits_shown, answer_made, Redraws}
 use Rattle.indicatif_term.proofs.SkippingLemmas.{counted_by}
 use Rattle.indicatif_term.proofs.RenewedLemmas.{fit_there, some_width, some_stand, low_height, new_suits, counts_stay, shown_next, redraws_new, split_last, stands_again, over_ready, place_length, last_of_all}
 use Rattle.indicatif_term.proofs.engine.Engine.draw.Goals as goal
@@ -28,9 +29,10 @@ put_new-requires g c =
     let shown = c.args.self.now.shown in
     let some = c.in-Some.ensures.some in
     let q : IsRenewed s.columns s.rows c.args.frame.now counts shown c.in-Some.changed.items = rw (c.of-before.ensures.counts, c.of-before.ensures.shown) at c.in-Some.ensures.renewed in
+    let k = live_known c.args.self.now in
     record {
-      known = some_width s.columns s.rows c.args.frame.now counts shown c.in-Some.changed.items some q;
-      fit = fit_there s.columns s.rows c.args.frame.now counts shown c.in-Some.changed.items some q;
+      known = some_width s.columns s.rows c.args.frame.now counts shown c.in-Some.changed.items some q k;
+      fit = fit_there s.columns s.rows c.args.frame.now counts shown c.in-Some.changed.items some q k;
     }
 
 pub write_in_room-written-requires-clause-room : goal.write_in_room-written-requires-clause-room
@@ -43,15 +45,16 @@ write_in_room-written-requires-clause-room g c =
     let new = c.in-Some.changed.items in
     let some = c.in-Some.ensures.some in
     let q : IsRenewed s.columns s.rows frame counts shown new = rw (c.of-before.ensures.counts, c.of-before.ensures.shown) at c.in-Some.ensures.renewed in
+    let k = live_known c.args.self.now in
     let r = c.put_new.new.self in
     let renews = c.put_new.ensures.renews in
     let ls = live_lines r in
-    let there : 0 < length ls = omega (arith, place_length shown.width (live_lines shown) ls renews.in_place, some_stand s.columns s.rows frame counts shown new some q) in
+    let there : 0 < length ls = omega (arith, place_length shown.width (live_lines shown) ls renews.in_place, some_stand s.columns s.rows frame counts shown new some q k) in
     let count : length c.live-lines.result.now ≡ length ls = ap length c.live-lines.ensures in
     let all : placed_height (placed ls) + 0 ≡ placed_height (placed ls) = omega arith in (
       placed_height (placed ls),
       rw c.live-lines.ensures (record { some = omega (arith, there); in_lines = omega arith; rows_are = ap (λ xs. placed_height (placed xs) + 0) (take_all (length ls) ls (omega arith)) ∙ all }),
-      low_height s.columns s.rows frame counts shown new some q r renews,
+      low_height s.columns s.rows frame counts shown new some q k r renews,
     )
 
 pub write_in_room-written-requires-clause-ready : goal.write_in_room-written-requires-clause-ready
@@ -69,6 +72,7 @@ invariant_of-self-2 g c =
     let new = c.in-Some.changed.items in
     let some = c.in-Some.ensures.some in
     let q : IsRenewed s.columns s.rows frame counts shown new = rw (c.of-before.ensures.counts, c.of-before.ensures.shown) at c.in-Some.ensures.renewed in
+    let k = live_known c.args.self.now in
     let r = c.put_new.new.self in
     let renews = c.put_new.ensures.renews in
     let ls = live_lines r in
@@ -76,7 +80,7 @@ invariant_of-self-2 g c =
     record {
       some = rw may.0 (∥∥₁_map c.args.self.now.some (λ x. (
         drawn s.columns s.rows bottom 0 (map bar_lines frame) x.0,
-        new_suits s.columns s.rows frame counts shown new some q bottom x.0 r x.1.counted x.1.remembered renews,
+        new_suits s.columns s.rows frame counts shown new some q k bottom x.0 r x.1.counted x.1.remembered renews,
       )));
     }
 
@@ -85,6 +89,7 @@ returns-clause-answer g c =
     let s = g.T.TermLike.view (engine_term c.args.self.now) in
     let q : IsRenewed s.columns s.rows c.args.frame.now c.args.self.now.counts c.args.self.now.shown c.in-Some.changed.items =
     rw (c.of-before.ensures.counts, c.of-before.ensures.shown) at c.in-Some.ensures.renewed in
+    let k = live_known c.args.self.now in
     answer_made s.columns (all_lines (map bar_lines c.args.frame.now)) _ _ c.ended.result c.ended.new.self c.ended.ensures.remembers c.in-Some.ensures.some q.narrow
 
 pub returns-clause-counted : goal.returns-clause-counted
@@ -97,11 +102,12 @@ returns-clause-counted g c =
     let new = c.in-Some.changed.items in
     let some = c.in-Some.ensures.some in
     let q : IsRenewed s.columns s.rows frame counts shown new = rw (c.of-before.ensures.counts, c.of-before.ensures.shown) at c.in-Some.ensures.renewed in
+    let k = live_known c.args.self.now in
     let r = c.put_new.new.self in
     let renews = c.put_new.ensures.renews in
     let ls = live_lines r in
     let v' = g.T.TermLike.view (engine_term c.ended.new.self) in
-    let parts = split_last (placed ls) (stands_again s.columns s.rows frame counts shown new some q ls renews.in_place) in
+    let parts = split_last (placed ls) (stands_again s.columns s.rows frame counts shown new some q k ls renews.in_place) in
     let bytes = change_bytes s.columns 0 parts.0 parts.1 [] in
     let writes : Draws bytes s v' c.ended.result = subst (λ n. Draws (change_bytes n 0 parts.0 parts.1 []) s v' c.ended.result) (renews.width_is ∙ q.settled.same_width)
     (c.ended.ensures.draws _ s (c.write_in_room-written.ensures parts.0 parts.1 [] (ap placed c.live-lines.ensures ∙ parts.2) (last_of_all ls parts.0 parts.1 parts.2
@@ -118,6 +124,7 @@ returns-clause-lists g c = λ l fits.
     let new = c.in-Some.changed.items in
     let some = c.in-Some.ensures.some in
     let q : IsRenewed s.columns s.rows frame counts shown new = rw (c.of-before.ensures.counts, c.of-before.ensures.shown) at c.in-Some.ensures.renewed in
+    let k = live_known c.args.self.now in
     let r = c.put_new.new.self in
     let renews = c.put_new.ensures.renews in
     let ls = live_lines r in
@@ -126,8 +133,8 @@ returns-clause-lists g c = λ l fits.
     let known = fits_shown c.args.self.now l fits in
     let same = ap (λ n. drawn s.columns s.rows bottom n (map bar_lines frame) l) (sym may.1) in
     fits_by counts r c.ended.result c.ended.new.self l (drawn s.columns s.rows bottom c.args.pass (map bar_lines frame) l) c.ended.ensures.remembers
-    (subst (CountsOf counts) same (counts_stay s.columns s.rows frame counts shown new some q bottom l o)) (drawn-sound s.columns s.rows bottom c.args.pass (map bar_lines frame) l)
-    (subst (AreRemembered r) same (shown_next s.columns s.rows frame counts shown new some q l r o known renews bottom))
+    (subst (CountsOf counts) same (counts_stay s.columns s.rows frame counts shown new some q k bottom l o)) (drawn-sound s.columns s.rows bottom c.args.pass (map bar_lines frame) l)
+    (subst (IsShown r) same (shown_next s.columns s.rows frame counts shown new some q k l r o known renews bottom))
 
 pub returns-clause-paints : goal.returns-clause-paints
 returns-clause-paints g c = λ l fits plain.
@@ -139,12 +146,13 @@ returns-clause-paints g c = λ l fits plain.
     let new = c.in-Some.changed.items in
     let some = c.in-Some.ensures.some in
     let q : IsRenewed s.columns s.rows frame counts shown new = rw (c.of-before.ensures.counts, c.of-before.ensures.shown) at c.in-Some.ensures.renewed in
+    let k = live_known c.args.self.now in
     let r = c.put_new.new.self in
     let renews = c.put_new.ensures.renews in
     let ls = live_lines r in
     let may = c.may_stay-may_stay.ensures (sym c.of-before.ensures.may_stay ∙ c.in-Some.ensures.may_stay) in
     let v' = g.T.TermLike.view (engine_term c.ended.new.self) in
-    let parts = split_last (placed ls) (stands_again s.columns s.rows frame counts shown new some q ls renews.in_place) in
+    let parts = split_last (placed ls) (stands_again s.columns s.rows frame counts shown new some q k ls renews.in_place) in
     let bytes = change_bytes s.columns 0 parts.0 parts.1 [] in
     let writes : Draws bytes s v' c.ended.result = subst (λ n. Draws (change_bytes n 0 parts.0 parts.1 []) s v' c.ended.result) (renews.width_is ∙ q.settled.same_width)
     (c.ended.ensures.draws _ s (c.write_in_room-written.ensures parts.0 parts.1 [] (ap placed c.live-lines.ensures ∙ parts.2) (last_of_all ls parts.0 parts.1 parts.2
@@ -155,6 +163,6 @@ returns-clause-paints g c = λ l fits plain.
     paints_by s v' counts counts r c.ended.result c.ended.new.self c.args.self.now.failed l (drawn s.columns s.rows bottom c.args.pass (map bar_lines frame)) bytes c.ended.ensures.remembers
     (fits_failed c.args.self.now l fits) (subst (λ f. Draws (led f bytes) s v' c.ended.result) (sym may.0) writes)
     (λ x is. subst (λ n. Redraws s.columns s.rows x (drawn s.columns s.rows bottom n (map bar_lines frame) x) bytes) (sym may.1)
-    (redraws_new s.columns s.rows frame counts shown new some q ls renews.texts_are renews.in_place bottom l x parts.0 parts.1 over o known plain is.counts is.live parts.2)) o
+    (redraws_new s.columns s.rows frame counts shown new some q k ls renews.texts_are renews.in_place bottom l x parts.0 parts.1 over o known plain is.counts is.live parts.2)) o
     (fits_forgets c.args.self.now l fits) (drawn-sound s.columns s.rows bottom c.args.pass (map bar_lines frame) l) (drawn-adds s.columns s.rows bottom c.args.pass (map bar_lines frame) l)
     (drawn-known s.columns s.rows bottom c.args.pass (map bar_lines frame) l)

@@ -5,7 +5,10 @@ use Rattle.std.proofs.lemmas.List.{length-map, length-replicate}
 use Rattle.indicatif_term.specs.Inside.Remembering.{Draws}
 use Rattle.indicatif_term.specs.Inside.Places.{IsWithin}
 use Rattle.indicatif_term.specs.Lists.{Lists, drawn, live_rows}
-use Rattle.indicatif_term.specs.Counts.{CountsOf}
+use Rattle.indicatif_term.specs.Counts.{CountsOf, row_count, line_count, line_counts}
+use Rattle.indicatif_term.specs.Lists.{fitting, lines_of}
+use Rattle.indicatif_term.specs.Inside.Owned.{blank_count}
+use Rattle.indicatif_term.proofs.OwnedLemmas.{passing_within, kept_in}
 use Rattle.indicatif_term.specs.Shows.{looks_of}
 use Rattle.indicatif_term.specs.Inside.Bytes.{paint_bytes, reach_bytes}
 use Rattle.indicatif_term.specs.Inside.Changes.{change_bytes, AreSitting}
@@ -44,6 +47,49 @@ returns-in_err-lines-clause-memory g c = λ e.
 pub returns-in_err-lines-clause-paints : goal.returns-in_err-lines-clause-paints
 returns-in_err-lines-clause-paints g c = λ l fits plain.
     paints_refused _ c.from_residual-in_err-lines.result c.in_err-lines.field-0.0 l _ c.from_residual-in_err-lines.ensures.1 (ap is_fault c.in_err-lines.ensures.memory.0)
+
+pub kept_below-kept-requires : goal.kept_below-kept-requires
+kept_below-kept-requires g c =
+    let s = g.T.TermLike.view (engine_term c.args.self.now) in
+    let p = c.in_ok-planned.ensures.planned in
+    let counts = c.args.self.now.counts in
+    let fits : counts.kept + counts.live ≤ counts.reached = counts.fits in
+    let small : counts.reached ≤ 65535 = counts.small in
+    let high : c.in_ok-planned.planned.window.rows ≤ 65535 = c.in_ok-planned.planned.window.small in
+    omega (
+      arith,
+      c.blanks_of-blanks.ensures.room,
+      passing_within s.columns s.rows c.args.pass (map bar_lines c.args.frame.now) c.in_ok-planned.planned.plan p.plan_is,
+      p.is_summed.lines_fit,
+      p.is_summed.fit,
+      p.rows_are,
+      high,
+      fits,
+      small,
+    )
+
+pub invariant_of-next : goal.invariant_of-next
+invariant_of-next g c =
+    let s = g.T.TermLike.view (engine_term c.args.self.now) in
+    let p = c.in_ok-planned.ensures.planned in
+    let plan = c.in_ok-planned.planned.plan in
+    let blanks = c.blanks_of-blanks.result in
+    let own = line_counts c.in_ok-planned.planned.lines.items in
+    record {
+      within = omega (
+        arith,
+        c.kept_below-kept.ensures,
+        kept_in plan blanks,
+        passing_within s.columns s.rows c.args.pass (map bar_lines c.args.frame.now) plan p.plan_is,
+        length-map c.in_ok-lines.lines.items line_count,
+        ap length c.in_ok-lines.ensures.counts,
+        length-append (replicate blanks blank_count) own,
+        length-replicate blanks blank_count,
+        ap length p.counts_are,
+        length-map (fitting s.rows (lines_of s.columns (map bar_lines c.args.frame.now))) row_count,
+        p.plan_is.lines_are,
+      );
+    }
 
 pub store-requires-clause-right : goal.store-requires-clause-right
 store-requires-clause-right g c = λ some.
@@ -106,8 +152,9 @@ store-requires-clause-suits g c = λ r is.
     ∥∥₁_map c.args.self.now.some (λ x.
     let l = x.0 in (
       drawn s.columns s.rows bottom c.args.pass frame l,
-      drawn_suits win.columns s.columns s.rows c.args.pass c.blanks_of-blanks.result bottom c.args.frame.now l old c.drawn-counts.result c.in_ok-planned.planned.plan kept ls r
-          p.columns_are is.marked is.lines_are x.1.counted p.plan_is blanks t (above l win.some x.1.remembered) (next l x.1.counted),
+      drawn_suits win.columns s.columns s.rows c.args.pass c.blanks_of-blanks.result bottom c.args.frame.now l old c.drawn-counts.result c.in_ok-planned.planned.plan kept ls
+          (line_counts c.in_ok-planned.planned.lines.items) r p.columns_are (rw c.kept_below-kept.ensures at is) x.1.counted p.plan_is blanks t c.in_ok-lines.ensures.counts p.counts_are
+          (c.in_ok-lines.ensures.right win.columns c.in_ok-planned.ensures.lines.measured) (above l win.some x.1.remembered) (next l x.1.counted),
     ))
 
 pub returns-then-moves-clause-counted : goal.returns-then-moves-clause-counted
@@ -139,8 +186,9 @@ returns-then-moves-clause-lists g c = λ l fits.
     let shown = c.store.new.self.shown in
     fits_by _ shown c.ended.result c.ended.new.self l l' c.ended.ensures.remembers (subst (λ k. CountsOf k l') (sym c.in_ok-from.ensures.made.0) (next l o))
     (drawn-sound s.columns s.rows bottom c.args.pass frame l)
-    (drawn_shown win.columns s.columns s.rows c.args.pass c.blanks_of-blanks.result bottom c.args.frame.now l old c.drawn-counts.result c.in_ok-planned.planned.plan kept ls shown
-    p.columns_are is.marked is.lines_are o p.plan_is blanks t (above l win.some (fits_shown c.args.self.now l fits)) (next l o))
+    (drawn_shown win.columns s.columns s.rows c.args.pass c.blanks_of-blanks.result bottom c.args.frame.now l old c.in_ok-planned.planned.plan kept ls
+    (line_counts c.in_ok-planned.planned.lines.items) shown p.columns_are (rw c.kept_below-kept.ensures at is) o p.plan_is blanks t c.in_ok-lines.ensures.counts p.counts_are
+    (c.in_ok-lines.ensures.right win.columns c.in_ok-planned.ensures.lines.measured) (above l win.some (fits_shown c.args.self.now l fits)))
 
 pub returns-then-moves-clause-paints : goal.returns-then-moves-clause-paints
 returns-then-moves-clause-paints g c = λ l fits plain.
@@ -223,8 +271,9 @@ returns-in-Some-clause-lists g c = λ l fits.
     let shown = c.store.new.self.shown in
     fits_by _ shown c.ended-in-Some.result c.ended-in-Some.new.self l l' c.ended-in-Some.ensures.remembers (subst (λ k. CountsOf k l') (sym c.in_ok-from.ensures.made.0) (next l o))
     (drawn-sound s.columns s.rows bottom c.args.pass frame l)
-    (drawn_shown win.columns s.columns s.rows c.args.pass c.blanks_of-blanks.result bottom c.args.frame.now l old c.drawn-counts.result c.in_ok-planned.planned.plan kept ls shown
-    p.columns_are is.marked is.lines_are o p.plan_is blanks t (above l win.some (fits_shown c.args.self.now l fits)) (next l o))
+    (drawn_shown win.columns s.columns s.rows c.args.pass c.blanks_of-blanks.result bottom c.args.frame.now l old c.in_ok-planned.planned.plan kept ls
+    (line_counts c.in_ok-planned.planned.lines.items) shown p.columns_are (rw c.kept_below-kept.ensures at is) o p.plan_is blanks t c.in_ok-lines.ensures.counts p.counts_are
+    (c.in_ok-lines.ensures.right win.columns c.in_ok-planned.ensures.lines.measured) (above l win.some (fits_shown c.args.self.now l fits)))
 
 pub returns-in-Some-clause-paints : goal.returns-in-Some-clause-paints
 returns-in-Some-clause-paints g c = λ l fits plain.
@@ -292,8 +341,9 @@ returns-clause-lists g c = λ l fits.
     let shown = c.store.new.self.shown in
     fits_by _ shown c.ended-2.result c.ended-2.new.self l l' c.ended-2.ensures.remembers (subst (λ k. CountsOf k l') (sym c.in_ok-from.ensures.made.0) (next l o))
     (drawn-sound s.columns s.rows bottom c.args.pass frame l)
-    (drawn_shown win.columns s.columns s.rows c.args.pass c.blanks_of-blanks.result bottom c.args.frame.now l old c.drawn-counts.result c.in_ok-planned.planned.plan kept ls shown
-    p.columns_are is.marked is.lines_are o p.plan_is blanks t (above l win.some (fits_shown c.args.self.now l fits)) (next l o))
+    (drawn_shown win.columns s.columns s.rows c.args.pass c.blanks_of-blanks.result bottom c.args.frame.now l old c.in_ok-planned.planned.plan kept ls
+    (line_counts c.in_ok-planned.planned.lines.items) shown p.columns_are (rw c.kept_below-kept.ensures at is) o p.plan_is blanks t c.in_ok-lines.ensures.counts p.counts_are
+    (c.in_ok-lines.ensures.right win.columns c.in_ok-planned.ensures.lines.measured) (above l win.some (fits_shown c.args.self.now l fits)))
 
 pub returns-clause-paints : goal.returns-clause-paints
 returns-clause-paints g c = λ l fits plain.

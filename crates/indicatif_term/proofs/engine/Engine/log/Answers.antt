@@ -3,13 +3,12 @@ use Rattle.std.specs.Prelude.{string_bytes}
 use Rattle.std.proofs.lemmas.List.{length-map, length-replicate}
 use Rattle.std.proofs.Math.Logic.{∥∥₁_map}
 use Rattle.indicatif_term.specs.Lists.{Lists, logged}
-use Rattle.indicatif_term.specs.Counts.{CountsOf}
+use Rattle.indicatif_term.specs.Counts.{CountsOf, line_counts}
 use Rattle.indicatif_term.specs.Inside.Bytes.{paint_bytes, reach_bytes}
 use Rattle.indicatif_term.proofs.LastLineLemmas.{fill_bytes}
 use Rattle.indicatif_term.specs.Inside.Plans.{frame_lines, text_height}
 use Rattle.indicatif_term.specs.Frames.{bar_lines, logged_lines, text_lines, all_lines, is_fault}
 use Rattle.indicatif_term.specs.declared.engine.remembered.StandingLine.{StandingLine}
-use Rattle.indicatif_term.specs.Standing.{texts}
 use Rattle.indicatif_term.specs.Engines.{engine_term, Fits, Paints, is_failure, lists_after}
 use Rattle.indicatif_term.specs.DrawTargets.{is_bottom}
 use Rattle.indicatif_term.proofs.SkippingLemmas.{logged_shown, some_lines, counted_refused, fits_refused}
@@ -98,8 +97,9 @@ store-requires-clause-suits g c = λ r is.
     let next = rw p.rows_are at (c.logged-counts.ensures s.columns bottom text frame l x.1.counted (rw (← p.rows_are) at p.plan_is) p.height_is blanks) in (
       l',
       suits_made c.logged-counts.result r l' next (logged-sound s.columns s.rows bottom text frame l)
-          (logged_shown win.columns s.columns s.rows c.in_ok-planned.planned.text.height c.blanks_of-blanks.result bottom text c.args.frame.now l old c.logged-counts.result
-          c.in_ok-planned.planned.plan r p.columns_are is.marked x.1.counted p.plan_is p.height_is blanks (ap texts is.lines_are ∙ t) next),
+          (logged_shown win.columns s.columns s.rows c.in_ok-planned.planned.text.height c.blanks_of-blanks.result bottom text c.args.frame.now l old
+          c.in_ok-planned.planned.plan c.in_ok-lines.lines.items (line_counts c.in_ok-planned.planned.lines.items) r p.columns_are is x.1.counted p.plan_is p.height_is blanks t
+          c.in_ok-lines.ensures.counts p.counts_are (c.in_ok-lines.ensures.right win.columns c.in_ok-planned.ensures.lines.measured)),
     ))
 
 pub paint-written-requires : goal.paint-written-requires
@@ -134,8 +134,9 @@ returns-clause-lists g c = λ l fits.
     let next = rw p.rows_are at (c.logged-counts.ensures s.columns bottom text frame l o (rw (← p.rows_are) at p.plan_is) p.height_is blanks) in
     fits_by _ c.store.new.self.shown c.ended.result c.ended.new.self l l' c.ended.ensures.remembers (subst (λ k. CountsOf k l') (sym c.in_ok-store.ensures.made.0) next)
     (logged-sound s.columns s.rows bottom text frame l)
-    (logged_shown win.columns s.columns s.rows c.in_ok-planned.planned.text.height c.blanks_of-blanks.result bottom text c.args.frame.now l old c.logged-counts.result c.in_ok-planned.planned.plan
-    c.store.new.self.shown p.columns_are is.marked o p.plan_is p.height_is blanks (ap texts is.lines_are ∙ t) next)
+    (logged_shown win.columns s.columns s.rows c.in_ok-planned.planned.text.height c.blanks_of-blanks.result bottom text c.args.frame.now l old c.in_ok-planned.planned.plan
+    c.in_ok-lines.lines.items (line_counts c.in_ok-planned.planned.lines.items) c.store.new.self.shown p.columns_are is o p.plan_is p.height_is blanks t
+    c.in_ok-lines.ensures.counts p.counts_are (c.in_ok-lines.ensures.right win.columns c.in_ok-planned.ensures.lines.measured))
 
 pub returns-clause-paints : goal.returns-clause-paints
 returns-clause-paints g c = λ l fits plain.

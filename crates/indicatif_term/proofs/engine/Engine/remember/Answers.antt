@@ -1,4 +1,4 @@
 use Rattle.indicatif_term.proofs.engine.Engine.remember.Goals as goal
 
 pub invariant_of-self : goal.invariant_of-self
-invariant_of-self g c = record { some = rw c.replace-counts.ensures.after c.requires }
+invariant_of-self g c = record { some = c.requires }

@@ -1,6 +1,7 @@
 use Rattle.std.proofs.Common.{arith, ◌≡◌, refl, sym, ◌∙◌, ap, subst, true, None, append-nil, append_assoc, ◌++◌, ◌∷◌, []}
 use Rattle.std.specs.Prelude.{string_bytes}
 use Rattle.std.proofs.lemmas.List.{map-append}
+use Rattle.indicatif_term.specs.Counts.{line_count, line_counts}
 use Rattle.indicatif_term.specs.Standing.{texts, IsLine, AreLines}
 use Rattle.indicatif_term.specs.Inside.Layouts.{IsLike, AreLike}
 use Rattle.indicatif_term.specs.declared.engine.parting.Step.TheVariants.{Whole}
@@ -14,9 +15,9 @@ loop-init c = ([], no_blanks_yet, sym (append-nil c.args.lines.items))
 pub loop-preserved : goal.loop-preserved
 loop-preserved c =
     let b = c.loop.invariant in
-    let x : StandingLine = record { text = c.take_text.result; before = c.no_text.result; rows = 1; last = 0; narrow = true; edits = 0; step = Whole; like = None } in (
+    let x : StandingLine = record { bar = 0; text = c.take_text.result; before = c.no_text.result; rows = 1; last = 0; narrow = true; edits = 0; step = Whole; like = None } in (
       b.0 ++ x ∷ [],
-      one_blank_more c.loop.counter b.0 x b.1 c.take_text.ensures refl refl refl,
+      one_blank_more c.loop.counter b.0 x b.1 c.take_text.ensures refl refl refl refl,
       c.in_ok-push.ensures.items ∙ ap (λ ys. ys ++ x ∷ []) b.2 ∙ append_assoc c.args.lines.items b.0 (x ∷ []),
     )
 
@@ -31,6 +32,7 @@ returns c =
     record {
       memory = tt;
       texts = ap texts e ∙ map-append bytes b.0 xs ∙ ap (λ ys. ys ++ texts xs) are.empty;
+      counts = ap line_counts e ∙ map-append line_count b.0 xs ∙ ap (λ ys. ys ++ line_counts xs) are.counts;
       right = λ w all. subst (AreLines w) (sym e) (all_append (IsLine w) b.0 xs (are.lines w) all);
       alike = λ on all. subst (AreLike on) (sym e) (all_append (λ l. IsLike on (string_bytes l.text) l.like) b.0 xs (are.alike on) all);
     }

@@ -3,11 +3,11 @@ use Rattle.std.specs.Prelude.{string_bytes}
 use Rattle.std.proofs.lemmas.List.{length-map}
 use Rattle.indicatif_term.specs.Standing.{IsLine}
 use Rattle.indicatif_term.specs.declared.engine.remembered.StandingLine.{StandingLine}
-use Rattle.indicatif_term.proofs.BesideLemmas.{all_at, all_set, noted_line, one_noted, one_ready, none_noted, texts_noted, rest_noted, same_line, still_like}
+use Rattle.indicatif_term.proofs.BesideLemmas.{all_at, all_set, noted_line, one_noted, one_ready, none_noted, texts_noted, rest_noted, same_line, still_like, counts_set}
 use Rattle.indicatif_term.proofs.engine.beside.note_standing.Goals as goal
 
 pub loop-at-init : goal.loop-at-init
-loop-at-init c = record { texts_same = refl; rest = refl; right = λ w all. all; ready = tt; noted = λ w on all like. none_noted w c.args.standing.now }
+loop-at-init c = record { texts_same = refl; counts_same = refl; rest = refl; right = λ w all. all; ready = tt; noted = λ w on all like. none_noted w c.args.standing.now }
 
 pub loop-at-preserved : goal.loop-at-preserved
 loop-at-preserved c =
@@ -22,6 +22,7 @@ loop-at-preserved c =
     let same = same_line ys i line x h (sym c.index-line.ensures) e in
     record {
       texts_same = texts_noted ys i x _ e ∙ old.texts_same;
+      counts_same = counts_set ys i x _ e refl ∙ old.counts_same;
       rest = rest_noted ys c.args.lines.now.items i _ h old.rest;
       right = λ w all. all_set (IsLine w) ys i _ (noted_line w x _ (all_at (IsLine w) ys i x h e (old.right w all))) (old.right w all);
       noted = λ w on all like.
@@ -42,6 +43,7 @@ returns c =
     (omega (arith, ap length c.loop-at.invariant.texts_same, length-map ys bytes, length-map c.args.lines.now.items bytes, c.loop-at-test.false, c.len-at-end.ensures)) in
     record {
       texts = c.loop-at.invariant.texts_same;
+      counts = c.loop-at.invariant.counts_same;
       right = c.loop-at.invariant.right;
       ready = rw all at c.loop-at.invariant.ready;
       sits = λ w on right like. rw all at (c.loop-at.invariant.noted w on right like).sits;

@@ -1,4 +1,5 @@
 use Rattle.std.proofs.Common.{◌≡◌, ℕ, take, drop}
+use Rattle.indicatif_term.specs.Counts.{line_counts}
 use Rattle.indicatif_term.specs.Standing.{texts, AreLines, AreReady}
 use Rattle.indicatif_term.specs.Inside.Layouts.{AreLike}
 use Rattle.indicatif_term.specs.Inside.Places.{AreNoted}
@@ -7,6 +8,7 @@ use Rattle.indicatif_term.proofs.engine.beside.note_standing.Given as goal
 abbrev pub invariant-loop-at : goal.invariant-loop-at
 invariant-loop-at l = record {
   texts_same : texts l.lines.items ≡ texts l.fn.lines.items;
+  counts_same : line_counts l.lines.items ≡ line_counts l.fn.lines.items;
   rest : drop l.at l.lines.items ≡ drop l.at l.fn.lines.items;
   right : (w : ℕ) → AreLines w l.fn.lines.items → AreLines w l.lines.items;
   ready : AreReady (take l.at l.lines.items);

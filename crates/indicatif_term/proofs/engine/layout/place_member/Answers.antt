@@ -2,6 +2,7 @@ use Rattle.std.proofs.Common.{arith, get_or, ◌≡◌, ◌<◌, ◌≤◌, ◌�
 use Rattle.std.proofs.lemmas.Result.{err_from_is_err_and}
 use Rattle.std.proofs.lemmas.List.{length-map, take_all}
 use Rattle.indicatif_term.specs.Frames.{bar_lines, line_text}
+use Rattle.indicatif_term.specs.Counts.{line_counts}
 use Rattle.indicatif_term.specs.Inside.Plans.{IsLaidOut, IsWithheld}
 use Rattle.indicatif_term.proofs.MeasureLemmas.{narrow_more}
 use Rattle.indicatif_term.specs.Inside.Fills.{PlanEndsAt, line_end}
@@ -16,7 +17,7 @@ loop-line-init c = record {
   summed = c.requires.summed;
   passing_stays = refl;
   narrow = refl;
-  placed = λ before o. subst (λ ls. IsLaidOut c.args.window.rows ls c.args.laid.now.plan)
+  placed = λ before o. subst (λ ls. IsLaidOut c.args.window.rows ls c.args.laid.now.plan (line_counts c.args.laid.now.lines.items))
       (sym (append-nil before)) o;
   ends = λ before e. subst (λ xs. PlanEndsAt xs c.args.laid.now.plan) (sym (append-nil before)) e;
   lines = λ before e. subst (λ xs. HasLines c.args.window.columns c.args.beside.lines.now xs c.args.laid.now.plan c.args.laid.now.lines.items) (sym (append-nil before)) e;
@@ -30,7 +31,7 @@ returns-in_err-sized-clause-placed c = λ before o.
     let x = err_from_is_err_and c.from_residual.result c.from_residual.ensures.1 in
     let at = string_at c.args.member.now c.deref-line-items.result.now c.loop-line.line-index c.line-item.result c.deref-line-items.ensures.value (omega arith) (sym c.line-item.is) in
     member_refused c.args.window.columns c.args.window.rows c.args.member.now c.loop-line.line-index
-    (chars (line_text c.line-item.result)) before c.loop-line.laid.plan c.in_err-sized.field-0.0 c.from_residual.result (x.1 ∙ ap Err x.2)
+    (chars (line_text c.line-item.result)) before c.loop-line.laid.plan _ c.in_err-sized.field-0.0 c.from_residual.result (x.1 ∙ ap Err x.2)
     at.0 at.1 (subst (λ b. IsWithheld c.args.window.columns (chars b ∷ []) c.in_err-sized.field-0.0) c.as_str.ensures c.in_err-sized.ensures.sized)
 
 pub place-requires-clause-summed : goal.place-requires-clause-summed
@@ -54,7 +55,7 @@ loop-line-preserved c =
       summed = c.in_ok-place.ensures.summed;
       passing_stays = c.place.ensures.passing ∙ c.loop-line.invariant.passing_stays;
       narrow = narrow_more c.args.window.columns (bar_lines c.args.member.now).lines c.loop-line.line-index line at.0 at.1 c.loop-line.invariant.narrow m.1.narrow;
-      placed = λ before o. line_placed c.args.window.columns c.args.window.rows c.args.member.now c.loop-line.line-index line at.0 at.1 before c.place.new.laid.plan
+      placed = λ before o. line_placed c.args.window.columns c.args.window.rows c.args.member.now c.loop-line.line-index line at.0 at.1 before c.place.new.laid.plan _
           (c.in_ok-place.ensures.placed _ _ refl (sym m.1.rows_are) (c.loop-line.invariant.placed before o));
       ends = λ before e.
           let ends_before = map (λ line. line_end c.args.window.columns (line_text line)) (take c.loop-line.line-index items) in
@@ -83,7 +84,7 @@ returns-clause-placed c = λ before o.
     let all : length (bar_lines c.args.member.now).lines ≤ c.loop-line.line-index =
     omega (arith, length-map c.args.member.now.lines.items (λ x. chars (line_text x)), ap length c.deref-line-items.ensures.value) in (
       rw (take_all c.loop-line.line-index (bar_lines c.args.member.now).lines all) at c.loop-line.invariant.narrow,
-      member_placed c.args.window.columns c.args.window.rows c.loop-line.line-index c.args.member.now before c.loop-line.laid.plan all (c.loop-line.invariant.placed before o),
+      member_placed c.args.window.columns c.args.window.rows c.loop-line.line-index c.args.member.now before c.loop-line.laid.plan _ all (c.loop-line.invariant.placed before o),
     )
 
 pub returns-clause-ends : goal.returns-clause-ends

@@ -9,7 +9,7 @@ pub loop-member-init : goal.loop-member-init
 loop-member-init c = record {
   summed = c.requires.summed;
   narrow = refl;
-  laid = nothing_of c.args.window.columns c.args.window.rows [] c.args.made.now.plan c.requires.laid;
+  laid = nothing_of c.args.window.columns c.args.window.rows [] c.args.made.now.plan _ c.requires.laid;
   compared = c.requires.compared;
 }
 
@@ -29,7 +29,7 @@ loop-member-preserved c =
     record {
       summed = c.compare_member.ensures.summed yes;
       narrow = narrow_step wide high frame i s (omega arith) (sym c.member-item.is) old.narrow (c.compare_member.ensures.narrow yes);
-      laid = lines_step wide high frame i s (omega arith) (sym c.member-item.is) [] made.plan (c.compare_member.ensures.laid yes _ old.laid);
+      laid = lines_step wide high frame i s (omega arith) (sym c.member-item.is) [] made.plan _ (c.compare_member.ensures.laid yes _ old.laid);
       compared = subst (λ xs. AreCompared wide c.args.standing.now made.changed.items xs made.plan) (sym (frame_step frame i s (omega arith) (sym c.member-item.is)))
           (c.compare_member.ensures.compared yes _ old.compared);
     }

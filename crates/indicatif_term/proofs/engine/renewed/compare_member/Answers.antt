@@ -1,6 +1,7 @@
 use Rattle.std.proofs.Common.{arith, get_or, ◌≡◌, ◌<◌, ◌≤◌, ◌∙◌, refl, sym, ap, subst, append_assoc, append-nil, chars, length, map, take, [], ◌∷◌, ◌++◌}
 use Rattle.std.proofs.lemmas.List.{length-map, take_all}
 use Rattle.indicatif_term.specs.Frames.{bar_lines, line_text}
+use Rattle.indicatif_term.specs.Counts.{line_counts}
 use Rattle.indicatif_term.specs.Inside.Plans.{IsLaidOut}
 use Rattle.indicatif_term.specs.Inside.Renewed.{AreCompared}
 use Rattle.indicatif_term.proofs.MeasureLemmas.{narrow_more}
@@ -12,7 +13,7 @@ pub loop-line-init : goal.loop-line-init
 loop-line-init c = record {
   summed = c.requires.summed;
   narrow = refl;
-  laid = λ before o. subst (λ ls. IsLaidOut c.args.window.rows ls c.args.made.now.plan) (sym (append-nil before)) o;
+  laid = λ before o. subst (λ ls. IsLaidOut c.args.window.rows ls c.args.made.now.plan (take c.args.made.now.plan.lines (line_counts c.args.standing.now))) (sym (append-nil before)) o;
   compared = λ before e. subst (λ xs. AreCompared c.args.window.columns c.args.standing.now c.args.made.now.changed.items xs c.args.made.now.plan) (sym (append-nil before)) e;
 }
 
@@ -33,7 +34,7 @@ loop-line-preserved c =
     record {
       summed = c.compare_line.ensures.summed yes;
       narrow = narrow_more c.args.window.columns (bar_lines c.args.member.now).lines c.loop-line.line-index line at.0 at.1 c.loop-line.invariant.narrow narrow;
-      laid = λ before o. line_placed c.args.window.columns c.args.window.rows c.args.member.now c.loop-line.line-index line at.0 at.1 before c.compare_line.new.made.plan
+      laid = λ before o. line_placed c.args.window.columns c.args.window.rows c.args.member.now c.loop-line.line-index line at.0 at.1 before c.compare_line.new.made.plan _
           (laid _ (c.loop-line.invariant.laid before o));
       compared = λ before e.
           let texts_before = map line_text (take c.loop-line.line-index items) in
@@ -52,7 +53,7 @@ pub returns-clause-laid : goal.returns-clause-laid
 returns-clause-laid c = λ yes before o.
     let all : length (bar_lines c.args.member.now).lines ≤ c.loop-line.line-index =
     omega (arith, length-map c.args.member.now.lines.items (λ x. chars (line_text x)), ap length c.deref-line-items.ensures.value) in
-    member_placed c.args.window.columns c.args.window.rows c.loop-line.line-index c.args.member.now before c.loop-line.made.plan all (c.loop-line.invariant.laid before o)
+    member_placed c.args.window.columns c.args.window.rows c.loop-line.line-index c.args.member.now before c.loop-line.made.plan _ all (c.loop-line.invariant.laid before o)
 
 pub returns-clause-compared : goal.returns-clause-compared
 returns-clause-compared c = λ yes before e.

@@ -1,7 +1,12 @@
 use Rattle.std.proofs.Common.{arith, ◌<◌, [], length, sym, ap, subst, ◌∙◌}
 use Rattle.indicatif_term.specs.Standing.{AreLines}
 use Rattle.indicatif_term.specs.Remembered.{live_lines}
-use Rattle.indicatif_term.specs.Inside.Plans.{frame_lines}
+use Rattle.std.proofs.Common.{take, map}
+use Rattle.std.proofs.lemmas.Bool.{eqb-true}
+use Rattle.indicatif_term.specs.Lists.{lines_of}
+use Rattle.indicatif_term.specs.Frames.{bar_lines}
+use Rattle.indicatif_term.specs.Counts.{line_counts}
+use Rattle.indicatif_term.specs.Inside.Plans.{frame_lines, IsLaidOut}
 use Rattle.indicatif_term.specs.Inside.Renewed.{AreCompared}
 use Rattle.indicatif_term.proofs.RememberedLemmas.{live_right}
 use Rattle.indicatif_term.proofs.RenewedLemmas.{renewed_frame}
@@ -16,16 +21,17 @@ compare_frame-requires c =
     record {
       standing = subst (AreLines c.args.window.columns) (sym c.live-standing.ensures) lines;
       summed = c.requires.summed;
-      laid = c.requires.laid;
+      laid = subst (λ xs. IsLaidOut c.args.window.rows [] c.args.made.now.plan (take c.args.made.now.plan.lines (line_counts xs))) (sym c.live-standing.ensures) c.requires.laid;
       compared = subst (λ xs. AreCompared c.args.window.columns xs c.args.made.now.changed.items [] c.args.made.now.plan) (sym c.live-standing.ensures) c.requires.compared;
     }
 
-pub returns : goal.returns
-returns c = λ yes.
+pub returns-then-compare_frame : goal.returns-then-compare_frame
+returns-then-compare_frame c = λ yes.
     let made = c.compare_frame.new.made in
-    let all = c.if-not-compare_frame.false in
+    let all = c.if-compare_frame.true in
     let standing = c.live-standing.ensures in
     renewed_frame c.args.window.columns c.args.window.rows c.args.frame.now c.args.last.counts.now made.plan c.args.last.shown.now made.changed.items c.requires.settled
-    (c.compare_frame.ensures.narrow all) (c.compare_frame.ensures.laid all)
+    (c.compare_frame.ensures.narrow all) (subst (λ xs. IsLaidOut c.args.window.rows (lines_of c.args.window.columns (map bar_lines c.args.frame.now)) made.plan
+    (take made.plan.lines (line_counts xs))) standing (c.compare_frame.ensures.laid all))
     (subst (λ xs. AreCompared c.args.window.columns xs made.changed.items (frame_lines c.args.frame.now) made.plan) standing (c.compare_frame.ensures.compared all))
-    (c.if-made-standing.false ∙ ap length standing) (sym c.deref.ensures.value ∙ c.are_same_counts.ensures yes ∙ c.deref-2.ensures.value)
+    (eqb-true _ _ yes ∙ ap length standing)

@@ -4,12 +4,12 @@ use Rattle.std.specs.Prelude.{string_bytes}
 use Rattle.std.proofs.lemmas.List.{length-map, take_more_set}
 use Rattle.indicatif_term.specs.Standing.{IsLine}
 use Rattle.indicatif_term.specs.declared.engine.remembered.StandingLine.{StandingLine}
-use Rattle.indicatif_term.proofs.BesideLemmas.{all_append, all_at, all_set, noted_line, texts_noted}
+use Rattle.indicatif_term.proofs.BesideLemmas.{all_append, all_at, all_set, noted_line, texts_noted, counts_set}
 use Rattle.indicatif_term.proofs.RenewedLemmas.{IsLeft, in_place, all_over}
 use Rattle.indicatif_term.proofs.engine.renewed.leave_all.Goals as goal
 
 pub loop-at-init : goal.loop-at-init
-loop-at-init c = record { texts_same = refl; right = λ w all. all; left = tt }
+loop-at-init c = record { texts_same = refl; counts_same = refl; right = λ w all. all; left = tt }
 
 pub loop-at-preserved : goal.loop-at-preserved
 loop-at-preserved c =
@@ -22,6 +22,7 @@ loop-at-preserved c =
     let e = ap (get_or ys i) (sym c.index-lines-at.is) in
     record {
       texts_same = texts_noted ys i x _ e ∙ old.texts_same;
+      counts_same = counts_set ys i x _ e refl ∙ old.counts_same;
       right = λ w all. all_set (IsLine w) ys i _ (noted_line w x _ (all_at (IsLine w) ys i x h e (old.right w all))) (old.right w all);
       left = subst (AllByRecursion IsLeft) (sym (take_more_set ys i _ h)) (all_append IsLeft (take i ys) (_ ∷ []) old.left (refl, tt));
     }
@@ -34,6 +35,7 @@ returns c =
     (omega (arith, ap length c.loop-at.invariant.texts_same, length-map ys bytes, length-map c.args.lines.now bytes, c.loop-at-test.false)) in
     record {
       texts = c.loop-at.invariant.texts_same;
+      counts = c.loop-at.invariant.counts_same;
       in_place = λ w all. in_place w c.args.lines.now ys all (c.loop-at.invariant.right w all) c.loop-at.invariant.texts_same;
       over = λ w. all_over w c.args.lines.now ys c.loop-at.invariant.texts_same (subst (AllByRecursion IsLeft) all c.loop-at.invariant.left);
     }

@@ -3,6 +3,7 @@ use Rattle.std.specs.Prelude.{string_bytes}
 use Rattle.std.proofs.lemmas.List.{map-set, get_or-map}
 use Rattle.indicatif_term.specs.Standing.{texts}
 use Rattle.indicatif_term.specs.declared.engine.remembered.StandingLine.{StandingLine}
+use Rattle.indicatif_term.proofs.BesideLemmas.{counts_set}
 use Rattle.indicatif_term.proofs.RenewedLemmas.{place_new, over_new}
 use Rattle.indicatif_term.proofs.engine.renewed.put_line.Goals as goal
 
@@ -19,6 +20,7 @@ returns c =
     let text = ap string_bytes c.replace-old.ensures.after in
     record {
       texts = map-set bytes ys c.args.line.at _ ∙ ap (set (texts ys) c.args.line.at) text;
+      counts = counts_set ys c.args.line.at x _ same refl;
       in_place = λ w on p f. place_new w on ys x _ c.args.line p f same refl text refl refl;
       over = λ w on p f stood. over_new w on ys _ c.args.line p f text refl (before ∙ stood);
     }

@@ -13,6 +13,7 @@ loop-line-init c =
     let same = c.leave_all.ensures.texts in
     record {
       texts_are = ap (λ ts. renewed ts c.args.changed.items) same;
+      counts_same = c.leave_all.ensures.counts;
       count = sym (length-map c.leave_all.new.lines bytes) ∙ ap length same ∙ length-map c.args.lines.now bytes;
       in_place = λ w all f. c.leave_all.ensures.in_place w all;
       pending = λ w f. (length c.args.lines.now, omega arith, f, λ i h. ap (λ ts. get_or ts i []) same);
@@ -46,6 +47,7 @@ loop-line-preserved c =
     own in
     record {
       texts_are = ap (λ ts. renewed ts rest) c.put_line.ensures.texts ∙ sym (renewed-push (texts ys) rest line) ∙ ap (renewed (texts ys)) (sym popped) ∙ old.texts_are;
+      counts_same = c.put_line.ensures.counts ∙ old.counts_same;
       count = sym (length-map zs bytes) ∙ ap length c.put_line.ensures.texts ∙ length-set (texts ys) line.at (string_bytes line.text) ∙ length-map ys bytes ∙ old.count;
       in_place = λ w all f. c.put_line.ensures.in_place w on (old.in_place w all f) (fits w f);
       pending = λ w f.

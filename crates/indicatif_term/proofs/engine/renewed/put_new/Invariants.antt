@@ -1,4 +1,5 @@
 use Rattle.std.proofs.Common.{◌≡◌, ℕ, ◌<◌, ◌≤◌, [], get_or, length}
+use Rattle.indicatif_term.specs.Counts.{line_counts}
 use Rattle.indicatif_term.specs.Standing.{texts, AreLines}
 use Rattle.indicatif_term.specs.Inside.Renewed.{AreFitting, AreInPlace, AreOver, renewed}
 use Rattle.indicatif_term.proofs.engine.renewed.put_new.Given as goal
@@ -6,6 +7,7 @@ use Rattle.indicatif_term.proofs.engine.renewed.put_new.Given as goal
 abbrev pub invariant-loop-line : goal.invariant-loop-line
 invariant-loop-line l = record {
   texts_are : renewed (texts l.lines) l.changed.items ≡ renewed (texts l.fn.lines) l.fn.changed.items;
+  counts_same : line_counts l.lines ≡ line_counts l.fn.lines;
   count : length l.lines ≡ length l.fn.lines;
   in_place : (w : ℕ) → AreLines w l.fn.lines → AreFitting w l.fn.lines (length l.fn.lines) l.fn.changed.items → AreInPlace w l.fn.lines l.lines;
   pending : (w : ℕ) → AreFitting w l.fn.lines (length l.fn.lines) l.fn.changed.items →

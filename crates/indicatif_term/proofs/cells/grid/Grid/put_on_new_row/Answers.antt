@@ -25,4 +25,4 @@ returns-clause-ok c =
     let last : s.row + 1 ≡ length s.rows = omega (arith, c.requires.last, c.self.invariant.in_rows, ap (λ s. length s.rows) c.self.view_is, ap (λ s. s.row) c.self.view_is) in
     let written = c.in_ok-write.ensures.written ∙ ap (written_at 0 cells) c.blank-row.ensures in
     put_on_new s c.args.c c.args.columns _ last c.requires.columns (c.in_ok-push.ensures.items ∙ ap (λ r. s.rows ++ r ∷ []) written)
-    ∙ ap (λ (t : Screen). put_here (record { base = c.args.c; marks = [] }) c.args.columns (line_feed (record t { column = 0 }))) c.self.view_is
+    ∙ ap (λ (t : Screen). put_here (record { base = c.args.c; joiners = [] }) c.args.columns (line_feed (record t { column = 0 }))) c.self.view_is

@@ -7,4 +7,4 @@ pub returns : goal.returns
 returns c =
     let r = c.self.inside in
     blank_shown r.columns c.clear-2.new.self.items c.clear.new.self.items c.clear.ensures.items
-    ∙ ap blank_row (sym (length_shown r.columns r.marks.items r.cells.items c.self.invariant.within) ∙ ap length c.self.view_is)
+    ∙ ap blank_row (sym (length_shown r.columns r.joiners.items r.cells.items c.self.invariant.within) ∙ ap length c.self.view_is)

@@ -10,7 +10,7 @@ pub returns : goal.returns
 returns c =
     let r = c.self.inside in
     let all : take c.loop-cell.cell-index c.deref-cell-items.result.now ≡ c.deref-cell-items.result.now = take_all _ _ c.loop-cell-test.false in
-    sym c.loop-cell.invariant ∙ ap (list_any is_written) (all ∙ c.deref-cell-items.ensures.value) ∙ has_written_shown r.columns r.marks.items r.cells.items ∙ ap has_written c.self.view_is
+    sym c.loop-cell.invariant ∙ ap (list_any is_written) (all ∙ c.deref-cell-items.ensures.value) ∙ has_written_shown r.columns r.joiners.items r.cells.items ∙ ap has_written c.self.view_is
 
 pub returns-then-is_written : goal.returns-then-is_written
 returns-then-is_written c =
@@ -18,4 +18,4 @@ returns-then-is_written c =
     let x = c.cell-item.result in
     let some : list_any is_written c.deref-cell-items.result.now ≡ true =
     list_any_at is_written c.deref-cell-items.result.now c.loop-cell.cell-index x c.loop-cell-test.true (ap is_written (sym c.cell-item.is) ∙ sym c.is_written.ensures ∙ c.if-is_written.true) in
-    sym some ∙ ap (list_any is_written) c.deref-cell-items.ensures.value ∙ has_written_shown r.columns r.marks.items r.cells.items ∙ ap has_written c.self.view_is
+    sym some ∙ ap (list_any is_written) c.deref-cell-items.ensures.value ∙ has_written_shown r.columns r.joiners.items r.cells.items ∙ ap has_written c.self.view_is

@@ -11,7 +11,7 @@ use Rattle.indicatif_term.proofs.cells.row.Row.write_run.Goals as goal
 pub invariant_of-self : goal.invariant_of-self
 invariant_of-self c = record {
   within = omega (arith, ap length c.in_err-append_to.ensures.err, c.self.invariant.within);
-  leaves = keeps_again c.self.inside.marks.items _ c.self.inside.cells.items _ c.self.invariant.leaves refl c.in_err-append_to.ensures.err;
+  leaves = keeps_again c.self.inside.joiners.items _ c.self.inside.cells.items _ c.self.invariant.leaves refl c.in_err-append_to.ensures.err;
 }
 
 appended : (c : goal.After-len-then-at-len) → whole_row c.self.inside.columns c.append_to.new.cells.items
@@ -32,14 +32,14 @@ invariant_of-self-then-at-len c =
         arith,
         ap length c.in_ok-append_to.ensures.appended,
         length-append r.cells.items (narrow_cells run),
-        length-map run (λ c. Written (record { base = c; marks = [] })),
+        length-map run (λ c. Written (record { base = c; joiners = [] })),
         c.if-at-len.true,
         c.len.ensures,
         c.requires.fits,
         ap length c.self.view_is,
-        length_shown r.columns r.marks.items r.cells.items c.self.invariant.within,
+        length_shown r.columns r.joiners.items r.cells.items c.self.invariant.within,
       );
-      leaves = keeps_cells r.columns c.args.at r.marks.items (narrow_cells run) r.cells.items _ (λ m. narrow_shown m run) c.self.invariant.leaves (appended c);
+      leaves = keeps_cells r.columns c.args.at r.joiners.items (narrow_cells run) r.cells.items _ (λ m. narrow_shown m run) c.self.invariant.leaves (appended c);
     }
 
 pub returns-then-at-len-clause-written : goal.returns-then-at-len-clause-written
@@ -47,5 +47,5 @@ returns-then-at-len-clause-written c =
     let r = c.self.inside in
     let run = run_chars c.args.run in
     let all : take c.len-then-at-len.result run ≡ run = take_all c.len-then-at-len.result run (omega (arith, c.len-then-at-len.ensures)) in
-    cells_written_shown r.columns c.args.at r.marks.items (narrow_cells run) r.cells.items _ c.args.self.now (narrow_shown r.marks.items run) c.self.view_is (appended c)
+    cells_written_shown r.columns c.args.at r.joiners.items (narrow_cells run) r.cells.items _ c.args.self.now (narrow_shown r.joiners.items run) c.self.view_is (appended c)
     ∙ ap (λ cs. written_at c.args.at (narrow_cells cs) c.args.self.now) (sym all)

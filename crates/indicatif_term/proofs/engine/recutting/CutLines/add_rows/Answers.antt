@@ -1,7 +1,7 @@
 use Rattle.std.proofs.Common.{◌≡◌, ◌<◌, ◌-◌, ◌∙◌, ◌++◌, ◌∷◌, [], take, drop, length, length-drop, refl, sym, ap, subst, arith}
 use Rattle.indicatif_term.specs.Inside.Recutting.{new_pieces, fitting_count, HasMore}
 use Rattle.indicatif_term.proofs.CutPieceLemmas.{rest_of}
-use Rattle.indicatif_term.proofs.CutLineLemmas.{first_row, rows_left, more_added, next_rows_left, no_row_left}
+use Rattle.indicatif_term.proofs.CutLineLemmas.{first_row, rows_left, more_added, next_rows_left, no_row_left, gains_more}
 use Rattle.indicatif_term.proofs.engine.recutting.CutLines.add_rows.Goals as goal
 
 pub loop-at-init : goal.loop-at-init
@@ -14,6 +14,7 @@ loop-at-init c =
       within = c.in_ok-at.ensures.within;
       done = new_pieces w' (take n gs) ∷ [];
       added = c.in_ok-at.ensures.added;
+      owned = c.in_ok-at.ensures.owned;
       all = sym (first_row w w' gs c.requires.placed ∙ ap (λ k. new_pieces w' (take k gs) ∷ rows_left w w' (drop k gs)) (sym c.in_ok-at.ensures.count));
     }
 
@@ -32,6 +33,7 @@ loop-at-preserved c =
       within = omega (arith, c.in_ok-next.ensures.within, ap length same, length-drop at gs, some);
       done = done ++ new_pieces w' (take n (drop at gs)) ∷ [];
       added = more_added c.args.self.now c.loop-at.self c.add_first_row-in-loop-at.new.self done (new_pieces w' (take n (drop at gs)) ∷ []) _ c.loop-at.invariant.added more refl;
+      owned = gains_more c.args.bar c.args.self.now.lines.items c.loop-at.self.lines.items c.add_first_row-in-loop-at.new.self.lines.items c.loop-at.invariant.owned c.in_ok-next.ensures.owned;
       all = next_rows_left w w' n at gs done _ some c.requires.placed (c.in_ok-next.ensures.count ∙ ap (fitting_count w 0) same) c.loop-at.invariant.all;
     }
 
@@ -39,3 +41,6 @@ pub returns-clause-added : goal.returns-clause-added
 returns-clause-added c =
     subst (HasMore c.args.self.now c.loop-at.self)
     (no_row_left c.args.widths.from c.args.widths.to c.loop-at.at c.args.glyphs.now c.loop-at.invariant.done _ c.loop-at-test.false c.loop-at.invariant.all) c.loop-at.invariant.added
+
+pub returns-clause-owned : goal.returns-clause-owned
+returns-clause-owned c = c.loop-at.invariant.owned

@@ -1,6 +1,6 @@
 use Rattle.std.proofs.Common.{◌≡◌, ◌≤◌, ◌-◌, ◌++◌, List, length, drop}
 use Rattle.indicatif_text.specs.Columns.{Glyph}
-use Rattle.indicatif_term.specs.Inside.Recutting.{HasMore, cut_pieces}
+use Rattle.indicatif_term.specs.Inside.Recutting.{HasMore, Gains, cut_pieces}
 use Rattle.indicatif_term.proofs.CutLineLemmas.{rows_left}
 use Rattle.indicatif_term.proofs.engine.recutting.CutLines.add_rows.Given as goal
 
@@ -9,6 +9,7 @@ invariant-loop-at l = record {
   within : l.at ≤ length l.glyphs;
   done : List (List (List Glyph));
   added : HasMore l.fn.self l.self done;
+  owned : Gains l.bar l.fn.self.lines.items l.self.lines.items;
   all : done ++ rows_left l.widths.from l.widths.to (drop l.at l.glyphs) ≡ cut_pieces l.widths.from l.widths.to l.glyphs;
 }
 

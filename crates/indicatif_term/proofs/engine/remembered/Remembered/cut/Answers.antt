@@ -1,6 +1,6 @@
-use Rattle.std.proofs.Common.{arith, ◌<◌, sym, subst}
+use Rattle.std.proofs.Common.{◌≡◌, ◌++◌, arith, ◌<◌, sym, subst}
 use Rattle.indicatif_term.specs.Standing.{AreLines, texts}
-use Rattle.indicatif_term.specs.Inside.Recutting.{HasMore, cut_lines}
+use Rattle.indicatif_term.specs.Inside.Recutting.{HasMore, cut_lines, cut_bars, line_bars}
 use Rattle.indicatif_term.proofs.RememberedLemmas.{lines_right}
 use Rattle.indicatif_term.proofs.EngineResizeLemmas.{unknown_cut, known_cut}
 use Rattle.indicatif_term.proofs.engine.remembered.Remembered.cut.Goals as goal
@@ -19,3 +19,5 @@ returns-clause-cut c =
     let r = c.args.self.now in
     known_cut c.args.widths.from c.args.widths.to r c.none-cut.result c.add_lines.new.self c.if-self-widths.false (omega arith) c.none-cut.ensures.lines c.none-cut.ensures.heights
     (subst (λ ls. HasMore c.none-cut.result c.add_lines.new.self (cut_lines c.args.widths.from c.args.widths.to (texts ls))) c.as_slice.ensures c.in_ok-add_lines.ensures.added)
+    (subst (λ ls. line_bars c.add_lines.new.self.lines.items ≡ line_bars c.none-cut.result.lines.items ++ cut_bars c.args.widths.from c.args.widths.to ls) c.as_slice.ensures
+    c.in_ok-add_lines.ensures.owned)

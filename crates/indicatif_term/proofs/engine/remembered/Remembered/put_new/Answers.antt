@@ -11,7 +11,7 @@ returns c =
     let r = c.args.self.now in
     let place = c.put_new.ensures.in_place r.width (live_right r c.requires.known) c.requires.fit in
     record {
-      renews = record { width_is = refl; kept_is = refl; kept_are = c.put_new.ensures.above; texts_are = c.put_new.ensures.texts; in_place = place };
+      renews = record { width_is = refl; kept_is = refl; kept_are = c.put_new.ensures.above; texts_are = c.put_new.ensures.texts; in_place = place; counts_are = c.put_new.ensures.counts };
       over = c.put_new.ensures.over r.width c.requires.fit;
     }
 

@@ -1,6 +1,6 @@
 use Rattle.std.proofs.Common.{true, Ok, Err, refl, sym, ap, subst}
 use Rattle.indicatif_term.specs.Inside.Ending.{Held, Ended, Falls}
-use Rattle.indicatif_term.specs.declared.target.ended_rows.Place.TheVariants.{Resting}
+use Rattle.indicatif_term.specs.declared.target.ended_rows.Phase.TheVariants.{Resting}
 use Rattle.indicatif_term.proofs.EndedRowLemmas.{from_weaker, fall_fails, stands}
 use Rattle.indicatif_term.proofs.EndedTurnLemmas.{returned, rested, rests}
 use Rattle.indicatif_term.proofs.target.ended_rows.EndedRows.rest.Goals.{then-eq+in_ok-send, else-eq}

@@ -1,0 +1,10 @@
+use Rattle.std.proofs.Common.{take}
+use Rattle.std.specs.Prelude.{IsFalse}
+use Rattle.std.specs.List.{list_any}
+use Rattle.indicatif_term.specs.Engines.{is_failure}
+use Rattle.indicatif_board.specs.Boards.{drawn_of}
+use Rattle.indicatif_board.specs.Calls.{answer_of}
+use Rattle.uses.proofs.receipts.none_failed.Given as goal
+
+abbrev pub invariant-loop-entry : goal.invariant-loop-entry
+invariant-loop-entry g l = IsFalse (list_any (λ entry. is_failure (drawn_of (answer_of entry.answer))) (take l.entry-index l.entries))
