@@ -17,7 +17,8 @@ use Rattle.indicatif_term.specs.Inside.Plans.{IsLaidOut, frame_lines}
 use Rattle.indicatif_term.specs.Inside.Edits.{AreSingle}
 use Rattle.indicatif_term.specs.Inside.Parting.{IsTurned, IsReady, change_of, waits_of}
 use Rattle.indicatif_term.specs.declared.engine.parting.Step.TheVariants.{Leave}
-use Rattle.indicatif_term.specs.Inside.Changes.{PlacedLine, placed_height, Becomes, Ends, AreSitting, change_bytes}
+use Rattle.indicatif_term.specs.Inside.Changes.{PlacedLine, placed_height, Becomes, Ends, AreSitting}
+use Rattle.indicatif_term.proofs.AmongLemmas.{change_bytes}
 use Rattle.indicatif_term.specs.Inside.Places.{IsWithin}
 use Rattle.indicatif_term.specs.Inside.Renewed.{IsNew, ComesIn, heights, FitsIn, AreFitting, AreFittingFrom, renewed, AreInPlace, IsOver, AreOver, Renews, AreCompared, IsSettled, IsRenewed}
 use Rattle.indicatif_term.specs.declared.engine.beside.Room.{Room}

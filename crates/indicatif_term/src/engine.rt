@@ -33,14 +33,13 @@
 //! - `parting`: the byte where two texts of one row part (`Part`, `Step`), before the first escape character or among colours; how many
 //!   characters of one column follow?
 //! - `inks`: a text read cell by cell, with the colour sequences that are open at each (`InkedText`, `Colours`).
-//! - `last_char`: the last character of a line, where it is written again alone.
 //!
 //! What is written:
 //!
-//! - `painting`: rows are taken back and emptied, and a logged text, blank rows and lines written on them, each on a row of its own
-//!   (`Painting`, `Pen`). Also the steps that `changing` and `moving` share: up, down, rows emptied, spaces.
-//! - `changing`: lines in the place of others, from the first down to the last: which stay, which are edited in a part, which are written
-//!   as a whole?
+//! - `writing`: a drawing from its first byte to its last (`Writing`, `write`): rows are emptied, lines come in the place of others, and below
+//!   them a text and the rest of the lines, each on a row of its own. Also its steps: up, down, rows emptied, spaces.
+//! - `changing`: the lines in the place of others, from the first down to the last: which stay, which are edited in a part, which are
+//!   written as a whole?
 //! - `row_edits`: such a part, column by column: characters in their colours, and steps over columns that stay (`Rest`).
 //! - `moving`: whole lines over those that stand, where all their rows are full and none joins the one before it (`are_even`), without an
 //!   empty row between.
@@ -57,11 +56,9 @@ pub(crate) mod comparing;
 pub(crate) mod counts;
 pub(crate) mod inks;
 pub(crate) mod joined;
-pub(crate) mod last_char;
 pub(crate) mod layout;
 pub(crate) mod lines;
 pub(crate) mod moving;
-pub(crate) mod painting;
 pub(crate) mod parting;
 pub(crate) mod recounting;
 pub(crate) mod recutting;
@@ -70,19 +67,20 @@ pub(crate) mod renewed;
 pub(crate) mod row_edits;
 pub(crate) mod spare;
 pub(crate) mod window;
+pub(crate) mod writing;
 
 use crate::engine::beside::{Room, below_blanks, height_of, lines_among, lines_within};
-use crate::engine::changing::write_in_room;
+use crate::engine::changing::fill_behind;
 use crate::engine::counts::{Counts, Fresh, Keep, blanks_of};
 use crate::engine::layout::{plan_drawing, run_of};
 use crate::engine::lines::Segment;
-use crate::engine::moving::{are_even, write_over};
-use crate::engine::painting::{Drawing, Painting, paint};
+use crate::engine::moving::are_even;
 use crate::engine::recutting::{CutLines, Widths};
 use crate::engine::remembered::{NextLines, Remembered, Span, StandingLine};
 use crate::engine::renewed::{Last, NewLine, new_lines};
 use crate::engine::spare::Spare;
 use crate::engine::window::Window;
+use crate::engine::writing::{Drawing, Manner, Writing, write};
 use crate::target::limiter::RateLimiter;
 use crate::target::term_like::{Resize, TermLike};
 use crate::target::{MultiProgressAlignment, ProgressDrawTarget};
@@ -139,15 +137,14 @@ impl<T: Drop> Drop for Engine<T> {
 
 impl<T: TermLike + Drop> Engine<T> {
     ghost use Rattle.indicatif_term.specs.Lists.{Lists, drawn, logged, cleared, kept_of, fate};
-    ghost use Rattle.indicatif_term.specs.Inside.Bytes.{paint_bytes, reach_bytes};
+    ghost use Rattle.indicatif_term.specs.Inside.Writings.{CanWrite, IsChosen, writing_bytes};
     ghost use Rattle.indicatif_term.specs.Calls.{TermView, Writes};
     ghost use Rattle.indicatif_term.specs.Frames.{bar_lines, all_lines, are_plain, logged_lines, text_lines, is_fault};
-    ghost use Rattle.indicatif_term.specs.Inside.Plans.{frame_lines};
+    ghost use Rattle.indicatif_term.specs.Inside.Plans.{frame_lines, text_above};
     ghost use Rattle.indicatif_term.specs.Engines.{engine_moves, engine_term, Fits, is_failure, Answers, Counted, Paints, lists_after};
     ghost use Rattle.indicatif_term.specs.Inside.Remembering.{Draws, Remembers, IsNext, IsNothing, HasRoom, CanMove};
     ghost use Rattle.indicatif_term.specs.Remembered.{live_lines};
-    ghost use Rattle.indicatif_term.specs.Inside.Moves.{moved_bytes};
-    ghost use Rattle.indicatif_term.specs.Inside.Changes.{PlacedLine, placed_height, change_bytes};
+    ghost use Rattle.indicatif_term.specs.Inside.Changes.{placed_height};
     ghost use Rattle.indicatif_term.specs.Inside.Renewed.{AreFitting, AreInPlace, AreOver, Renews};
     ghost use Rattle.indicatif_term.specs.Inside.Places.{IsWithin};
     ghost use Rattle.indicatif_term.specs.Standing.{placed, AreReady, AreLines};
@@ -277,14 +274,10 @@ impl<T: TermLike + Drop> Engine<T> {
             return self.draw_anew(frame, pass, alignment);
         };
         self.shown.put_new(&mut self.spare, changed);
-        let width = self.shown.width;
-        let lines = self.shown.live();
-        let room = Room {
-            lines: lines.len(),
-            free: 0,
-        };
-        let written = write_in_room(&mut self.term, lines, room, width);
-        self.ended(written)
+        let lines = self.shown.live().len();
+        let writing = Writing::skipping(lines, self.shown.width);
+        let from = self.shown.kept;
+        self.write(&writing, None, from)
     }
 
     /// Draws the frame by a plan of it, where some of its rows are others than those that stand.
@@ -320,38 +313,24 @@ impl<T: TermLike + Drop> Engine<T> {
         let standing = self.shown.on(width);
         let lines = lines_among(&mut self.spare, standing, blanks, planned.lines)?;
         let kept = plan.kept_below(blanks);
-        let last = plan.last;
         let end = self.counts.kept + (blanks + plan.rows);
         let fresh = self.counts.fresh(end, window.rows);
         let counts = self.counts.drawn(plan, blanks, window.rows);
-        let moves = self.can_move(&counts, &lines, width);
-        let room = self.room_for(&counts, &lines, width);
-        let painting = Painting {
+        let whole = Writing {
             anew: self.failed,
             fresh,
             below: self.counts.below,
             taken,
+            manner: Manner::Among(0),
+            width,
             ends_below: counts.below,
-            fill: counts.fill(last, width),
+            fill: counts.fill(plan.last, width),
         };
+        let writing = self.chosen(whole, &counts, &lines);
         let above = self.shown.above(width, self.counts.kept);
         let next = NextLines { lines, kept };
         let from = self.store(counts, above, next, width)?;
-        let drawn = self.shown.behind(from);
-        if moves {
-            let written = write_over(&mut self.term, taken, drawn, width);
-            return self.ended(written);
-        }
-        if let Some(room) = room {
-            let written = write_in_room(&mut self.term, drawn, room, width);
-            return self.ended(written);
-        }
-        let drawing = Drawing {
-            text: None,
-            lines: drawn,
-        };
-        let written = paint(&mut self.term, &painting, &drawing);
-        self.ended(written)
+        self.write(&writing, None, from)
     }
 
     /// Writes the lines of the text, which stay, in the place of the kept and the live rows, and draws the frame below
@@ -406,24 +385,20 @@ impl<T: TermLike + Drop> Engine<T> {
         let counts = self
             .counts
             .logged(metrics.height, plan, blanks, window.rows);
-        let fill = counts.fill(Some(last), window.columns);
-        let painting = Painting {
+        let writing = Writing {
             anew: self.failed,
             fresh,
             below: self.counts.below,
             taken,
+            manner: Manner::Among(0),
+            width: window.columns,
             ends_below: counts.below,
-            fill,
+            fill: counts.fill(Some(last), window.columns),
         };
         let above = Span { from: 0, to: 0 };
         let next = NextLines { lines, kept: 0 };
         let from = self.store(counts, above, next, window.columns)?;
-        let drawing = Drawing {
-            text: Some(text),
-            lines: self.shown.behind(from),
-        };
-        let written = paint(&mut self.term, &painting, &drawing);
-        self.ended(written)
+        self.write(&writing, Some(text), from)
     }
 
     /// Takes back the kept and the live rows. Takes no memory.
@@ -441,24 +416,21 @@ impl<T: TermLike + Drop> Engine<T> {
             Paints (T.view (engine_term self.old)) (T.view (engine_term self.new)) (is_failure result) l
             (lists_after result l (cleared l)) }
     {
-        Window::of(&self.term)?;
+        let window = Window::of(&self.term)?;
         let next = self.counts.cleared();
-        let painting = Painting {
+        let writing = Writing {
             anew: self.failed,
             fresh: Fresh::none(),
             below: self.counts.below,
             taken: self.counts.kept + self.counts.live,
+            manner: Manner::Among(0),
+            width: window.columns,
             ends_below: next.below,
             fill: 0,
         };
         let forgotten = Remembered::nothing(self.alloc);
         self.remember(next, forgotten);
-        let drawing = Drawing {
-            text: None,
-            lines: &[],
-        };
-        let written = paint(&mut self.term, &painting, &drawing);
-        self.ended(written)
+        self.write(&writing, None, 0)
     }
 
     /// The rows of a bar that is gone become kept rows, with the blank rows above them, if they are the first live ones of a
@@ -514,7 +486,7 @@ impl<T: TermLike + Drop> Engine<T> {
 
     /// Whether lines can be written over the live rows by moves alone, if `set_move_cursor` was told so.
     fn can_move(&self, next: &Counts, lines: &[StandingLine], width: usize) -> bool
-        ensures { IsTrue result → CanMove self.now next.now width lines.now }
+        ensures { IsTrue result → CanMove self.now.counts self.now.failed self.now.shown next.now width lines.now }
     {
         let live = self.counts.live;
         if !self.moves || self.failed || next.below || lines.is_empty() {
@@ -545,7 +517,7 @@ impl<T: TermLike + Drop> Engine<T> {
 
     /// How lines stand in the place of the live rows, if those that stay can be left; else all lines are painted.
     fn room_for(&self, next: &Counts, lines: &[StandingLine], width: usize) -> Option<Room>
-        ensures { IfSome result (λ room. HasRoom self.now next.now width lines.now × IsWithin lines.now self.now.counts.live room) }
+        ensures { IfSome result (λ room. HasRoom self.now.counts self.now.failed self.now.shown next.now width lines.now × IsWithin lines.now self.now.counts.live room) }
     {
         if self.failed || self.counts.below || next.below || self.goes_further(lines) {
             return None;
@@ -554,6 +526,49 @@ impl<T: TermLike + Drop> Engine<T> {
             return None;
         }
         lines_within(lines, self.counts.live)
+    }
+
+    /// How lines are written that may be written whole: over the live rows, among those that stay, or whole.
+    fn chosen(&self, whole: Writing, next: &Counts, lines: &[StandingLine]) -> Writing
+        ensures { IsChosen self.now.counts self.now.failed self.now.shown next.now lines.now whole result }
+    {
+        if self.can_move(next, lines, whole.width) {
+            return Writing {
+                fresh: Fresh::none(),
+                taken: 0,
+                manner: Manner::Over(whole.taken),
+                fill: 0,
+                ..whole
+            };
+        }
+        match self.room_for(next, lines, whole.width) {
+            Some(room) => Writing {
+                fresh: Fresh::none(),
+                taken: room.free,
+                manner: Manner::Among(room.lines),
+                fill: fill_behind(&lines[room.lines..], whole.width),
+                ..whole
+            },
+            None => whole,
+        }
+    }
+
+    /// Writes this text, and the remembered lines behind the first `from`.
+    fn write(&mut self, writing: &Writing, text: Option<&str>, from: usize) -> Result<(), Refusal>
+        requires sound { self.old.failed ≡ false }
+        requires within { from ≤ length self.old.shown.lines }
+        requires can { CanWrite writing.now.manner (drop from self.old.shown.lines) }
+        ensures draws { Draws (writing_bytes writing.now (text_above text.entry) (drop from self.old.shown.lines))
+            (T.view (engine_term self.old)) (T.view (engine_term self.new)) result }
+        ensures remembers { Remembers self.old.counts self.old.shown result self.new }
+        ensures moves { engine_moves self.new ≡ engine_moves self.old }
+    {
+        let drawing = Drawing {
+            text,
+            lines: self.shown.behind(from),
+        };
+        let written = write(&mut self.term, writing, &drawing);
+        self.ended(written)
     }
 
     /// The answer of the engine after a drawing was written; after a failure all is forgotten but that a call has failed.

@@ -15,7 +15,9 @@ use Rattle.indicatif_term.specs.DrawTargets.{is_bottom}
 use Rattle.indicatif_term.proofs.SkippingLemmas.{logged_shown, some_lines, counted_refused, fits_refused}
 use Rattle.indicatif_term.proofs.DrawingLemmas.{logged-adds, logged-known, logged-sound}
 use Rattle.indicatif_term.proofs.LineEndLemmas.{log_fill}
-use Rattle.indicatif_term.proofs.EngineLemmas.{all_or_many, paints_refused, paints_by, fits_counts, fits_failed, fits_forgets, fits_by, suits_made, log_paints, narrow_both, answer_made}
+use Rattle.indicatif_term.proofs.EngineLemmas.{all_or_many, paints_refused, paints_by, led, fits_counts, fits_failed, fits_forgets, fits_by, suits_made, log_paints, narrow_both, answer_made}
+use Rattle.indicatif_term.specs.Inside.Remembering.{Draws}
+use Rattle.indicatif_term.proofs.WritingLemmas.{whole_bytes}
 use Rattle.indicatif_term.proofs.LoggedLineLemmas.{logged_length, logged_utf8}
 use Rattle.indicatif_term.proofs.engine.Engine.log.Goals as goal
 
@@ -108,8 +110,8 @@ returns-clause-answer g c =
     let frame = all_lines (map bar_lines c.args.frame.now) in
     let p = c.in_ok-planned.ensures.planned in
     let w = c.in_ok-planned.planned.window.columns in
-    rw (← p.columns_are) (answer_made w (text ++ frame) _ _ c.ended.result c.ended.new.self
-    c.ended.ensures.remembers c.in_ok-planned.planned.window.some
+    rw (← p.columns_are) (answer_made w (text ++ frame) _ _ c.write.result c.write.new.self
+    c.write.ensures.remembers c.in_ok-planned.planned.window.some
     (rw (← p.columns_are) at (narrow_both (g.T.TermLike.view (engine_term c.args.self.now)).columns text frame p.narrow_text p.narrow_frame)))
 
 pub returns-clause-lists : goal.returns-clause-lists
@@ -127,7 +129,7 @@ returns-clause-lists g c = λ l fits.
     let o = fits_counts c.args.self.now l fits in
     let l' = logged s.columns s.rows bottom text frame l in
     let next = rw p.rows_are at (c.logged-counts.ensures s.columns bottom text frame l o (rw (← p.rows_are) at p.plan_is) p.height_is blanks) in
-    fits_by _ c.store.new.self.shown c.ended.result c.ended.new.self l l' c.ended.ensures.remembers (subst (λ k. CountsOf k l') (sym c.in_ok-from.ensures.made.0) next)
+    fits_by _ c.store.new.self.shown c.write.result c.write.new.self l l' c.write.ensures.remembers (subst (λ k. CountsOf k l') (sym c.in_ok-from.ensures.made.0) next)
     (logged-sound s.columns s.rows bottom text frame l)
     (logged_shown win.columns s.columns s.rows c.in_ok-planned.planned.text.height c.blanks_of-blanks.result bottom text c.args.frame.now l old c.in_ok-planned.planned.plan
     c.in_ok-lines.lines.items (line_counts c.in_ok-planned.planned.lines.items) c.store.new.self.shown p.columns_are is o p.plan_is p.height_is blanks t
@@ -152,17 +154,24 @@ returns-clause-paints g c = λ l fits plain.
     let next = λ (x : Lists) (is : CountsOf old x). rw p.rows_are at (c.logged-counts.ensures s.columns bottom (text_lines text) frame x is (rw (← p.rows_are) at p.plan_is) p.height_is blanks) in
     let lines = text ++ replicate c.blanks_of-blanks.result [] ++ take plan.lines (frame_lines c.args.frame.now) in
     let fill = log_fill s.columns s.rows 0 c.blanks_of-blanks.result (old.kept + old.live) rows bottom c.args.frame.now plan p.plan_is p.plan_ends blanks
-    c.logged-counts.result.below c.fill-fill.result c.unwrap_or-last.result text (logged_length c.args.text.now) (rw p.text_ends at c.unwrap_or-last.ensures)
-    (rw p.columns_are at c.fill-fill.ensures) in
+    c.logged-counts.result.below c.fill.result c.unwrap_or-last.result text (logged_length c.args.text.now) (rw p.text_ends at c.unwrap_or-last.ensures)
+    (rw p.columns_are at c.fill.ensures) in
     let t = c.in_ok-lines.ensures.texts ∙ ap (λ xs. replicate c.blanks_of-blanks.result [] ++ xs) c.in_ok-planned.ensures.lines.texts_are in
-    let all : text ++ texts c.behind.result.now ≡ lines = ap (λ xs. text ++ xs) (ap texts (c.behind.ensures ∙ c.in_ok-from.ensures.next.2) ∙ t)
-    ∙ sym (append_assoc text (replicate c.blanks_of-blanks.result []) (take plan.lines (frame_lines c.args.frame.now))) in
-    paints_by s (g.T.TermLike.view (engine_term c.ended.new.self)) old _ _ c.ended.result c.ended.new.self c.args.self.now.failed l
+    let ls = c.in_ok-lines.lines.items in
+    let all : text ++ texts ls ≡ lines = ap (λ xs. text ++ xs) t ∙ sym (append_assoc text (replicate c.blanks_of-blanks.result []) (take plan.lines (frame_lines c.args.frame.now))) in
+    let v' = g.T.TermLike.view (engine_term c.write.new.self) in
+    let bytes = reach_bytes f.down f.rows ++ (paint_bytes false old.below (old.kept + old.live) lines c.logged-counts.result.below ++ fill_bytes c.logged-counts.result.below s.columns lines) in
+    let written = whole_bytes c.args.self.now.failed old.below c.logged-counts.result.below f (old.kept + old.live) c.in_ok-planned.planned.window.columns c.fill.result text ls in
+    let writes : Draws (led c.args.self.now.failed bytes) s v' c.write.result = rw (
+      c.store.ensures.terminal,
+      c.in_ok-from.ensures.next.2,
+      written,
+      all,
+      fill,
+    ) at c.write.ensures.draws in
+    paints_by s (g.T.TermLike.view (engine_term c.write.new.self)) old _ _ c.write.result c.write.new.self c.args.self.now.failed l
     (logged s.columns s.rows bottom (text_lines text) frame)
-    (reach_bytes f.down f.rows ++ (paint_bytes false old.below (old.kept + old.live) lines c.logged-counts.result.below ++ fill_bytes c.logged-counts.result.below s.columns lines))
-    c.ended.ensures.remembers
-    (fits_failed c.args.self.now l fits)
-    (rw (c.store.ensures.terminal, all, fill) at (c.ended.ensures.draws _ _ c.paint-written.ensures))
+    bytes c.write.ensures.remembers (fits_failed c.args.self.now l fits) writes
     (λ x is. log_paints s.columns s.rows x old c.logged-counts.result rows c.blanks_of-blanks.result bottom text c.args.frame.now plan end f
     (rw p.columns_are at c.in_ok-planned.planned.window.some) (logged_utf8 c.args.text.now c.utf8.text) plain p.narrow_text p.narrow_frame is.counts p.plan_is (next x is.counts) p.height_is blanks
     (rw p.rows_are at c.fresh-fresh.ensures) ends lasts) o
