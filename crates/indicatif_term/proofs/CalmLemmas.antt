@@ -1,5 +1,5 @@
 -- The bytes of each drawing are a calm text, where its lines are plain.
-use Rattle.std.proofs.Common.{◌≡◌, ℕ, zero, suc, ◌+◌, ◌-◌, Bool, true, false, List, [], ◌∷◌, ◌++◌, length, take, drop, replicate, refl, sym, ◌∙◌, ap, subst, arith, append-nil, chars, not, if◌then◌else◌, None, inl, inr}
+use Rattle.std.proofs.Common.{min, ◌≡◌, ℕ, zero, suc, ◌+◌, ◌-◌, Bool, true, false, List, [], ◌∷◌, ◌++◌, length, take, drop, replicate, refl, sym, ◌∙◌, ap, subst, arith, append-nil, chars, not, if◌then◌else◌, None, inl, inr}
 use Rattle.std.specs.Prelude.{IsFalse, ◌&&◌, ◌||◌, ◌==◌, nat_le, nat_lt, is_some, slice_index, flat_map, decimal}
 use Rattle.std.specs.List.{AllByRecursion, list_all, list_any}
 use Rattle.std.specs.Int.{is_in_range}
@@ -19,8 +19,9 @@ use Rattle.indicatif_term.specs.Calls.{UP, DOWN, RIGHT, move_bytes, clear_bytes,
 use Rattle.indicatif_term.specs.Calm.{Stroke, Character, Colours, Move, Empty, stroke_bytes, IsCalm, AreCalm, Calmly}
 use Rattle.indicatif_term.specs.Inside.Inks.{RESET, AreColours}
 use Rattle.indicatif_term.specs.Inside.Edits.{Edit, Stay, Write, Close, Open, IsNarrowChar, IsWritable, edit_bytes, row_bytes}
-use Rattle.indicatif_term.specs.Inside.Bytes.{next_row, rows_down, back_bytes, reach_bytes, lines_bytes, paint_bytes}
-use Rattle.indicatif_term.specs.Inside.Changes.{Change, Leave, Within, Whole, PlacedLine, placed_height, placed_lines, emptied_bytes, step_bytes, step_down, walk_bytes, frame_bytes, rows_below, filled_whole, ending_by, ending, AreSitting, Becomes, all_stay, free_behind}
+use Rattle.indicatif_term.specs.Inside.Bytes.{next_row, rows_down, back_bytes, reach_bytes, lines_bytes}
+use Rattle.indicatif_term.proofs.PaintingLemmas.{paint_bytes}
+use Rattle.indicatif_term.specs.Inside.Changes.{Change, Leave, Within, Whole, PlacedLine, placed_height, placed_lines, emptied_bytes, step_bytes, step_down, walk_bytes, frame_bytes, filled_whole, ending_by, ending, AreSitting, Becomes, all_stay, free_behind}
 use Rattle.indicatif_term.proofs.AmongLemmas.{rewrite_bytes, change_bytes}
 use Rattle.indicatif_term.specs.Inside.Fills.{last_of}
 use Rattle.indicatif_term.specs.Inside.Changes.{ends_plainly}
@@ -181,7 +182,7 @@ lines_calm w at_end (line ∷ lines) d =
     calm_append (row ++ line) (lines_bytes true lines) (calm_append row line (row_if_calm at_end) (line_calm w line d.0)) (lines_calm w true lines d.1)
 
 -- rows taken back and lines written
-pub paint_calm : (w : ℕ) (below : Bool) (taken : ℕ) (lines : List (List ℕ)) (ends : Bool) → AreDrawable w lines → IsCalm (paint_bytes false below taken lines ends)
+pub paint_calm : (w : ℕ) (below : Bool) (taken : ℕ) (lines : List (List ℕ)) (ends : Bool) → AreDrawable w lines → IsCalm (paint_bytes below taken lines ends)
 unfolding paint_bytes
 paint_calm w below taken lines ends d =
     let at_end = not below && (taken == 0) in
@@ -267,9 +268,9 @@ calm_steps_append (x ∷ ps) qs p q = (p.0, calm_steps_append ps qs p.1 q)
 rewrite_calm : (w taken : ℕ) (front : List PlacedLine) (last : PlacedLine) → AllByRecursion HasCalmSteps (front ++ ending w last ∷ []) → IsCalm (rewrite_bytes w taken front last)
 rewrite_calm w taken front last all =
     let ps = front ++ ending w last ∷ [] in
-    let up = move_bytes UP (placed_height ps - 1 + rows_below taken) in
-    let written : IsCalm (back_bytes false taken ++ frame_bytes (rows_below taken) ps) =
-    calm_append (back_bytes false taken) (frame_bytes (rows_below taken) ps) (back_calm false taken) (calm_append up (walk_bytes 0 ps) (up_calm _) (walk_calm 0 ps all)) in
+    let up = move_bytes UP (placed_height ps - 1 + min taken 1) in
+    let written : IsCalm (back_bytes false taken ++ frame_bytes (min taken 1) ps) =
+    calm_append (back_bytes false taken) (frame_bytes (min taken 1) ps) (back_calm false taken) (calm_append up (walk_bytes 0 ps) (up_calm _) (walk_calm 0 ps all)) in
     elim (cases_Bool ((taken == 0) && all_stay (front ++ last ∷ []))) [
       | inl stay ↦ rw stay calm_none
       | inr go ↦ rw go written

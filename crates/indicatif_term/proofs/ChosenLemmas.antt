@@ -8,7 +8,8 @@ use Rattle.indicatif_term.specs.Counts.{CountsOf}
 use Rattle.indicatif_term.specs.Frames.{bar_lines, all_lines, are_plain, some_wide}
 use Rattle.indicatif_term.specs.Remembered.{AreRemembered}
 use Rattle.indicatif_term.specs.Standing.{placed_of, placed, texts, AreLines, AreReady}
-use Rattle.indicatif_term.specs.Inside.Bytes.{reach_bytes, paint_bytes}
+use Rattle.indicatif_term.specs.Inside.Bytes.{reach_bytes}
+use Rattle.indicatif_term.proofs.PaintingLemmas.{paint_bytes}
 use Rattle.indicatif_term.specs.Inside.Changes.{AreSitting, free_behind}
 use Rattle.indicatif_term.specs.Inside.Fills.{last_of}
 use Rattle.indicatif_term.specs.Inside.Moves.{moved_bytes, AreEven}
@@ -36,7 +37,8 @@ use Rattle.indicatif_term.proofs.SkippingLemmas.{draw_changes, split_at}
 use Rattle.indicatif_term.proofs.WritingLemmas.{whole_bytes, among_written, over_written}
 
 -- lines can be written as it was chosen
-pub chosen_can : (counts : Counts) (failed : Bool) (shown : Remembered) (next : Counts) (ls : List StandingLine) (p q : Writing) → p.manner ≡ Among 0 → AreReady ls → IsChosen counts failed shown next ls p q → CanWrite q.manner ls
+pub chosen_can : (counts : Counts) (failed : Bool) (shown : Remembered) (next : Counts) (ls : List StandingLine) (p q : Writing) → p.manner ≡ Among 0 → AreReady ls →
+    IsChosen counts failed shown next ls p q → CanWrite q.manner ls
 chosen_can counts failed shown next ls p q whole ready is = elim is [
   | inl a ↦ subst (λ (z : Writing). CanWrite z.manner ls) (sym a.1.is) tt
   | inr b ↦ elim b [
@@ -49,7 +51,8 @@ chosen_can counts failed shown next ls p q whole ready is = elim is [
   ]
 ]
 
-module _ (counts : Counts) (failed : Bool) (shown : Remembered) (v w h pass blanks fill : ℕ) (bottom : Bool) (next : Counts) (frame : List Segment) (plan : Plan) (ls : List StandingLine) (f : Fresh) (q : Writing) (l : Lists)
+module _ (counts : Counts) (failed : Bool) (shown : Remembered) (v w h pass blanks fill : ℕ) (bottom : Bool) (next : Counts)
+    (frame : List Segment) (plan : Plan) (ls : List StandingLine) (f : Fresh) (q : Writing) (l : Lists)
     (same : v ≡ w) (some : 0 < w) (plain : IsTrue (are_plain (all_lines (map bar_lines frame)))) (narrow : IsFalse (some_wide w (all_lines (map bar_lines frame))))
     (planned : IsPlan w h pass (map bar_lines frame) plan) (counted : (x : Lists) → CountsOf counts x → CountsOf next (drawn w h bottom pass (map bar_lines frame) x))
     (blank : blanks ≡ blanks_for bottom counts.live 0 plan.rows) (t : texts ls ≡ replicate blanks [] ++ take plan.lines (frame_lines frame)) (right : AreLines w ls)
@@ -101,10 +104,10 @@ module _ (counts : Counts) (failed : Bool) (shown : Remembered) (v w h pass blan
   by_whole is =
       let lines = [] ++ replicate blanks [] ++ take plan.lines (frame_lines frame) in
       let reach = reach_bytes f.down f.rows in (
-        reach ++ (paint_bytes false counts.below counts.live lines next.below ++ fill_bytes next.below w lines),
+        reach ++ (paint_bytes counts.below counts.live lines next.below ++ fill_bytes next.below w lines),
         ap (λ z. writing_bytes z [] ls) is ∙ whole_bytes failed counts.below next.below f counts.live v fill [] ls
-            ∙ ap (λ xs. led failed (reach ++ (paint_bytes false counts.below counts.live xs next.below ++ replicate fill 0x20))) t
-            ∙ ap (λ z. led failed (reach ++ (paint_bytes false counts.below counts.live lines next.below ++ z))) filled,
+            ∙ ap (λ xs. led failed (reach ++ (paint_bytes counts.below counts.live xs next.below ++ replicate fill 0x20))) t
+            ∙ ap (λ z. led failed (reach ++ (paint_bytes counts.below counts.live lines next.below ++ z))) filled,
         λ x like. draw_paints w h x counts next pass blanks bottom frame plan f some plain narrow like.counts planned (counted x like.counts) blank fresh,
       )
 

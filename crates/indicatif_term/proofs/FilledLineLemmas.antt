@@ -8,7 +8,8 @@ use Rattle.std.proofs.lemmas.List.{map-append}
 use Rattle.std.proofs.lemmas.List.Folds.{list_any-append, list_all-append}
 use Rattle.unicode_width.specs.Width.{char_width}
 use Rattle.indicatif_text.specs.Columns.{Cell, width_of, visible, last_columns, rows_of, is_plain, has_wide}
-use Rattle.indicatif_term.specs.Inside.Bytes.{paint_bytes, back_bytes, lines_bytes}
+use Rattle.indicatif_term.specs.Inside.Bytes.{back_bytes, lines_bytes}
+use Rattle.indicatif_term.proofs.PaintingLemmas.{paint_bytes}
 use Rattle.indicatif_term.specs.Inside.Fills.{last_or_none}
 use Rattle.indicatif_term.proofs.LastLineLemmas.{fill_bytes, fill_width}
 use Rattle.indicatif_term.specs.Shows.{look, looks_of}
@@ -103,9 +104,9 @@ refills false w lines p d = record {
 
 -- a drawing and what fills its row
 pub filled_paint : (w : ℕ) (below ends : Bool) (taken : ℕ) (lines : List (List ℕ)) →
-    paint_bytes false below taken lines ends ++ fill_bytes ends w lines ≡ paint_bytes false below taken (refilled ends w lines) ends
+    paint_bytes below taken lines ends ++ fill_bytes ends w lines ≡ paint_bytes below taken (refilled ends w lines) ends
 unfolding paint_bytes
-filled_paint w below true taken lines = append-nil _ ∙ ap (λ ls. paint_bytes false below taken ls true) (sym (no_fill lines))
+filled_paint w below true taken lines = append-nil _ ∙ ap (λ ls. paint_bytes below taken ls true) (sym (no_fill lines))
 filled_paint w below false taken lines =
     let at_end = not below && (taken == 0) in
     let back = back_bytes below taken in

@@ -1,15 +1,16 @@
 -- A drawing that first empties the rows that it is the first to reach leads to the same.
-use Rattle.std.proofs.Common.{◌≡◌, ◌⊎◌, ℕ, zero, suc, ◌+◌, ◌-◌, ◌<◌, ◌≤◌, max, Bool, true, false, List, [], ◌∷◌, ◌++◌, length, map, refl, sym, ◌∙◌, ap, subst, arith, append-nil, length-append, inl, inr, ⊎_elim, if◌then◌else◌}
-use Rattle.std.specs.Prelude.{IsTrue, IsFalse}
+use Rattle.std.proofs.Common.{◌≡◌, ◌⊎◌, ℕ, suc, ◌+◌, ◌-◌, ◌<◌, ◌≤◌, max, true, false, List, [], ◌++◌, length, map, refl, sym, ◌∙◌, ap, subst, arith, append-nil, length-append, inl, inr, ⊎_elim}
+use Rattle.std.specs.Prelude.{IsTrue}
 use Rattle.std.proofs.lemmas.Bool.{cases_Bool, cases_lt}
 use Rattle.std.proofs.lemmas.List.{length-map}
 use Rattle.indicatif_text.specs.Columns.{Cell}
 use Rattle.indicatif_term.specs.Screen.{Screen}
 use Rattle.indicatif_term.specs.Terminal.{Terminal, GREATEST, after}
-use Rattle.indicatif_term.specs.Shows.{Shows, IsOpening, look, looks_of, resting_row}
+use Rattle.indicatif_term.specs.Shows.{Shows, IsOpening, look, resting_row}
 use Rattle.indicatif_term.specs.Lists.{Lists, lists_height, live_height, all_rows}
 use Rattle.indicatif_term.specs.Counts.{CountsOf}
-use Rattle.indicatif_term.specs.Inside.Bytes.{paint_bytes, reach_bytes}
+use Rattle.indicatif_term.specs.Inside.Bytes.{reach_bytes}
+use Rattle.indicatif_term.proofs.PaintingLemmas.{paint_bytes}
 use Rattle.indicatif_term.specs.Inside.Reached.{IsFresh, IsAtop}
 use Rattle.indicatif_term.specs.declared.engine.counts.Counts.{Counts}
 use Rattle.indicatif_term.specs.declared.engine.counts.Fresh.{Fresh}
@@ -112,7 +113,7 @@ module _ (w h : ℕ) (l l' : Lists) (c : Counts) (more gone : List (List Cell)) 
   pre = reach_bytes f.down f.rows
 
   abbrev rest : List ℕ
-  rest = paint_bytes false l.below (length gone) lines l'.below
+  rest = paint_bytes l.below (length gone) lines l'.below
 
   most : l.reach + f.rows ≤ l'.reach
   most =

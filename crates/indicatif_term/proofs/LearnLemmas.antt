@@ -1,5 +1,5 @@
 -- What stands in rows that weren't reached makes no difference: they are emptied before anything is written there.
-use Rattle.std.proofs.Common.{◌≡◌, ◌⊎◌, ℕ, zero, suc, ◌+◌, ◌-◌, ◌<◌, ◌≤◌, ◌^◌, max, Bool, true, false, List, [], ◌∷◌, ◌++◌, length, take, drop, map, replicate, refl, sym, ◌∙◌, ap, subst, arith, append_assoc, append-nil, length-append, set, inl, inr, ⊎_elim}
+use Rattle.std.proofs.Common.{◌≡◌, ℕ, zero, suc, ◌+◌, ◌-◌, ◌<◌, ◌≤◌, max, Bool, true, List, [], ◌∷◌, ◌++◌, length, take, replicate, refl, sym, ◌∙◌, ap, subst, arith, append-nil, length-append, set}
 use Rattle.std.proofs.lemmas.List.{length-replicate, length-set, take_more_set, take_all}
 use Rattle.std.specs.Prelude.{nat_lt}
 use Rattle.std.proofs.lemmas.Bool.{cond_both, ltb-true}
@@ -13,7 +13,7 @@ use Rattle.indicatif_term.specs.Inside.Bytes.{next_row, rows_down, reach_bytes}
 use Rattle.indicatif_term.proofs.CallLemmas.{row_cleared}
 use Rattle.indicatif_term.proofs.FeedLemmas.{after-append}
 use Rattle.indicatif_term.proofs.CursorRowLemmas.{Stands}
-use Rattle.indicatif_term.proofs.TerminalStepLemmas.{StandsAfter, over, total, next_leads}
+use Rattle.indicatif_term.proofs.TerminalStepLemmas.{total, next_leads}
 use Rattle.indicatif_term.proofs.PaintingLemmas.{restand}
 use Rattle.indicatif_term.proofs.PlaceLemmas.{Alike, alike_feed, alike_column, alike_after, same_reader}
 use Rattle.indicatif_term.proofs.StandLemmas.{idle_screen}

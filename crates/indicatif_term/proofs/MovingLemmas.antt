@@ -6,7 +6,7 @@ use Rattle.indicatif_text.specs.Columns.{Cell, rows_of}
 use Rattle.indicatif_term.specs.Terminal.{GREATEST}
 use Rattle.indicatif_term.specs.Calls.{move_bytes}
 use Rattle.indicatif_term.specs.Shows.{look, looks_of, resting_row}
-use Rattle.indicatif_term.specs.Lists.{Lists, live_rows, live_height, lists_height, drawn, live_of_frame, shown_rows, blanks_for, fitting, lines_of}
+use Rattle.indicatif_term.specs.Lists.{Lists, live_rows, lists_height, drawn, blanks_for}
 use Rattle.indicatif_term.specs.Frames.{bar_lines, all_lines, are_plain, some_wide}
 use Rattle.indicatif_term.specs.Counts.{CountsOf}
 use Rattle.indicatif_term.specs.Inside.Plans.{frame_lines, IsPlan}
@@ -22,11 +22,11 @@ use Rattle.indicatif_term.specs.declared.engine.lines.Segment.{Segment}
 use Rattle.indicatif_term.proofs.LastLineLemmas.{fill_width}
 use Rattle.indicatif_term.proofs.FillLemmas.{spaces}
 use Rattle.indicatif_term.proofs.FilledLineLemmas.{filled_line, looks-append}
-use Rattle.indicatif_term.proofs.ShownRowLemmas.{lines_rows, frame_rows}
+use Rattle.indicatif_term.proofs.ShownRowLemmas.{lines_rows}
 use Rattle.indicatif_term.proofs.CountLemmas.{length-live, live_of}
 use Rattle.indicatif_term.proofs.PaintingLemmas.{AreDrawable}
 use Rattle.indicatif_term.proofs.DrawingLemmas.{Replaces, drawn_goes}
-use Rattle.indicatif_term.proofs.EngineLemmas.{Redraws, frame_drawable}
+use Rattle.indicatif_term.proofs.EngineLemmas.{Redraws, frame_drawable, new_lines, new_rows, taken_count, taken_few}
 use Rattle.indicatif_term.proofs.RememberedLemmas.{lines_height, live_right}
 use Rattle.indicatif_term.proofs.OverLemmas.{AreWide}
 use Rattle.indicatif_term.proofs.OverLineLemmas.{solid_line, standing_wide}
@@ -90,14 +90,11 @@ pub draw_moves : (w h : ℕ) (l : Lists) (c next : Counts) (pass blanks : ℕ) (
 draw_moves w h l c next pass blanks bottom frame plan ls p1 p2 p3 o q o' b there on' t all even less some wide no_more =
     let l' = drawn w h bottom pass (map bar_lines frame) l in
     let gone = live_rows w l.live in
-    let lines = replicate blanks [] ++ take (length (fitting h (lines_of w (map bar_lines frame)))) (frame_lines frame) in
-    let same : blanks_for bottom c.live 0 plan.rows ≡ (live_of_frame w h bottom (live_height l.live) 0 (map bar_lines frame)).blanks = rw (live_of c l o, q.rows_are) refl in
-    let rows : lines_rows w lines ≡ live_rows w (live_of_frame w h bottom (live_height l.live) 0 (map bar_lines frame)) = frame_rows w h frame blanks
-    ∙ ap (λ n. live_rows w (record { blanks = n; segments = shown_rows w h (map bar_lines frame) })) (b ∙ same) in
-    let count : length gone ≡ c.live = length-live w l.live ∙ sym (live_of c l o) in
-    let few : length gone ≤ GREATEST = let f : c.kept + c.live ≤ c.reached = c.fits in let k : c.reached ≤ 65535 = c.small in omega (arith, count) in
-    let plain : texts ls ≡ lines = t ∙ ap (λ n. replicate blanks [] ++ take n (frame_lines frame)) q.lines_are in
-    let d : AreDrawable w (texts ls) = subst (AreDrawable w) (sym plain) (frame_drawable w blanks (length (fitting h (lines_of w (map bar_lines frame)))) frame p2 p3) in
+    let lines = new_lines w h pass blanks bottom frame l c plan o q b in
+    let rows = new_rows w h pass blanks bottom frame l c plan o q b in
+    let count = taken_count w l c o in
+    let few = taken_few w l c o in
+    let d : AreDrawable w (texts ls) = subst (AreDrawable w) (sym t) (frame_drawable w blanks plan.lines frame p2 p3) in
     let looks = all_looks w ls p1 d in
     let height : length (lines_rows w (filled_all w ls)) ≡ placed_height (placed ls) =
     sym (length-map (lines_rows w (filled_all w ls)) (map look)) ∙ ap length looks ∙ length-map (lines_rows w (texts ls)) (map look) ∙ sym (lines_height w ls all) in
@@ -106,7 +103,7 @@ draw_moves w h l c next pass blanks bottom frame plan ls p1 p2 p3 o q o' b there
     (by_lines w h l l' gone (filled_all w ls) (texts ls) p1 (omega (arith, length-map ls (filled_one w))) (all_solid w ls p1 d all even) wide (omega (arith, count, height)) few looks
     (resting_there l c o there ∙ ap (λ n. length l.above + length l.kept + (n - 1)) (sym count)) (sym o'.below_is ∙ on')
     (λ u. let m = no_more (o.under_is ∙ u) in omega (arith, m, count, lines_height w ls all))
-    (λ x y. rw plain (drawn_goes w h pass bottom (map bar_lines frame) l lines x y rows))))
+    (λ x y. rw t (drawn_goes w h pass bottom (map bar_lines frame) l lines x y rows))))
 
 -- rows of lines that are remembered have their cells
 pub live_wide : (v w : ℕ) (r : Remembered) (l : Lists) (c : Counts) → v ≡ w → 0 < v → AreRemembered r l → CountsOf c l → (0 < c.live → r.width ≡ v) → AreWide w (live_rows w l.live)

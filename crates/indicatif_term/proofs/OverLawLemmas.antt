@@ -1,13 +1,13 @@
 -- A terminal that rests with the lists whatever stands below shows them in the rows that are known.
-use Rattle.std.proofs.Common.{◌≡◌, ℕ, ◌+◌, ◌-◌, ◌<◌, ◌≤◌, true, false, List, ◌++◌, length, map, take, drop, replicate, refl, sym, ◌∙◌, ap, subst, arith, take-take, append_assoc, length-append, inl, inr}
+use Rattle.std.proofs.Common.{◌≡◌, ℕ, ◌+◌, ◌-◌, ◌<◌, ◌≤◌, List, ◌++◌, length, map, take, replicate, refl, sym, ◌∙◌, ap, arith, take-take, length-append, inl, inr}
 use Rattle.std.specs.Prelude.{IsFalse}
 use Rattle.std.proofs.lemmas.Bool.{cases_Bool}
-use Rattle.std.proofs.lemmas.List.{take_at, take_all, drop_at, length-map, length-take-le, length-replicate, length-drop}
+use Rattle.std.proofs.lemmas.List.{take_at, drop_at, length-map, length-take-le, length-replicate}
 use Rattle.indicatif_text.specs.Columns.{Cell, blank_row}
 use Rattle.indicatif_term.specs.Screen.{Screen}
 use Rattle.indicatif_term.specs.Terminal.{Terminal}
 use Rattle.indicatif_term.specs.Lists.{Lists, forgotten_lists, lists_height, all_rows}
-use Rattle.indicatif_term.specs.Shows.{Shows, IsOpening, Rests, RestsOver, known_rows, emptied_below, on_next_row, look, looks_of, Placed}
+use Rattle.indicatif_term.specs.Shows.{Shows, IsOpening, RestsOver, known_rows, emptied_below, on_next_row, look, looks_of, Placed}
 use Rattle.indicatif_term.proofs.AnewLemmas.{resumes}
 use Rattle.indicatif_term.proofs.PlaceLemmas.{IsSizedInside}
 use Rattle.indicatif_term.proofs.StandLemmas.{with_rows, sized_place}

@@ -1,5 +1,5 @@
 -- A drawing in the place of rows, the others of which are taken back, and lines below it.
-use Rattle.std.proofs.Common.{inl, inr, ◌≡◌, ℕ, zero, suc, ◌+◌, ◌-◌, ◌<◌, ◌≤◌, true, false, List, [], ◌∷◌, ◌++◌, length, take, drop, replicate, map, refl, sym, ◌∙◌, ap, arith, length-append, append_assoc, append-nil, chars}
+use Rattle.std.proofs.Common.{min, inl, inr, ◌≡◌, ℕ, zero, suc, ◌+◌, ◌-◌, ◌<◌, ◌≤◌, true, false, List, [], ◌∷◌, ◌++◌, length, take, drop, replicate, map, refl, sym, ◌∙◌, ap, arith, length-append, append_assoc, append-nil, chars}
 use Rattle.std.specs.Prelude.{◌&&◌, ◌==◌, max}
 use Rattle.std.proofs.lemmas.Bool.{cases_Bool, and_parts}
 use Rattle.std.proofs.lemmas.Bool.Decides.{nat_tests}
@@ -9,7 +9,7 @@ use Rattle.indicatif_text.specs.Columns.{Cell, rows_of}
 use Rattle.indicatif_term.specs.Screen.{Screen}
 use Rattle.indicatif_term.specs.Terminal.{Terminal, GREATEST, after}
 use Rattle.indicatif_term.specs.Shows.{look, looks_of}
-use Rattle.indicatif_term.specs.Inside.Changes.{Change, Leave, Within, Whole, PlacedLine, placed_height, placed_lines, frame_bytes, Becomes, AreSitting, stays, all_stay, ending, rows_below, free_behind}
+use Rattle.indicatif_term.specs.Inside.Changes.{Change, Leave, Within, Whole, PlacedLine, placed_height, placed_lines, frame_bytes, Becomes, AreSitting, stays, all_stay, ending, free_behind}
 use Rattle.indicatif_term.proofs.AmongLemmas.{rewrite_bytes, change_bytes}
 use Rattle.indicatif_term.specs.Inside.Bytes.{back_bytes, lines_bytes}
 use Rattle.indicatif_term.specs.Inside.Fills.{last_of}
@@ -28,22 +28,18 @@ use Rattle.indicatif_term.proofs.DrawingLemmas.{keeps_fewer}
 
 -- ---- other rows below the lines, taken back before
 
-below_low : (n : ℕ) → rows_below n ≤ n
-below_low zero = omega arith
-below_low (suc n) = omega arith
-
 none_equal : (n : ℕ) → (suc n == 0) ≡ false
 none_equal n = grind (arith, nat_tests)
 
 -- the row of the cursor after rows were taken back
-row_back : (taken n : ℕ) → 0 < n → row_for (left_at_end false taken) n ≡ n - 1 + rows_below taken
+row_back : (taken n : ℕ) → 0 < n → row_for (left_at_end false taken) n ≡ n - 1 + min taken 1
 row_back zero n p = omega arith
 row_back (suc k) n p = rw (none_equal k) (omega arith)
 
 module _ (w h : ℕ) (opening : Screen) (above : List (List Cell)) where
   took_back : (old rest : List (List Cell)) (reach : ℕ) (t : Terminal) → 0 < length old → length rest ≤ GREATEST → reach ≤ length above + h →
       Stands w h opening (above ++ (old ++ rest)) (length above + length old + length rest - 1) reach false t →
-      StandsAfter w h opening above t (back_bytes false (length rest)) (above ++ old) (length above + length old - 1 + rows_below (length rest)) reach false
+      StandsAfter w h opening above t (back_bytes false (length rest)) (above ++ old) (length above + length old - 1 + min (length rest) 1) reach false
   took_back old rest reach t some few m s =
       let base = above ++ old in
       let size : length base ≡ length above + length old = length-append above old in
@@ -53,7 +49,7 @@ module _ (w h : ℕ) (opening : Screen) (above : List (List Cell)) where
       record {
         keeps = keeps_fewer (opening.row + length above) (opening.row + length base) t back (omega (arith, size)) l.keeps;
         stands = unfronted w h opening above (after t back) _ _ reach _
-            (restand w h opening above (after t back) _ base _ (length above + length old - 1 + rows_below (length rest)) reach reach _ _ (append-nil base)
+            (restand w h opening above (after t back) _ base _ (length above + length old - 1 + min (length rest) 1) reach reach _ _ (append-nil base)
             (row_back (length rest) (length base) (omega (arith, size)) ∙ omega (arith, size)) refl refl l.stands);
       }
 
@@ -62,18 +58,17 @@ module _ (w h : ℕ) (opening : Screen) (above : List (List Cell)) where
       AreSitting w (looks_of old) (ps ++ p ∷ []) → AreDrawable w (placed_lines ps) → IsDrawable w p.line →
       placed_height ps + p.rows ≡ length old → length old + length rest ≤ GREATEST → reach ≤ length above + h →
       Stands w h opening (above ++ (old ++ rest)) (length above + length old + length rest - 1) reach false t →
-      Drawn w h opening above t (back_bytes false (length rest) ++ frame_bytes (rows_below (length rest)) (ps ++ ending w p ∷ [])) (placed_lines ps ++ p.line ∷ []) (length old) reach
+      Drawn w h opening above t (back_bytes false (length rest) ++ frame_bytes (min (length rest) 1) (ps ++ ending w p ∷ [])) (placed_lines ps ++ p.line ∷ []) (length old) reach
   anew_leads ps p old rest reach t pos low sit d dp k small m s =
       let c = sitting_parts w ps (p ∷ []) (looks_of old) sit in
       let some : 0 < p.rows = let q : 0 < length (rows_of w (chars p.line)) = rows_some w (chars p.line) in omega (arith, c.1.0.rows_are) in
       let q = ending w p in
       let e : Ending w (drop (placed_height ps) (looks_of old)) p q = ending_ends w (drop (placed_height ps) (looks_of old)) p pos dp c.1.0 in
       let back = back_bytes false (length rest) in
-      let frame = frame_bytes (rows_below (length rest)) (ps ++ q ∷ []) in
-      let z = below_low (length rest) in
+      let frame = frame_bytes (min (length rest) 1) (ps ++ q ∷ []) in
       let first = took_back old rest reach t (omega (arith, k)) (omega arith) m s in
       let heights : placed_height (ps ++ q ∷ []) ≡ length old = height-append ps (q ∷ []) ∙ omega (arith, e.rows_is, k) in
-      let drawn = frame_leads w h opening above ps q old (rows_below (length rest)) reach (after t back) low e.ends
+      let drawn = frame_leads w h opening above ps q old (min (length rest) 1) reach (after t back) low e.ends
       (sitting_both w ps (q ∷ []) (looks_of old) c.0 (e.sits, tt)) d e.drawable heights (omega arith) m first.stands in
       record {
         new = drawn.new;

@@ -33,14 +33,14 @@ use Rattle.indicatif_term.specs.Engines.{Counted, Fits, failure_kind, lists_afte
 use Rattle.indicatif_term.specs.Inside.Remembering.{Draws, Remembers, StandAbove, IsNext}
 use Rattle.indicatif_term.specs.declared.engine.Engine.{Engine}
 use Rattle.indicatif_term.proofs.ShownRowLemmas.{lines_rows, frame_rows, frame_lines_le, frame_chars}
-use Rattle.indicatif_term.proofs.CountLemmas.{length-live, live_of, settled-rows, passed-rows, same_blanks_log}
+use Rattle.indicatif_term.proofs.CountLemmas.{settled-rows, passed-rows, same_blanks_log}
 use Rattle.indicatif_term.proofs.PaintingLemmas.{IsDrawable, AreDrawable}
 use Rattle.indicatif_term.proofs.EditWalkLemmas.{height-append, sitting_parts}
 use Rattle.indicatif_term.proofs.RememberedLemmas.{IsShown, rows-append, lines_height, lines_placed, remembered_by, next_live}
 use Rattle.indicatif_term.proofs.TerminalStepLemmas.{rows_some}
 use Rattle.indicatif_term.proofs.SkipDrawingLemmas.{change_redraws}
 use Rattle.indicatif_term.proofs.DrawingLemmas.{Replaces, drawn_goes, drawn-sound, log_live}
-use Rattle.indicatif_term.proofs.EngineLemmas.{Redraws, frame_drawable, suits_made}
+use Rattle.indicatif_term.proofs.EngineLemmas.{Redraws, frame_drawable, suits_made, new_lines, new_rows, new_blanks, taken_count, taken_few}
 
 -- ---- what is remembered of a draw
 
@@ -57,14 +57,13 @@ pub drawn_shown : (v w h pass blanks : ℕ) (bottom : Bool) (frame : List Segmen
     texts ls ≡ replicate blanks [] ++ take plan.lines (frame_lines frame) → line_counts ls ≡ replicate blanks blank_count ++ cs → AreCounted w h (map bar_lines frame) cs → AreLines v ls →
     StandAbove v above l → IsShown r (drawn w h bottom pass (map bar_lines frame) l)
 drawn_shown v w h pass blanks bottom frame l c plan above ls cs r same_width is o q b t counts counted right k =
-    let same : blanks_for bottom c.live 0 plan.rows ≡ (live_of_frame w h bottom (live_height l.live) 0 (map bar_lines frame)).blanks = rw (live_of c l o, q.rows_are) refl in
     let rows : standing_rows w ls ≡ live_rows w (live_of_frame w h bottom (live_height l.live) 0 (map bar_lines frame)) =
-    ap (lines_rows w) (t ∙ ap (λ n. replicate blanks [] ++ take n (frame_lines frame)) q.lines_are) ∙ frame_rows w h frame blanks
-    ∙ ap (λ n. live_rows w (record { blanks = n; segments = shown_rows w h (map bar_lines frame) })) (b ∙ same) in
+    ap (lines_rows w) t ∙ new_rows w h pass blanks bottom frame l c plan o q b in
     let up : k.0 ++ standing_rows w above ≡ l.above ++ l.kept = subst (λ n. k.0 ++ standing_rows n above ≡ l.above ++ l.kept) same_width k.1 in
     let own : AreOwned (line_counts (live_lines r)) (drawn w h bottom pass (map bar_lines frame) l).live =
     subst (λ xs. AreOwned xs (drawn w h bottom pass (map bar_lines frame) l).live) (sym (next_live v (kept_below plan blanks) above ls r is))
-    (owned_drawn w h blanks (map bar_lines frame) (line_counts ls) (counts ∙ ap (λ xs. replicate blanks blank_count ++ xs) counted) (lines_have v ls right) pass bottom l plan q (b ∙ same)) in (
+    (owned_drawn w h blanks (map bar_lines frame) (line_counts ls) (counts ∙ ap (λ xs. replicate blanks blank_count ++ xs) counted) (lines_have v ls right) pass bottom l plan q
+    (new_blanks w h pass blanks bottom frame l c plan o q b)) in (
       remembered_by w r (drawn w h bottom pass (map bar_lines frame) l) k.0 (λ _. is.width_is ∙ same_width)
           (ap (λ xs. k.0 ++ standing_rows w xs) is.lines_are ∙ ap (λ x. k.0 ++ x) (rows-append w above ls) ∙ sym (append_assoc k.0 (standing_rows w above) (standing_rows w ls))
           ∙ ap (λ x. x ++ standing_rows w ls) up ∙ ap (λ x. (l.above ++ l.kept) ++ x) rows ∙ sym (drawn_rows w h pass bottom (map bar_lines frame) l))
@@ -150,25 +149,23 @@ pub draw_changes : (w h : ℕ) (l : Lists) (c next : Counts) (pass blanks : ℕ)
     Redraws w h l l' (change_bytes w room.free front last more)
 draw_changes w h l c next pass blanks bottom frame plan ls room front last more p1 low p2 p3 o q o' b on on' t s k sits within all no_more =
     let l' = drawn w h bottom pass (map bar_lines frame) l in
-    let lines = replicate blanks [] ++ take (length (fitting h (lines_of w (map bar_lines frame)))) (frame_lines frame) in
+    let lines = new_lines w h pass blanks bottom frame l c plan o q b in
+    let rows = new_rows w h pass blanks bottom frame l c plan o q b in
     let gone = live_rows w l.live in
-    let same : blanks_for bottom c.live 0 plan.rows ≡ (live_of_frame w h bottom (live_height l.live) 0 (map bar_lines frame)).blanks = rw (live_of c l o, q.rows_are) refl in
-    let rows : lines_rows w lines ≡ live_rows w (live_of_frame w h bottom (live_height l.live) 0 (map bar_lines frame)) = frame_rows w h frame blanks
-    ∙ ap (λ n. live_rows w (record { blanks = n; segments = shown_rows w h (map bar_lines frame) })) (b ∙ same) in
-    let count : length gone ≡ c.live = length-live w l.live ∙ sym (live_of c l o) in
-    let few : length gone ≤ GREATEST = let f : c.kept + c.live ≤ c.reached = c.fits in let k : c.reached ≤ 65535 = c.small in omega (arith, count) in
+    let count = taken_count w l c o in
+    let few = taken_few w l c o in
     let split : placed_lines front ++ last.line ∷ placed_lines more ≡ lines =
-    sym (lines_around front last more) ∙ ap placed_lines (sym s) ∙ lines_placed ls ∙ t ∙ ap (λ n. replicate blanks [] ++ take n (frame_lines frame)) q.lines_are in
+    sym (lines_around front last more) ∙ ap placed_lines (sym s) ∙ lines_placed ls ∙ t in
     let split' : (placed_lines front ++ last.line ∷ []) ++ placed_lines more ≡ lines = append_assoc (placed_lines front) (last.line ∷ []) (placed_lines more) ∙ split in
     let d = drawable_parts w (placed_lines front) last.line (placed_lines more)
-    (subst (AreDrawable w) (sym split) (frame_drawable w blanks (length (fitting h (lines_of w (map bar_lines frame)))) frame p2 p3)) in
+    (subst (AreDrawable w) (sym split) (frame_drawable w blanks plan.lines frame p2 p3)) in
     let sits' : AreSitting w (looks_of gone) (front ++ last ∷ more) = subst (AreSitting w (looks_of gone)) s sits in
     let some : 0 < last.rows = let x = (sitting_parts w front (last ∷ more) (looks_of gone) sits').1 in let r : 0 < length (rows_of w (chars last.line)) = rows_some w (chars last.line) in
     omega (arith, x.0.rows_are) in
     change_redraws w h l l' l.kept gone front last more room.free p1 low (sym o.below_is ∙ on) (sym o'.below_is ∙ on') few sits' some d.0 d.1 d.2
     (omega (arith, within.rows_are, height_around ls room.lines front last more s k, count))
     (λ u. let m = no_more (o.under_is ∙ u) in let n : length (lines_rows w ((placed_lines front ++ last.line ∷ []) ++ placed_lines more)) ≡ placed_height (placed ls) =
-    ap (λ xs. length (lines_rows w xs)) (split' ∙ sym (t ∙ ap (λ n. replicate blanks [] ++ take n (frame_lines frame)) q.lines_are)) ∙ sym (lines_height w ls all) in omega (arith, m, n, count))
+    ap (λ xs. length (lines_rows w xs)) (split' ∙ sym t) ∙ sym (lines_height w ls all) in omega (arith, m, n, count))
     (λ a b. subst (Replaces w h l l' l.kept gone) (sym split') (drawn_goes w h pass bottom (map bar_lines frame) l lines a b rows))
 
 on_same : (r : Remembered) (v : ℕ) → r.width ≡ v → (if r.width == v then live_lines r else []) ≡ live_lines r

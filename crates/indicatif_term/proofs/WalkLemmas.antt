@@ -1,17 +1,20 @@
 -- The bytes of a walk through lines, line by line.
-use Rattle.std.proofs.Common.{inl, inr, ◌≡◌, ℕ, zero, suc, ◌+◌, ◌-◌, ◌<◌, ◌≤◌, Bool, true, false, List, [], ◌∷◌, ◌++◌, length, take, drop, get_or, Result, Ok, Err, refl, sym, ◌∙◌, ap, subst, arith, append_assoc, append-nil}
-use Rattle.std.specs.Prelude.{◌&&◌, ◌==◌, if◌then◌else◌, nat_lt, slice_index, IsErrAnd, MatchResult, string_bytes}
-use Rattle.std.specs.declared.io.ErrorKind.{ErrorKind}
+use Rattle.std.proofs.Common.{min, inl, inr, ◌≡◌, ℕ, zero, suc, ◌+◌, ◌-◌, ◌<◌, ◌≤◌, Bool, true, false, List, [], ◌∷◌, ◌++◌, length, take, drop, get_or, Result, refl, sym, ◌∙◌, ap, subst, arith, append_assoc, append-nil}
+use Rattle.std.specs.Prelude.{◌&&◌, ◌==◌, if◌then◌else◌, nat_lt, slice_index, IsErrAnd, string_bytes}
+use Rattle.std.specs.IoError.{error_kind}
+use Rattle.std.specs.declared.io.Error.{Error}
 use Rattle.std.proofs.lemmas.Bool.{cases_Bool, false≢true}
 use Rattle.std.proofs.lemmas.List.{take_more, map-append, take-append-drop}
-use Rattle.indicatif_term.specs.Calls.{TermView, LeadsOn, BreaksOff, UP, DOWN, RIGHT, move_bytes}
-use Rattle.indicatif_term.specs.Inside.Changes.{Change, Leave, Within, Whole, PlacedLine, placed_height, emptied_bytes, changed_bytes, step_bytes, step_down, walk_bytes, walk_down, frame_bytes, ending, ending_by, last_bytes, stays, all_stay, rows_below, among_bytes}
+use Rattle.indicatif_term.specs.Calls.{TermView, LeadsOn, BreaksOff, Writes, UP, DOWN, RIGHT, move_bytes}
+use Rattle.indicatif_term.specs.Inside.Changes.{Change, Leave, Within, Whole, PlacedLine, placed_height, emptied_bytes, changed_bytes, step_bytes, step_down, walk_bytes, walk_down, frame_bytes, ending, ending_by, last_bytes, stays, all_stay, among_bytes}
 use Rattle.indicatif_term.specs.Inside.Changes.{ends_plainly, last_byte}
 use Rattle.std.proofs.Math.Utf8.{encode}
 use Rattle.indicatif_term.proofs.LastCharLemmas.{last_is}
+use Rattle.indicatif_term.specs.Inside.Parting.{change_of}
+use Rattle.indicatif_term.specs.declared.engine.parting.Step.{Step}
 use Rattle.indicatif_term.specs.Standing.{placed_of, placed}
 use Rattle.indicatif_term.specs.declared.engine.remembered.StandingLine.{StandingLine}
-use Rattle.indicatif_term.proofs.CallTurnLemmas.{breaks_then, breaks_early}
+use Rattle.indicatif_term.proofs.CallTurnLemmas.{reaches_then, breaks_then, writes_fail}
 use Rattle.indicatif_term.proofs.AmongLemmas.{among_parts}
 use Rattle.indicatif_term.proofs.RememberedLemmas.{height_push, up_to_last, height_to_last}
 use Rattle.indicatif_term.proofs.EditWalkLemmas.{height-append, walk-append, down-append}
@@ -67,16 +70,39 @@ module _ (lines : List StandingLine) (i : ℕ) (x : StandingLine) (h : i < lengt
       let z = down_low (placed (take i lines)) in
       omega (arith, height_push lines i x h e, ap placed_height whole, height-append (placed (take (i + 1) lines)) (placed (drop (i + 1) lines)))
 
-  -- a failure within a line is one of the whole walk
-  pub walk_breaks : {kind : ErrorKind} (s t u : TermView) → LeadsOn (walk_bytes 0 (placed (take i lines))) s t →
-      BreaksOff step kind t u →
-      BreaksOff (walk_bytes 0 (placed lines)) kind s u
-  walk_breaks {kind} s t u p q =
+  -- the bytes of this line with a step, from this far above it
+  abbrev stepped : Step → ℕ → List ℕ
+  stepped s down = step_bytes (change_of s (string_bytes x.before) (string_bytes x.text)) down x.rows (string_bytes x.text)
+
+  is_step : (s : Step) (down : ℕ) → x.step ≡ s → down ≡ walk_down 0 (placed (take i lines)) → stepped s down ≡ step
+  is_step s down is d = ap (λ z. stepped z down) (sym is) ∙ ap (stepped x.step) d
+
+  pub walk_next : (up : List ℕ) (s : Step) (down : ℕ) (v t u : TermView) → x.step ≡ s → down ≡ walk_down 0 (placed (take i lines)) → LeadsOn (up ++ walk_bytes 0 (placed (take i lines))) v t →
+      LeadsOn (stepped s down) t u → LeadsOn (up ++ walk_bytes 0 (placed (take (i + 1) lines))) v u
+  walk_next up s down v t u is d p q =
+      subst (λ b. LeadsOn b v u) (append_assoc up (walk_bytes 0 (placed (take i lines))) (stepped s down)
+      ∙ ap (λ y. up ++ (walk_bytes 0 (placed (take i lines)) ++ y)) (is_step s down is d) ∙ ap (λ y. up ++ y) (sym bytes_next)) (reaches_then p q)
+
+  pub down_after : (s : Step) (down : ℕ) → x.step ≡ s → down ≡ walk_down 0 (placed (take i lines)) →
+      step_down (change_of s (string_bytes x.before) (string_bytes x.text)) down x.rows ≡ walk_down 0 (placed (take (i + 1) lines))
+  down_after s down is d =
+      ap (λ z. step_down (change_of z (string_bytes x.before) (string_bytes x.text)) down x.rows) (sym is) ∙ ap (λ n. step_down (placed_of x).change n x.rows) d ∙ sym down_next
+
+  -- a failure within a line is one of the whole
+  pub walk_fails : (up last : List ℕ) (s : Step) (down : ℕ) (v t u : TermView) (e : Error) (r : Result Unit Error) → x.step ≡ s → down ≡ walk_down 0 (placed (take i lines)) →
+      IsErrAnd r (λ z. z ≡ e) → LeadsOn (up ++ walk_bytes 0 (placed (take i lines))) v t → BreaksOff (stepped s down) (error_kind e) t u → Writes (up ++ (walk_bytes 0 (placed lines) ++ last)) v u r
+  walk_fails up last s down v t u e r is d h p q =
       let whole : placed (take (i + 1) lines) ++ placed (drop (i + 1) lines) ≡ placed lines =
       sym (map-append placed_of (take (i + 1) lines) (drop (i + 1) lines)) ∙ ap placed (take-append-drop (i + 1) lines) in
+      let before = walk_bytes 0 (placed (take i lines)) in
       let rest = walk_bytes (walk_down 0 (placed (take (i + 1) lines))) (placed (drop (i + 1) lines)) in
-      let b : BreaksOff (walk_bytes 0 (placed (take (i + 1) lines)) ++ rest) kind s u = breaks_early rest (subst (λ x. BreaksOff x kind s u) (sym bytes_next) (breaks_then p q)) in
-      subst (λ x. BreaksOff x kind s u) (sym (walk-append 0 (placed (take (i + 1) lines)) (placed (drop (i + 1) lines))) ∙ ap (walk_bytes 0) whole) b
+      let all : walk_bytes 0 (placed lines) ≡ (before ++ stepped s down) ++ rest =
+      ap (walk_bytes 0) (sym whole) ∙ walk-append 0 (placed (take (i + 1) lines)) (placed (drop (i + 1) lines))
+      ∙ ap (λ y. y ++ rest) (bytes_next ∙ ap (λ y. before ++ y) (sym (is_step s down is d))) in
+      let b : Writes (((up ++ before) ++ stepped s down) ++ (rest ++ last)) v u r = writes_fail (rest ++ last) e r h (breaks_then p q) in
+      subst (λ y. Writes y v u r) (six up before (stepped s down) rest last ∙ ap (λ y. up ++ (y ++ last)) (sym all)) b where
+        six : (a b c d e : List ℕ) → ((a ++ b) ++ c) ++ (d ++ e) ≡ a ++ (((b ++ c) ++ d) ++ e)
+        six a b c d e = simp append_assoc
 
   pub stays_more : stays (placed_of x).change ≡ true → all_stay (placed (take (i + 1) lines)) ≡ all_stay (placed (take i lines))
   stays_more is = ap all_stay split ∙ stay-append (placed (take i lines)) (placed_of x ∷ []) ∙ ap (λ b. all_stay (placed (take i lines)) && (b && true)) is
@@ -143,25 +169,21 @@ nothing_among w taken (p ∷ ps) e = rw e refl
 
 pub among_split : (w taken : ℕ) (ls : List StandingLine) (k : ℕ) (x : StandingLine) → k + 1 ≡ length ls → get_or ls k x ≡ x → ((taken == 0) && all_stay (placed ls)) ≡ false →
     among_bytes w taken (placed ls)
-    ≡ move_bytes UP (placed_height (placed ls) - 1 + rows_below taken) ++ (walk_bytes 0 (placed (take k ls)) ++ last_bytes w (walk_down 0 (placed (take k ls))) (placed_of x))
+    ≡ move_bytes UP (placed_height (placed ls) - 1 + min taken 1) ++ (walk_bytes 0 (placed (take k ls)) ++ last_bytes w (walk_down 0 (placed (take k ls))) (placed_of x))
 among_split w taken ls k x n e go =
     let s = up_to_last ls k x n e in
     let ps = placed (take k ls) in
     let p = placed_of x in
     let goes : ((taken == 0) && all_stay (ps ++ p ∷ [])) ≡ false = ap (λ qs. (taken == 0) && all_stay qs) (sym s) ∙ go in
-    ap (among_bytes w taken) s ∙ among_parts w taken ps p ∙ ap (λ b. if b then [] else frame_bytes (rows_below taken) (ps ++ ending w p ∷ [])) goes
-    ∙ frame_split w (rows_below taken) ps p
-    ∙ ap (λ m. move_bytes UP (m - 1 + rows_below taken) ++ (walk_bytes 0 ps ++ last_bytes w (walk_down 0 ps) p)) (sym (height_to_last ls k x n e))
+    ap (among_bytes w taken) s ∙ among_parts w taken ps p ∙ ap (λ b. if b then [] else frame_bytes (min taken 1) (ps ++ ending w p ∷ [])) goes
+    ∙ frame_split w (min taken 1) ps p
+    ∙ ap (λ m. move_bytes UP (m - 1 + min taken 1) ++ (walk_bytes 0 ps ++ last_bytes w (walk_down 0 ps) p)) (sym (height_to_last ls k x n e))
 
 -- ---- failures, and tests
 
-pub some_length : (n : ℕ) → (n == 0) ≡ false → 0 < n
-some_length zero e = absurd (false≢true (sym e))
-some_length (suc n) e = omega arith
-
-pub broken : {E : Type 0} {e : E} (r : Result ℕ E) (P : ℕ → Type 0) (B : E → Type 0) → IsErrAnd r (λ x. x ≡ e) → B e → MatchResult r P B
-broken (Ok x) P B h b = absurd h
-broken (Err x) P B h b = subst B (sym h) b
+pub up_to : (ls : List StandingLine) → (length ls == 0) ≡ false → length ls - 1 + 1 ≡ length ls
+up_to [] e = absurd (false≢true (sym e))
+up_to (l ∷ ls) e = omega arith
 
 -- more bytes behind a changed line
 pub changed_more : (down rows : ℕ) (line more : List ℕ) → changed_bytes down rows (line ++ more) ≡ changed_bytes down rows line ++ more

@@ -4,8 +4,9 @@ use Rattle.std.specs.Prelude.{◌&&◌, ◌||◌, not, nat_lt, ◌==◌}
 use Rattle.std.proofs.lemmas.List.{take_all, take_at, drop_at, take-map, drop-map, length-drop, length-map}
 use Rattle.indicatif_term.specs.Calls.{anew_bytes}
 use Rattle.indicatif_term.specs.Standing.{placed_of, placed, texts, AreReady}
-use Rattle.indicatif_term.specs.Inside.Bytes.{back_bytes, reach_bytes, lines_bytes, paint_bytes}
-use Rattle.indicatif_term.specs.Inside.Changes.{PlacedLine, placed_height, placed_lines, frame_bytes, all_stay, rows_below, ending, ended, among_bytes, free_behind}
+use Rattle.indicatif_term.specs.Inside.Bytes.{back_bytes, reach_bytes, lines_bytes}
+use Rattle.indicatif_term.proofs.PaintingLemmas.{paint_bytes}
+use Rattle.indicatif_term.specs.Inside.Changes.{PlacedLine, placed_height, placed_lines, frame_bytes, all_stay, ending, ended, among_bytes, free_behind}
 use Rattle.indicatif_term.specs.Inside.Fills.{last_of}
 use Rattle.indicatif_term.specs.Inside.Moves.{moved_bytes}
 use Rattle.indicatif_term.specs.Inside.Writings.{writing_bytes, IsSkipping, ArePlaceable}
@@ -21,7 +22,7 @@ use Rattle.indicatif_term.proofs.AmongLemmas.{rewrite_bytes, change_bytes, taken
 -- lines that are written whole
 pub whole_bytes : (anew below ends : Bool) (f : Fresh) (taken w fill : ℕ) (text : List (List ℕ)) (ls : List StandingLine) →
     writing_bytes (record { anew = anew; fresh = f; below = below; taken = taken; manner = Among 0; width = w; ends_below = ends; fill = fill }) text ls
-    ≡ (if anew then anew_bytes else []) ++ (reach_bytes f.down f.rows ++ (paint_bytes false below taken (text ++ texts ls) ends ++ replicate fill 0x20))
+    ≡ (if anew then anew_bytes else []) ++ (reach_bytes f.down f.rows ++ (paint_bytes below taken (text ++ texts ls) ends ++ replicate fill 0x20))
 unfolding paint_bytes
 whole_bytes anew below ends f taken w fill text ls = simp append_assoc
 

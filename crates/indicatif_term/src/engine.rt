@@ -19,8 +19,7 @@
 //! - `counts`: `Counts`, how many rows are kept, live or blank, and how far the cursor is: after a draw, a log, a clear or a `keep`.
 //!   `Fresh`, the rows that are reached for the first time.
 //! - `remembered`: `Remembered`, the lines in those rows: the live ones, those of kept rows, and new ones in their place or below.
-//! - `recounting`: the counts at another size, where each row became some rows.
-//! - `recutting`: the remembered lines at another size (`CutLines`): each row's glyphs are cut into lines of one row.
+//! - `recutting`: the remembered lines at another size (`CutLines`): each row's glyphs are cut into lines of one row; and the counts of those.
 //! - `joined`: `JoinedChar`, such a glyph: a character of a text and its joiners.
 //!
 //! What differs:
@@ -60,7 +59,6 @@ pub(crate) mod layout;
 pub(crate) mod lines;
 pub(crate) mod moving;
 pub(crate) mod parting;
-pub(crate) mod recounting;
 pub(crate) mod recutting;
 pub(crate) mod remembered;
 pub(crate) mod renewed;

@@ -1,5 +1,5 @@
 -- Lines drawn over others: each stays, is edited in its last row, or is written as a whole.
-use Rattle.std.specs.Prelude.{◌≡◌, true, false, ◌&&◌, ◌==◌, not, nat_lt, slice_index, ℕ, zero, suc, ◌+◌, ◌-◌, Bool, IsTrue, List, [], ◌∷◌, ◌++◌, map, length, take, drop, replicate, chars, Option, Some, None, if◌then◌else◌}
+use Rattle.std.specs.Prelude.{◌≡◌, true, false, ◌&&◌, ◌==◌, not, nat_lt, slice_index, ℕ, ◌+◌, ◌-◌, min, Bool, IsTrue, List, [], ◌∷◌, ◌++◌, map, length, take, drop, replicate, chars, Option, Some, None, if◌then◌else◌}
 use Rattle.indicatif_text.specs.Columns.{Cell, rows_of, last_columns}
 use Rattle.indicatif_term.specs.Calls.{UP, DOWN, move_bytes, clear_bytes}
 use Rattle.indicatif_term.specs.Shows.{look, looks_of}
@@ -156,11 +156,6 @@ abbrev pub all_stay : List PlacedLine → Bool
 all_stay [] = true
 all_stay (p ∷ ps) = stays p.change && all_stay ps
 
--- how far below rows the cursor is, if this many below them were erased
-abbrev pub rows_below : ℕ → ℕ
-rows_below zero = 0
-rows_below (suc n) = 1
-
 -- lines of which the last one leaves the cursor waiting at the end of its row
 abbrev pub ended : ℕ → List PlacedLine → List PlacedLine
 ended w [] = []
@@ -170,7 +165,7 @@ ended w (p ∷ q ∷ ps) = p ∷ ended w (q ∷ ps)
 -- lines in the rows above this many erased ones; nothing if all stay and no row was erased
 abbrev pub among_bytes : ℕ → ℕ → List PlacedLine → List ℕ
 among_bytes w taken [] = []
-among_bytes w taken (p ∷ ps) = if (taken == 0) && all_stay (p ∷ ps) then [] else frame_bytes (rows_below taken) (ended w (p ∷ ps))
+among_bytes w taken (p ∷ ps) = if (taken == 0) && all_stay (p ∷ ps) then [] else frame_bytes (min taken 1) (ended w (p ∷ ps))
 
 -- the columns that are free behind a line, if there is one
 abbrev pub free_behind : ℕ → Option PlacedLine → ℕ

@@ -40,13 +40,16 @@ abbrev pub inside_bytes : ℕ → ℕ → Manner → List StandingLine → List 
 inside_bytes w taken (Among n) ls = among_bytes w taken (placed (take n ls))
 inside_bytes w taken (Over rows) ls = moved_bytes w rows (placed ls)
 
--- the bytes of a draw: rows are emptied, lines come in the place of others, and below them a text and the rest of the lines; then the row below if requested, or the spaces that fill the row
-abbrev pub writing_bytes : Writing → List (List ℕ) → List StandingLine → List ℕ
-writing_bytes p text ls =
+-- a text and the lines below all others; then the row below if requested, or the spaces that fill the row
+abbrev pub rest_bytes : Writing → List (List ℕ) → List StandingLine → List ℕ
+rest_bytes p text ls =
     let at_end = is_at_end p in
     let lower = text ++ texts (lower_lines p.manner ls) in
-    begin_bytes p ++ (inside_bytes p.width p.taken p.manner ls
-    ++ (lines_bytes at_end lower ++ ((if p.ends_below && (at_end || nat_lt 0 (length lower)) then next_row else []) ++ replicate p.fill 0x20)))
+    lines_bytes at_end lower ++ ((if p.ends_below && (at_end || nat_lt 0 (length lower)) then next_row else []) ++ replicate p.fill 0x20)
+
+-- the bytes of a draw: rows are emptied, lines come in the place of others, and the rest comes below them
+abbrev pub writing_bytes : Writing → List (List ℕ) → List StandingLine → List ℕ
+writing_bytes p text ls = begin_bytes p ++ (inside_bytes p.width p.taken p.manner ls ++ rest_bytes p text ls)
 
 -- ---- which draws can be written so
 

@@ -1,8 +1,7 @@
 //! The lines of a drawing in the place of those that stand: each stays, is edited, or is written as a whole.
-ghost use Rattle.std.specs.Prelude.{length, ◌≡◌, ◌==◌, ◌&&◌, ◌+◌, ◌-◌, ◌≤◌, ◌++◌, ◌∷◌, [], ℕ, List, string_bytes, MatchResult, IsTrue};
-ghost use Rattle.std.specs.IoError.{error_kind};
-ghost use Rattle.indicatif_term.specs.Calls.{Writes, LeadsOn, BreaksOff, DOWN, RIGHT, move_bytes};
-ghost use Rattle.indicatif_term.specs.Inside.Changes.{PlacedLine, placed_height, changed_bytes, step_bytes, step_down, walk_bytes, walk_down, filled_whole, ending, last_bytes, all_stay, stays, rows_below, free_behind, among_bytes, ends_plainly, last_byte};
+ghost use Rattle.std.specs.Prelude.{length, ◌≡◌, ◌==◌, ◌&&◌, ◌+◌, ◌-◌, ◌≤◌, ◌++◌, ◌∷◌, [], ℕ, List, string_bytes, IsTrue};
+ghost use Rattle.indicatif_term.specs.Calls.{Writes, DOWN, RIGHT, move_bytes};
+ghost use Rattle.indicatif_term.specs.Inside.Changes.{PlacedLine, placed_height, changed_bytes, filled_whole, ending, last_bytes, all_stay, stays, free_behind, among_bytes, ends_plainly, last_byte};
 ghost use Rattle.indicatif_term.specs.Inside.Edits.{edit_bytes, row_bytes};
 ghost use Rattle.indicatif_term.specs.Inside.Rests.{HasRoom, left_bytes};
 ghost use Rattle.indicatif_term.specs.Inside.Parting.{HasPart, IsReady, part_edits};
@@ -39,8 +38,21 @@ pub fn put_among<T: TermLike>(
     }
     let before = lines.len() - 1;
     let last = &lines[before];
-    go_up(term, height_of(lines).saturating_sub(1) + one_below(taken))?;
-    let down = walk(term, &lines[..before])?;
+    go_up(term, height_of(lines).saturating_sub(1) + taken.min(1))?;
+    let mut down = 0;
+    for line in &lines[..before] {
+        match line.step {
+            Step::Leave => down += line.rows,
+            Step::Within(part) => {
+                write_part(term, down, line, part)?;
+                down = 1;
+            }
+            Step::Whole => {
+                write_changed(term, down, line)?;
+                down = 1;
+            }
+        }
+    }
     write_last(term, down, last, width)
 }
 
@@ -82,51 +94,6 @@ fn is_left(line: &StandingLine) -> bool
         Step::Leave => true,
         Step::Within(_) => false,
         Step::Whole => false,
-    }
-}
-
-/// How far the cursor is below lines: one row, if rows below them were taken back.
-fn one_below(taken: usize) -> usize
-    ensures { result ≡ rows_below taken }
-{
-    if taken == 0 { 0 } else { 1 }
-}
-
-/// Goes down through lines, and writes those that don't stay; returns how far the cursor is above the row below them then.
-fn walk<T: TermLike>(term: &mut T, lines: &[StandingLine]) -> io::Result<usize>
-    requires small { placed_height (placed lines.now) ≤ 65535 }
-    requires ready { AreReady lines.now }
-    ensures { MatchResult result
-        (λ down. LeadsOn (walk_bytes 0 (placed lines.now)) (T.view term.old) (T.view term.new) × (down ≡ walk_down 0 (placed lines.now)))
-        (λ e. BreaksOff (walk_bytes 0 (placed lines.now)) (error_kind e) (T.view term.old) (T.view term.new)) }
-{
-    let mut down = 0;
-    for line in lines {
-        down = pass(term, down, line)?;
-    }
-    Ok(down)
-}
-
-/// Passes one line, from `down` rows above it: it stays, is edited or is written; returns how far the cursor is above the row below it
-/// then.
-fn pass<T: TermLike>(term: &mut T, down: usize, line: &StandingLine) -> io::Result<usize>
-    requires small { down + line.now.rows ≤ 65536 }
-    requires ready { IsReady line.now.step (string_bytes line.now.before) (string_bytes line.now.text) }
-    ensures { MatchResult result
-        (λ next. LeadsOn (step_bytes (placed_of line.now).change down line.now.rows (string_bytes line.now.text)) (T.view term.old) (T.view term.new)
-        × (next ≡ step_down (placed_of line.now).change down line.now.rows))
-        (λ e. BreaksOff (step_bytes (placed_of line.now).change down line.now.rows (string_bytes line.now.text)) (error_kind e) (T.view term.old) (T.view term.new)) }
-{
-    match line.step {
-        Step::Leave => Ok(down + line.rows),
-        Step::Within(part) => {
-            write_part(term, down, line, part)?;
-            Ok(1)
-        }
-        Step::Whole => {
-            write_changed(term, down, line)?;
-            Ok(1)
-        }
     }
 }
 

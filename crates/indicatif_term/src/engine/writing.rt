@@ -2,7 +2,7 @@
 ghost use Rattle.std.specs.Prelude.{◌≡◌, ◌<◌, ◌≤◌, ◌+◌, ◌-◌, [], ◌∷◌, ◌++◌, length, replicate, true, false, if◌then◌else◌, not, ◌&&◌, ◌||◌, ◌==◌, nat_lt, is_some};
 ghost use Rattle.indicatif_term.specs.Calls.{Writes, UP, DOWN, move_bytes, clear_bytes, anew_bytes};
 ghost use Rattle.indicatif_term.specs.Inside.Bytes.{rows_down, reach_bytes, back_bytes, lines_bytes, next_row};
-ghost use Rattle.indicatif_term.specs.Inside.Writings.{IsSkipping, CanWrite, is_inside, is_at_end, lower_lines, begin_bytes, inside_bytes, writing_bytes};
+ghost use Rattle.indicatif_term.specs.Inside.Writings.{IsSkipping, CanWrite, is_inside, is_at_end, lower_lines, begin_bytes, inside_bytes, rest_bytes, writing_bytes};
 ghost use Rattle.indicatif_term.specs.Standing.{texts};
 ghost use Rattle.indicatif_term.specs.Frames.{logged_lines};
 ghost use Rattle.indicatif_term.specs.Inside.Plans.{text_above};
@@ -106,16 +106,12 @@ pub fn write<T: TermLike>(term: &mut T, writing: &Writing, drawing: &Drawing<'_>
     ensures { Writes (writing_bytes writing.now (text_above drawing.now.text) drawing.now.lines.now) (T.view term.old) (T.view term.new) result }
 {
     begin(term, writing)?;
-    put_inside(term, writing, drawing.lines)?;
-    let lower = Drawing {
-        text: drawing.text,
-        lines: writing.manner.lower(drawing.lines),
-    };
-    let at_end = writing.is_at_end();
-    put_lower(term, at_end, &lower)?;
-    finish(term, writing, is_below(at_end, &lower))?;
-    put_spaces(term, writing.fill)?;
-    term.flush()
+    let lines = drawing.lines;
+    match writing.manner {
+        Manner::Among(count) => put_among(term, &lines[..count], writing.taken, writing.width)?,
+        Manner::Over(rows) => put_over(term, rows, lines, writing.width)?,
+    }
+    put_rest(term, writing, drawing)
 }
 
 /// Begins on a new row, if asked, empties the rows that are reached for the first time, and takes back rows.
@@ -137,19 +133,20 @@ fn begin_anew<T: TermLike>(term: &mut T, anew: bool) -> io::Result<()>
     empty_next(term)
 }
 
-/// Writes the lines that come in the place of others.
-fn put_inside<T: TermLike>(
-    term: &mut T,
-    writing: &Writing,
-    lines: &[StandingLine],
-) -> io::Result<()>
-    requires { CanWrite writing.now.manner lines.now }
-    ensures { Writes (inside_bytes writing.now.width writing.now.taken writing.now.manner lines.now) (T.view term.old) (T.view term.new) result }
+/// Writes a text and the lines below all others; then it goes below them, if asked, or fills the row.
+fn put_rest<T: TermLike>(term: &mut T, writing: &Writing, drawing: &Drawing<'_>) -> io::Result<()>
+    requires { CanWrite writing.now.manner drawing.now.lines.now }
+    ensures { Writes (rest_bytes writing.now (text_above drawing.now.text) drawing.now.lines.now) (T.view term.old) (T.view term.new) result }
 {
-    match writing.manner {
-        Manner::Among(count) => put_among(term, &lines[..count], writing.taken, writing.width),
-        Manner::Over(rows) => put_over(term, rows, lines, writing.width),
-    }
+    let lower = Drawing {
+        text: drawing.text,
+        lines: writing.manner.lower(drawing.lines),
+    };
+    let at_end = writing.is_at_end();
+    put_lower(term, at_end, &lower)?;
+    finish(term, writing, is_below(at_end, &lower))?;
+    put_spaces(term, writing.fill)?;
+    term.flush()
 }
 
 /// Writes a text and lines below it, each line on a row of its own: the first one on the cursor's, if that isn't at the end of one.

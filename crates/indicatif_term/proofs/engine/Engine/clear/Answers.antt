@@ -1,7 +1,7 @@
-use Rattle.std.proofs.Common.{ap, sym, subst, append-nil, ◌∙◌, ◌+◌, [], drop, false}
+use Rattle.std.proofs.Common.{ap, sym, subst, append-nil, ◌∙◌, ◌+◌, [], drop}
 use Rattle.indicatif_term.specs.Counts.{CountsOf}
 use Rattle.std.proofs.Math.Logic.{∥∥₁_map}
-use Rattle.indicatif_term.specs.Inside.Bytes.{paint_bytes}
+use Rattle.indicatif_term.proofs.PaintingLemmas.{paint_bytes}
 use Rattle.indicatif_term.specs.Frames.{is_fault}
 use Rattle.indicatif_term.specs.Lists.{cleared}
 use Rattle.indicatif_term.specs.Engines.{engine_term}
@@ -37,7 +37,7 @@ returns-clause-paints g c = λ l fits.
     let nothing = ap (drop 0) (ap (λ (r : Remembered). r.lines) c.remember.ensures.remembered.2 ∙ c.nothing-forgotten.ensures.no_lines) in
     let written = whole_bytes c.args.self.now.failed old.below c.cleared-next.result.below c.none.result (old.kept + old.live) c.in_ok-window.window.columns 0 [] [] in
     paints_by s (g.T.TermLike.view (engine_term c.write.new.self)) old _ _ c.write.result c.write.new.self c.args.self.now.failed l cleared
-    (paint_bytes false old.below (old.kept + old.live) [] c.cleared-next.result.below) c.write.ensures.remembers (fits_failed c.args.self.now l fits)
+    (paint_bytes old.below (old.kept + old.live) [] c.cleared-next.result.below) c.write.ensures.remembers (fits_failed c.args.self.now l fits)
     (rw (c.remember.ensures.terminal, nothing, written, c.none.ensures, append-nil) at c.write.ensures.draws)
     (λ x is. clear_paints s.columns s.rows x old c.cleared-next.result (rw c.in_ok-window.ensures.0 at c.in_ok-window.window.some) is.counts (c.cleared-next.ensures x is.counts)) o
     (fits_forgets c.args.self.now l fits) (cleared-sound l) (cleared-adds l) (cleared-known s.rows l)

@@ -4,7 +4,8 @@ use Rattle.std.proofs.lemmas.List.{length-map, length-replicate}
 use Rattle.std.proofs.Math.Logic.{∥∥₁_map}
 use Rattle.indicatif_term.specs.Lists.{Lists, logged}
 use Rattle.indicatif_term.specs.Counts.{CountsOf, line_counts}
-use Rattle.indicatif_term.specs.Inside.Bytes.{paint_bytes, reach_bytes}
+use Rattle.indicatif_term.specs.Inside.Bytes.{reach_bytes}
+use Rattle.indicatif_term.proofs.PaintingLemmas.{paint_bytes}
 use Rattle.indicatif_term.proofs.LastLineLemmas.{fill_bytes}
 use Rattle.indicatif_term.specs.Inside.Plans.{frame_lines, text_height}
 use Rattle.indicatif_term.specs.Standing.{texts}
@@ -160,7 +161,7 @@ returns-clause-paints g c = λ l fits plain.
     let ls = c.in_ok-lines.lines.items in
     let all : text ++ texts ls ≡ lines = ap (λ xs. text ++ xs) t ∙ sym (append_assoc text (replicate c.blanks_of-blanks.result []) (take plan.lines (frame_lines c.args.frame.now))) in
     let v' = g.T.TermLike.view (engine_term c.write.new.self) in
-    let bytes = reach_bytes f.down f.rows ++ (paint_bytes false old.below (old.kept + old.live) lines c.logged-counts.result.below ++ fill_bytes c.logged-counts.result.below s.columns lines) in
+    let bytes = reach_bytes f.down f.rows ++ (paint_bytes old.below (old.kept + old.live) lines c.logged-counts.result.below ++ fill_bytes c.logged-counts.result.below s.columns lines) in
     let written = whole_bytes c.args.self.now.failed old.below c.logged-counts.result.below f (old.kept + old.live) c.in_ok-planned.planned.window.columns c.fill.result text ls in
     let writes : Draws (led c.args.self.now.failed bytes) s v' c.write.result = rw (
       c.store.ensures.terminal,

@@ -1,9 +1,9 @@
-use Rattle.std.proofs.Common.{◌≡◌, ◌++◌, ◌∙◌, ◌-◌, ◌^◌, [], true, false, min, sym, ap, arith, subst, map, length, chars, append-nil}
+use Rattle.std.proofs.Common.{◌≡◌, ◌∙◌, ◌-◌, ◌^◌, [], true, false, min, sym, ap, arith, subst, map, length, chars, append-nil}
 use Rattle.std.specs.Prelude.{◌==◌, flat_map}
 use Rattle.std.proofs.lemmas.Bool.Decides.{nat_tests}
 use Rattle.std.specs.List.{AllByRecursion}
 use Rattle.std.proofs.lemmas.Iterator.Consumers.{YieldsList-end, YieldsList-from_first}
-use Rattle.indicatif_text.specs.Columns.{visible, width_of}
+use Rattle.indicatif_text.specs.Columns.{width_of}
 use Rattle.indicatif_text.specs.Pieces.{pieces_of_text, shown}
 use Rattle.indicatif_text.specs.PieceLaws.{run_text}
 use Rattle.indicatif_text.proofs.PieceLawLemmas.{runs_are_visible}

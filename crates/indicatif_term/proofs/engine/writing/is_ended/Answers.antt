@@ -1,4 +1,4 @@
-use Rattle.std.proofs.Common.{sym, ◌∙◌, ap}
+use Rattle.std.proofs.Common.{sym}
 use Rattle.std.proofs.Math.Bool.{or-false}
 use Rattle.indicatif_term.proofs.LoggedLineLemmas.{logged_length}
 use Rattle.indicatif_term.proofs.PutLineLemmas.{some_put}
