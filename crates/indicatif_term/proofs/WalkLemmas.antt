@@ -1,5 +1,5 @@
 -- The bytes of a walk through lines, line by line.
-use Rattle.std.proofs.Common.{min, inl, inr, ◌≡◌, ℕ, zero, suc, ◌+◌, ◌-◌, ◌<◌, ◌≤◌, Bool, true, false, List, [], ◌∷◌, ◌++◌, length, take, drop, get_or, Result, refl, sym, ◌∙◌, ap, subst, arith, append_assoc, append-nil}
+use Rattle.std.proofs.Common.{min, inl, inr, ◌≡◌, ℕ, ◌+◌, ◌-◌, ◌<◌, ◌≤◌, Bool, true, false, List, [], ◌∷◌, ◌++◌, length, take, drop, get_or, Result, refl, sym, ◌∙◌, ap, subst, arith, append_assoc, append-nil}
 use Rattle.std.specs.Prelude.{◌&&◌, ◌==◌, if◌then◌else◌, nat_lt, slice_index, IsErrAnd, string_bytes}
 use Rattle.std.specs.IoError.{error_kind}
 use Rattle.std.specs.declared.io.Error.{Error}
@@ -10,11 +10,12 @@ use Rattle.indicatif_term.specs.Inside.Changes.{Change, Leave, Within, Whole, Pl
 use Rattle.indicatif_term.specs.Inside.Changes.{ends_plainly, last_byte}
 use Rattle.std.proofs.Math.Utf8.{encode}
 use Rattle.indicatif_term.proofs.LastCharLemmas.{last_is}
-use Rattle.indicatif_term.specs.Inside.Parting.{change_of}
+use Rattle.indicatif_term.specs.Inside.Parting.{change_of, IsReady}
 use Rattle.indicatif_term.specs.declared.engine.parting.Step.{Step}
-use Rattle.indicatif_term.specs.Standing.{placed_of, placed}
+use Rattle.indicatif_term.specs.Standing.{placed_of, placed, AreReady}
 use Rattle.indicatif_term.specs.declared.engine.remembered.StandingLine.{StandingLine}
 use Rattle.indicatif_term.proofs.CallTurnLemmas.{reaches_then, breaks_then, writes_fail}
+use Rattle.indicatif_term.proofs.BesideLemmas.{ready_at}
 use Rattle.indicatif_term.proofs.AmongLemmas.{among_parts}
 use Rattle.indicatif_term.proofs.RememberedLemmas.{height_push, up_to_last, height_to_last}
 use Rattle.indicatif_term.proofs.EditWalkLemmas.{height-append, walk-append, down-append}
@@ -167,23 +168,36 @@ pub nothing_among : (w taken : ℕ) (ps : List PlacedLine) → ((taken == 0) && 
 nothing_among w taken [] e = refl
 nothing_among w taken (p ∷ ps) e = rw e refl
 
-pub among_split : (w taken : ℕ) (ls : List StandingLine) (k : ℕ) (x : StandingLine) → k + 1 ≡ length ls → get_or ls k x ≡ x → ((taken == 0) && all_stay (placed ls)) ≡ false →
-    among_bytes w taken (placed ls)
-    ≡ move_bytes UP (placed_height (placed ls) - 1 + min taken 1) ++ (walk_bytes 0 (placed (take k ls)) ++ last_bytes w (walk_down 0 (placed (take k ls))) (placed_of x))
-among_split w taken ls k x n e go =
-    let s = up_to_last ls k x n e in
-    let ps = placed (take k ls) in
-    let p = placed_of x in
-    let goes : ((taken == 0) && all_stay (ps ++ p ∷ [])) ≡ false = ap (λ qs. (taken == 0) && all_stay qs) (sym s) ∙ go in
-    ap (among_bytes w taken) s ∙ among_parts w taken ps p ∙ ap (λ b. if b then [] else frame_bytes (min taken 1) (ps ++ ending w p ∷ [])) goes
-    ∙ frame_split w (min taken 1) ps p
-    ∙ ap (λ m. move_bytes UP (m - 1 + min taken 1) ++ (walk_bytes 0 ps ++ last_bytes w (walk_down 0 ps) p)) (sym (height_to_last ls k x n e))
+-- some lines, and the last of them
+module _ (ls : List StandingLine) (x : StandingLine) (some : (length ls == 0) ≡ false) (e : get_or ls (length ls - 1) x ≡ x) where
+  abbrev upper : List StandingLine
+  upper = take (length ls - 1) ls
 
--- ---- failures, and tests
+  counted : length ls - 1 + 1 ≡ length ls
+  counted = elim ls as (λ xs. (length xs == 0) ≡ false → length xs - 1 + 1 ≡ length xs) [ [] ↦ λ z. absurd (false≢true (sym z)) | y ∷ ys ↦ λ z. omega arith ] some
 
-pub up_to : (ls : List StandingLine) → (length ls == 0) ≡ false → length ls - 1 + 1 ≡ length ls
-up_to [] e = absurd (false≢true (sym e))
-up_to (l ∷ ls) e = omega arith
+  pub all_height : placed_height (placed ls) ≡ placed_height (placed upper) + x.rows
+  all_height = height_to_last ls (length ls - 1) x counted e
+
+  pub upper_low : placed_height (placed ls) ≤ 65535 → placed_height (placed upper) ≤ 65535
+  upper_low small = omega (arith, all_height, small)
+
+  pub last_ready : AreReady ls → IsReady x.step (string_bytes x.before) (string_bytes x.text)
+  last_ready ready = ready_at ls (length ls - 1) x (omega (arith, counted)) e ready
+
+  pub last_low : (down : ℕ) → down ≡ walk_down 0 (placed upper) → placed_height (placed ls) ≤ 65535 → down + x.rows ≤ 65536
+  last_low down d small = omega (arith, d, down_low (placed upper), all_height, small)
+
+  pub among_split : (w taken : ℕ) → ((taken == 0) && all_stay (placed ls)) ≡ false →
+      among_bytes w taken (placed ls)
+      ≡ move_bytes UP (placed_height (placed ls) - 1 + min taken 1) ++ (walk_bytes 0 (placed upper) ++ last_bytes w (walk_down 0 (placed upper)) (placed_of x))
+  among_split w taken go =
+      let s = up_to_last ls (length ls - 1) x counted e in
+      let ps = placed upper in
+      let p = placed_of x in
+      let goes : ((taken == 0) && all_stay (ps ++ p ∷ [])) ≡ false = ap (λ qs. (taken == 0) && all_stay qs) (sym s) ∙ go in
+      ap (among_bytes w taken) s ∙ among_parts w taken ps p ∙ ap (λ b. if b then [] else frame_bytes (min taken 1) (ps ++ ending w p ∷ [])) goes ∙ frame_split w (min taken 1) ps p
+      ∙ ap (λ m. move_bytes UP (m - 1 + min taken 1) ++ (walk_bytes 0 ps ++ last_bytes w (walk_down 0 ps) p)) (sym all_height)
 
 -- more bytes behind a changed line
 pub changed_more : (down rows : ℕ) (line more : List ℕ) → changed_bytes down rows (line ++ more) ≡ changed_bytes down rows line ++ more

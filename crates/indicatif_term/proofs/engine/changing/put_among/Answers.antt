@@ -1,17 +1,16 @@
-use Rattle.std.proofs.Common.{◌≡◌, ◌≤◌, min, refl, append-nil, arith, sym, ◌∙◌, ◌++◌, [], ◌-◌, ◌+◌, List, length, take, subst}
+use Rattle.std.proofs.Common.{◌≡◌, min, refl, append-nil, arith, sym, ◌∙◌, [], ◌-◌, ◌+◌, List, length, take, subst}
 use Rattle.std.proofs.lemmas.Bool.{eqb-true}
 use Rattle.std.proofs.lemmas.List.{nil_from_length, take_all}
-use Rattle.indicatif_term.specs.Calls.{UP, LeadsOn, move_bytes}
-use Rattle.indicatif_term.specs.Inside.Changes.{placed_height, among_bytes, walk_bytes, walk_down, last_bytes}
+use Rattle.indicatif_term.specs.Calls.{LeadsOn}
+use Rattle.indicatif_term.specs.Inside.Changes.{placed_height, among_bytes}
 use Rattle.std.specs.Prelude.{string_bytes}
 use Rattle.indicatif_term.specs.Inside.Parting.{IsReady}
 use Rattle.indicatif_term.specs.declared.engine.parting.Step.TheVariants as Step
-use Rattle.indicatif_term.specs.Standing.{placed, placed_of}
+use Rattle.indicatif_term.specs.Standing.{placed}
 use Rattle.indicatif_term.specs.declared.engine.remembered.StandingLine.{StandingLine}
 use Rattle.indicatif_term.proofs.BesideLemmas.{ready_at, ready_take}
 use Rattle.indicatif_term.proofs.CallTurnLemmas.{writes_then, writes_fail, reaches_none}
-use Rattle.indicatif_term.proofs.RememberedLemmas.{height_to_last}
-use Rattle.indicatif_term.proofs.WalkLemmas.{down_low, up_to, three, room_next, walk_next, down_after, walk_fails, among_split, nothing_among}
+use Rattle.indicatif_term.proofs.WalkLemmas.{three, room_next, walk_next, down_after, walk_fails, nothing_among, upper_low, last_ready, last_low, among_split}
 use Rattle.indicatif_term.proofs.engine.changing.put_among.Goals as goal
 use Rattle.indicatif_term.proofs.engine.changing.put_among.Goals.{in-Leave, in-Within+in_ok-write_part-in-Within, in-Whole+in_ok-write_changed-in-Whole}
 
@@ -29,67 +28,44 @@ returns-then-is_nothing g c =
 pub returns-in_err-go_up : goal.returns-in_err-go_up
 returns-in_err-go_up g c =
     let ls = c.args.lines.now in
-    let k = length ls - 1 in
-    let x = c.index-lines-before.result in
-    let n : k + 1 ≡ length ls = up_to ls (sym c.is_empty.ensures ∙ c.if-is_empty.false) in
     let e : c.saturating_sub.result + c.min.result ≡ placed_height (placed ls) - 1 + min c.args.taken 1 =
     omega (arith, c.saturating_sub.ensures, c.height_of.ensures, c.min.ensures, c.requires.small) in
-    rw (among_split c.args.width c.args.taken ls k x n (sym c.index-lines-before.is) (sym c.is_nothing.ensures ∙ c.if-is_nothing.false))
-    (writes_fail (walk_bytes 0 (placed (take k ls)) ++ last_bytes c.args.width (walk_down 0 (placed (take k ls))) (placed_of x)) _ c.from_residual.result c.from_residual.ensures.1
-    (rw e at c.in_err-go_up.ensures))
+    rw (among_split ls _ (sym c.is_empty.ensures ∙ c.if-is_empty.false) (sym c.index-lines-before.is) c.args.width c.args.taken (sym c.is_nothing.ensures ∙ c.if-is_nothing.false))
+    (writes_fail _ _ c.from_residual.result c.from_residual.ensures.1 (rw e at c.in_err-go_up.ensures))
 
 pub loop-line-init : goal.loop-line-init
 loop-line-init g c =
-    let ls = c.args.lines.now in
-    let e : c.saturating_sub.result + c.min.result ≡ placed_height (placed ls) - 1 + min c.args.taken 1 =
+    let e : c.saturating_sub.result + c.min.result ≡ placed_height (placed c.args.lines.now) - 1 + min c.args.taken 1 =
     omega (arith, c.saturating_sub.ensures, c.height_of.ensures, c.min.ensures, c.requires.small) in
     record { leads = rw append-nil (rw e at c.in_ok-go_up.ensures); down_is = refl }
 
 pub overflow_add-down : goal.overflow_add-down
 overflow_add-down g c =
-    let ls = c.args.lines.now in
-    let k = length ls - 1 in
-    let n : k + 1 ≡ length ls = up_to ls (sym c.is_empty.ensures ∙ c.if-is_empty.false) in
-    let front = take k ls in
-    let small : placed_height (placed front) ≤ 65535 = omega (arith, height_to_last ls k c.index-lines-before.result n (sym c.index-lines-before.is), c.requires.small) in
-    omega (arith, room_next front c.loop-line.line-index c.line-item.result c.loop-line-test.true (sym c.line-item.is) small, c.loop-line.invariant.down_is)
+    let low = upper_low c.args.lines.now _ (sym c.is_empty.ensures ∙ c.if-is_empty.false) (sym c.index-lines-before.is) c.requires.small in
+    omega (arith, room_next _ c.loop-line.line-index c.line-item.result c.loop-line-test.true (sym c.line-item.is) low, c.loop-line.invariant.down_is)
 
 pub write_part-requires-clause-small : goal.write_part-requires-clause-small
 write_part-requires-clause-small g c =
-    let ls = c.args.lines.now in
-    let k = length ls - 1 in
-    let n : k + 1 ≡ length ls = up_to ls (sym c.is_empty.ensures ∙ c.if-is_empty.false) in
-    let front = take k ls in
-    let small : placed_height (placed front) ≤ 65535 = omega (arith, height_to_last ls k c.index-lines-before.result n (sym c.index-lines-before.is), c.requires.small) in
-    rw c.loop-line.invariant.down_is (room_next front c.loop-line.line-index c.line-item.result c.loop-line-test.true (sym c.line-item.is) small)
+    let low = upper_low c.args.lines.now _ (sym c.is_empty.ensures ∙ c.if-is_empty.false) (sym c.index-lines-before.is) c.requires.small in
+    rw c.loop-line.invariant.down_is (room_next _ c.loop-line.line-index c.line-item.result c.loop-line-test.true (sym c.line-item.is) low)
 
 pub write_part-requires-clause-part : goal.write_part-requires-clause-part
 write_part-requires-clause-part g c =
-    let ls = c.args.lines.now in
-    let k = length ls - 1 in
     let x = c.line-item.result in
     subst (λ s. IsReady s (string_bytes x.before) (string_bytes x.text)) c.in-Within.is
-    (ready_at (take k ls) c.loop-line.line-index x c.loop-line-test.true (sym c.line-item.is) (ready_take ls k c.requires.ready))
+    (ready_at _ c.loop-line.line-index x c.loop-line-test.true (sym c.line-item.is) (ready_take c.args.lines.now _ c.requires.ready))
 
 pub returns-in_err-write_part-in-Within : goal.returns-in_err-write_part-in-Within
 returns-in_err-write_part-in-Within g c =
-    let ls = c.args.lines.now in
-    let k = length ls - 1 in
-    let x = c.index-lines-before.result in
-    let n : k + 1 ≡ length ls = up_to ls (sym c.is_empty.ensures ∙ c.if-is_empty.false) in
-    rw (among_split c.args.width c.args.taken ls k x n (sym c.index-lines-before.is) (sym c.is_nothing.ensures ∙ c.if-is_nothing.false))
-    (walk_fails (take k ls) c.loop-line.line-index c.line-item.result c.loop-line-test.true (sym c.line-item.is) _ _ (Step.Within c.in-Within.part) c.loop-line.down _ _ _ _
+    rw (among_split c.args.lines.now _ (sym c.is_empty.ensures ∙ c.if-is_empty.false) (sym c.index-lines-before.is) c.args.width c.args.taken (sym c.is_nothing.ensures ∙ c.if-is_nothing.false))
+    (walk_fails _ c.loop-line.line-index c.line-item.result c.loop-line-test.true (sym c.line-item.is) _ _ (Step.Within c.in-Within.part) c.loop-line.down _ _ _ _
     c.from_residual-in_err-write_part-in-Within.result c.in-Within.is c.loop-line.invariant.down_is c.from_residual-in_err-write_part-in-Within.ensures.1 c.loop-line.invariant.leads
     c.in_err-write_part-in-Within.ensures)
 
 pub returns-in_err-write_changed-in-Whole : goal.returns-in_err-write_changed-in-Whole
 returns-in_err-write_changed-in-Whole g c =
-    let ls = c.args.lines.now in
-    let k = length ls - 1 in
-    let x = c.index-lines-before.result in
-    let n : k + 1 ≡ length ls = up_to ls (sym c.is_empty.ensures ∙ c.if-is_empty.false) in
-    rw (among_split c.args.width c.args.taken ls k x n (sym c.index-lines-before.is) (sym c.is_nothing.ensures ∙ c.if-is_nothing.false))
-    (walk_fails (take k ls) c.loop-line.line-index c.line-item.result c.loop-line-test.true (sym c.line-item.is) _ _ Step.Whole c.loop-line.down _ _ _ _
+    rw (among_split c.args.lines.now _ (sym c.is_empty.ensures ∙ c.if-is_empty.false) (sym c.index-lines-before.is) c.args.width c.args.taken (sym c.is_nothing.ensures ∙ c.if-is_nothing.false))
+    (walk_fails _ c.loop-line.line-index c.line-item.result c.loop-line-test.true (sym c.line-item.is) _ _ Step.Whole c.loop-line.down _ _ _ _
     c.from_residual-in_err-write_changed-in-Whole.result c.in-Whole.is c.loop-line.invariant.down_is c.from_residual-in_err-write_changed-in-Whole.ensures.1 c.loop-line.invariant.leads
     c.in_err-write_changed-in-Whole.ensures)
 
@@ -122,26 +98,20 @@ loop-line-preserved g c =
 
 pub write_last-requires-clause-small : goal.write_last-requires-clause-small
 write_last-requires-clause-small g c =
-    let ls = c.args.lines.now in
-    let k = length ls - 1 in
-    let n : k + 1 ≡ length ls = up_to ls (sym c.is_empty.ensures ∙ c.if-is_empty.false) in
-    let all : take c.loop-line.line-index (take k ls) ≡ take k ls = take_all c.loop-line.line-index (take k ls) (omega arith) in
-    let down = rw all at c.loop-line.invariant.down_is in
-    omega (arith, down_low (placed (take k ls)), height_to_last ls k c.index-lines-before.result n (sym c.index-lines-before.is), down, c.requires.small)
+    let front = take (length c.args.lines.now - 1) c.args.lines.now in
+    let all : take c.loop-line.line-index front ≡ front = take_all c.loop-line.line-index front (omega arith) in
+    last_low c.args.lines.now _ (sym c.is_empty.ensures ∙ c.if-is_empty.false) (sym c.index-lines-before.is) _ (rw all at c.loop-line.invariant.down_is) c.requires.small
 
 pub write_last-requires-clause-ready : goal.write_last-requires-clause-ready
-write_last-requires-clause-ready g c =
-    let n = up_to c.args.lines.now (sym c.is_empty.ensures ∙ c.if-is_empty.false) in
-    ready_at c.args.lines.now (length c.args.lines.now - 1) c.index-lines-before.result (omega (arith, n)) (sym c.index-lines-before.is) c.requires.ready
+write_last-requires-clause-ready g c = last_ready c.args.lines.now _ (sym c.is_empty.ensures ∙ c.if-is_empty.false) (sym c.index-lines-before.is) c.requires.ready
 
 pub returns : goal.returns
 returns g c =
-    let ls = c.args.lines.now in
-    let k = length ls - 1 in
-    let x = c.index-lines-before.result in
-    let n : k + 1 ≡ length ls = up_to ls (sym c.is_empty.ensures ∙ c.if-is_empty.false) in
-    let all : take c.loop-line.line-index (take k ls) ≡ take k ls = take_all c.loop-line.line-index (take k ls) (omega arith) in
-    let up = move_bytes UP (placed_height (placed ls) - 1 + min c.args.taken 1) in
-    let last = last_bytes c.args.width (walk_down 0 (placed (take k ls))) (placed_of x) in
-    rw (among_split c.args.width c.args.taken ls k x n (sym c.index-lines-before.is) (sym c.is_nothing.ensures ∙ c.if-is_nothing.false), ← three up (walk_bytes 0 (placed (take k ls))) last)
-    (writes_then last _ c.write_last.result (rw all at c.loop-line.invariant.leads) (rw (c.loop-line.invariant.down_is, all) at c.write_last.ensures))
+    let front = take (length c.args.lines.now - 1) c.args.lines.now in
+    let all : take c.loop-line.line-index front ≡ front = take_all c.loop-line.line-index front (omega arith) in
+    rw (
+      among_split c.args.lines.now _ (sym c.is_empty.ensures ∙ c.if-is_empty.false) (sym c.index-lines-before.is) c.args.width c.args.taken
+          (sym c.is_nothing.ensures ∙ c.if-is_nothing.false),
+      ← three _ _ _,
+    )
+    (writes_then _ _ c.write_last.result (rw all at c.loop-line.invariant.leads) (rw (c.loop-line.invariant.down_is, all) at c.write_last.ensures))
