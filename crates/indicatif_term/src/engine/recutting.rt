@@ -202,7 +202,6 @@ fn line_of(
         narrow: false,
         edits: 0,
         step: Step::Whole,
-        like: None,
     })
 }
 
