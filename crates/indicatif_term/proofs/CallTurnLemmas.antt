@@ -11,7 +11,8 @@ use Rattle.indicatif_term.proofs.FeedLemmas.{after-append}
 use Rattle.indicatif_term.specs.Calls.{Told, State, Bytes, Nothing, is_told, led_on, TermView, LeadsOn, BreaksOff, Writes, clear_bytes, move_bytes, anew_bytes}
 use Rattle.std.specs.Prelude.{not, ◌&&◌, ◌==◌}
 use Rattle.std.proofs.Common.{replicate}
-use Rattle.indicatif_term.specs.Inside.Bytes.{paint_bytes, painting_bytes, drawing_lines, lines_bytes, next_row, rows_down, reach_bytes, back_bytes}
+use Rattle.indicatif_term.specs.Inside.Bytes.{paint_bytes, lines_bytes, next_row, rows_down, reach_bytes, back_bytes}
+use Rattle.indicatif_term.specs.Inside.Paintings.{painting_bytes}
 use Rattle.indicatif_term.specs.declared.engine.painting.Painting.{Painting}
 
 pub led_on-append : (told : Told) (a b : List ℕ) → led_on (led_on told a) b ≡ led_on told (a ++ b)
@@ -148,8 +149,8 @@ reach_some down zero h = absurd (omega arith)
 reach_some down (suc n) h = refl
 
 -- the bytes of a drawing, call by call, where it is known after each whether the cursor stands at the end of a row
-pub painting_split : (p : Painting) (a b c : Bool) → a ≡ not p.below → b ≡ (a && (p.taken == 0)) → c ≡ (b || nat_lt 0 (length (drawing_lines p.drawing))) →
-    painting_bytes p ≡ ((if p.anew then anew_bytes else []) ++ reach_bytes p.fresh.down p.fresh.rows) ++ (back_bytes (not a) p.taken ++ (lines_bytes b (drawing_lines p.drawing)
+pub painting_split : (p : Painting) (lines : List (List ℕ)) (a b c : Bool) → a ≡ not p.below → b ≡ (a && (p.taken == 0)) → c ≡ (b || nat_lt 0 (length lines)) →
+    painting_bytes p lines ≡ ((if p.anew then anew_bytes else []) ++ reach_bytes p.fresh.down p.fresh.rows) ++ (back_bytes (not a) p.taken ++ (lines_bytes b lines
     ++ ((if p.ends_below && c then next_row else []) ++ (replicate p.fill 0x20 ++ []))))
 unfolding paint_bytes
-painting_split p a b c e f g = rw (g, f, e, not_twice) (simp (append_assoc, append-nil))
+painting_split p lines a b c e f g = rw (g, f, e, not_twice) (simp (append_assoc, append-nil))

@@ -1,9 +1,9 @@
 -- The rows of the lines that a frame shows are its live rows.
-use Rattle.std.proofs.Common.{◌≡◌, ℕ, zero, suc, ◌-◌, ◌≤◌, List, [], ◌∷◌, ◌++◌, length, map, take, replicate, refl, sym, ◌∙◌, ap, arith, append_assoc, append-nil, length-append, chars, eqb}
+use Rattle.std.proofs.Common.{◌≡◌, ℕ, zero, suc, ◌+◌, ◌-◌, ◌<◌, ◌≤◌, List, [], ◌∷◌, ◌++◌, length, map, take, get_or, replicate, refl, sym, ◌∙◌, ap, arith, append_assoc, append-nil, length-append, chars, eqb}
 use Rattle.std.specs.Prelude.{flat_map, fold, nat_le}
 use Rattle.std.proofs.lemmas.Bool.{cond_both, leb-true}
 use Rattle.std.proofs.lemmas.Grind.{flat_map-append}
-use Rattle.std.proofs.lemmas.List.{length-map, map-append, take-map}
+use Rattle.std.proofs.lemmas.List.{take_more, length-map, map-append, take-map}
 use Rattle.std.proofs.lemmas.Simd.{map-map}
 use Rattle.std.proofs.lemmas.List.Concat.{length-flat_map}
 use Rattle.std.proofs.lemmas.Str.{chars-nil}
@@ -147,3 +147,12 @@ module _ (w h : ℕ) (frame : List Segment) where
       ∙ flat_map-append (λ line. rows_of w (chars line)) text (replicate blanks [] ++ take count (frame_lines frame))
       ∙ ap (λ rs. rs ++ lines_rows w (replicate blanks [] ++ take count (frame_lines frame))) (text_rows w text)
       ∙ ap (λ rs. flat_map (rows_of w) (text_lines text) ++ rs) (frame_rows blanks)
+
+-- the lines of one member more
+abbrev pub member_lines : Segment → List (List ℕ)
+member_lines s = map line_text s.lines.items
+
+pub frame_step : (frame : List Segment) (i : ℕ) (s : Segment) → i < length frame → get_or frame i s ≡ s → frame_lines (take (i + 1) frame) ≡ frame_lines (take i frame) ++ member_lines s
+frame_step frame i s h e =
+    ap frame_lines (take_more frame i s h ∙ ap (λ x. take i frame ++ x ∷ []) e) ∙ flat_map-append member_lines (take i frame) (s ∷ [])
+    ∙ ap (λ xs. frame_lines (take i frame) ++ xs) (append-nil (member_lines s))

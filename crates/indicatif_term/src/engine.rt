@@ -139,7 +139,7 @@ impl<T: Drop> Drop for Engine<T> {
 
 impl<T: TermLike + Drop> Engine<T> {
     ghost use Rattle.indicatif_term.specs.Lists.{Lists, drawn, logged, cleared, kept_of, fate};
-    ghost use Rattle.indicatif_term.specs.Inside.Bytes.{paint_bytes, reach_bytes, drawing_lines};
+    ghost use Rattle.indicatif_term.specs.Inside.Bytes.{paint_bytes, reach_bytes};
     ghost use Rattle.indicatif_term.specs.Calls.{TermView, Writes};
     ghost use Rattle.indicatif_term.specs.Frames.{bar_lines, all_lines, are_plain, logged_lines, text_lines, is_fault};
     ghost use Rattle.indicatif_term.specs.Inside.Plans.{frame_lines};
@@ -320,12 +320,6 @@ impl<T: TermLike + Drop> Engine<T> {
         let standing = self.shown.on(width);
         let lines = lines_among(&mut self.spare, standing, blanks, planned.lines)?;
         let kept = plan.kept_below(blanks);
-        let drawing = Drawing {
-            text: None,
-            blanks,
-            frame,
-            lines: plan.lines,
-        };
         let last = plan.last;
         let end = self.counts.kept + (blanks + plan.rows);
         let fresh = self.counts.fresh(end, window.rows);
@@ -337,7 +331,6 @@ impl<T: TermLike + Drop> Engine<T> {
             fresh,
             below: self.counts.below,
             taken,
-            drawing,
             ends_below: counts.below,
             fill: counts.fill(last, width),
         };
@@ -353,7 +346,11 @@ impl<T: TermLike + Drop> Engine<T> {
             let written = write_in_room(&mut self.term, drawn, room, width);
             return self.ended(written);
         }
-        let written = paint(&mut self.term, &painting);
+        let drawing = Drawing {
+            text: None,
+            lines: drawn,
+        };
+        let written = paint(&mut self.term, &painting, &drawing);
         self.ended(written)
     }
 
@@ -402,12 +399,6 @@ impl<T: TermLike + Drop> Engine<T> {
         let taken = self.counts.kept + self.counts.live;
         let free = taken.saturating_sub(metrics.height);
         let blanks = blanks_of(alignment.is_bottom(), free, plan.rows);
-        let drawing = Drawing {
-            text: Some(text),
-            blanks,
-            frame,
-            lines: plan.lines,
-        };
         let lines = below_blanks(&mut self.spare, blanks, planned.lines)?;
         let last = plan.last.unwrap_or(metrics.last_line_width);
         let end = metrics.height.saturating_add(blanks + plan.rows);
@@ -421,14 +412,17 @@ impl<T: TermLike + Drop> Engine<T> {
             fresh,
             below: self.counts.below,
             taken,
-            drawing,
             ends_below: counts.below,
             fill,
         };
         let above = Span { from: 0, to: 0 };
         let next = NextLines { lines, kept: 0 };
-        self.store(counts, above, next, window.columns)?;
-        let written = paint(&mut self.term, &painting);
+        let from = self.store(counts, above, next, window.columns)?;
+        let drawing = Drawing {
+            text: Some(text),
+            lines: self.shown.behind(from),
+        };
+        let written = paint(&mut self.term, &painting, &drawing);
         self.ended(written)
     }
 
@@ -454,18 +448,16 @@ impl<T: TermLike + Drop> Engine<T> {
             fresh: Fresh::none(),
             below: self.counts.below,
             taken: self.counts.kept + self.counts.live,
-            drawing: Drawing {
-                text: None,
-                blanks: 0,
-                frame: &[],
-                lines: 0,
-            },
             ends_below: next.below,
             fill: 0,
         };
         let forgotten = Remembered::nothing(self.alloc);
         self.remember(next, forgotten);
-        let written = paint(&mut self.term, &painting);
+        let drawing = Drawing {
+            text: None,
+            lines: &[],
+        };
+        let written = paint(&mut self.term, &painting, &drawing);
         self.ended(written)
     }
 

@@ -1,34 +1,30 @@
 //! Rows taken back, and lines written.
-ghost use Rattle.std.specs.Prelude.{◌≡◌, ◌<◌, ◌≤◌, ◌+◌, ◌-◌, [], ◌∷◌, ◌++◌, map, take, length, replicate, true, false, if◌then◌else◌, not, ◌&&◌, ◌||◌, ◌==◌, nat_lt, is_some};
+ghost use Rattle.std.specs.Prelude.{◌≡◌, ◌<◌, ◌≤◌, ◌+◌, ◌-◌, [], ◌∷◌, ◌++◌, length, replicate, true, false, if◌then◌else◌, not, ◌&&◌, ◌||◌, ◌==◌, nat_lt, is_some};
 ghost use Rattle.indicatif_term.specs.Calls.{Writes, UP, DOWN, move_bytes, clear_bytes, anew_bytes};
-ghost use Rattle.indicatif_term.specs.Inside.Bytes.{rows_down, reach_bytes, back_bytes, lines_bytes, painting_bytes, drawing_lines, next_row};
+ghost use Rattle.indicatif_term.specs.Inside.Bytes.{rows_down, reach_bytes, back_bytes, lines_bytes, next_row};
+ghost use Rattle.indicatif_term.specs.Inside.Paintings.{painting_bytes, drawing_lines};
 ghost use Rattle.indicatif_term.specs.Standing.{texts};
 ghost use Rattle.indicatif_term.specs.Inside.Pens.{Pens, Puts};
-ghost use Rattle.indicatif_term.specs.Frames.{line_text, logged_lines};
-ghost use Rattle.indicatif_term.specs.Inside.Plans.{frame_lines, text_above};
+ghost use Rattle.indicatif_term.specs.Frames.{logged_lines};
+ghost use Rattle.indicatif_term.specs.Inside.Plans.{text_above};
 
 use crate::engine::counts::Fresh;
-use crate::engine::lines::{LineType, Segment};
 use crate::engine::remembered::StandingLine;
 use crate::target::term_like::TermLike;
-use std::convert::AsStr;
 use std::io;
 
-/// What a drawing writes: a text that stays, blank rows, and bars.
+/// What a drawing writes: a text that stays, and lines.
 #[derive(Clone, Copy)]
 pub struct Drawing<'a> {
     /// The text that is logged, if any is.
     pub text: Option<&'a str>,
-    /// The blank rows above the bars.
-    pub blanks: usize,
-    /// The bars, and how many of their lines are written.
-    pub frame: &'a [Segment],
-    pub lines: usize,
+    /// The lines below it.
+    pub lines: &'a [StandingLine],
 }
 
-/// What a drawing does on the terminal, from its first byte to its last.
+/// How a drawing is written that takes rows back, from its first byte to its last.
 #[derive(Clone, Copy)]
-pub struct Painting<'a> {
+pub struct Painting {
     /// Whether it begins on a new row, which it empties.
     pub anew: bool,
     /// The rows that it is the first to reach, and empties.
@@ -37,24 +33,25 @@ pub struct Painting<'a> {
     pub below: bool,
     /// The rows taken back.
     pub taken: usize,
-    /// What it writes in their place.
-    pub drawing: Drawing<'a>,
     /// Whether it ends at the front of the row after all these.
     pub ends_below: bool,
     /// How many spaces it writes last, behind its last line.
     pub fill: usize,
 }
 
-/// Takes rows back, writes lines of text, blank rows and lines of the frame, goes below them if asked, and fills the row.
-pub fn paint<T: TermLike>(term: &mut T, painting: &Painting<'_>) -> io::Result<()>
-    requires { painting.now.drawing.lines ≤ length (frame_lines painting.now.drawing.frame.now) }
-    ensures { Writes (painting_bytes painting.now) (T.view term.old) (T.view term.new) result }
+/// Takes rows back, writes lines of text and those of a drawing, goes below them if asked, and fills the row.
+pub fn paint<T: TermLike>(
+    term: &mut T,
+    painting: &Painting,
+    drawing: &Drawing<'_>,
+) -> io::Result<()>
+    ensures { Writes (painting_bytes painting.now (drawing_lines drawing.now)) (T.view term.old) (T.view term.new) result }
 {
     let mut pen = Pen {
         term,
         at_end: !painting.below,
     };
-    pen.paint(painting)
+    pen.paint(painting, drawing)
 }
 
 /// Writes lines below the row at whose end the cursor stands, each on a row of its own, and `fill` spaces behind them.
@@ -86,15 +83,14 @@ struct Pen<'t, T> {
 
 impl<'t, T: TermLike> Pen<'t, T> {
     /// Does all that a painting says, from the rows taken back to the filled row.
-    fn paint(&mut self, painting: &Painting<'_>) -> io::Result<()>
+    fn paint(&mut self, painting: &Painting, drawing: &Drawing<'_>) -> io::Result<()>
         requires place { self.old.at_end ≡ not painting.now.below }
-        requires lines { painting.now.drawing.lines ≤ length (frame_lines painting.now.drawing.frame.now) }
         ensures same { self.new.term.ghost_name ≡ self.old.term.ghost_name }
-        ensures writes { Writes (painting_bytes painting.now) (T.view self.old.term.now) (T.view self.new.term.now) result }
+        ensures writes { Writes (painting_bytes painting.now (drawing_lines drawing.now)) (T.view self.old.term.now) (T.view self.new.term.now) result }
     {
         self.begin(painting.anew, painting.fresh)?;
         self.take_back(painting.taken)?;
-        self.put_drawing(&painting.drawing)?;
+        self.put_drawing(drawing)?;
         self.finish(painting.ends_below)?;
         put_spaces(self.term, painting.fill)?;
         self.term.flush()
@@ -165,16 +161,6 @@ impl<'t, T: TermLike> Pen<'t, T> {
         }
     }
 
-    /// Writes each line of a bar on a row of its own.
-    fn put_lines(&mut self, lines: &[LineType]) -> io::Result<()>
-        ensures { Puts T.view (map line_text lines.now) self.old self.new result }
-    {
-        for line in lines {
-            self.put(line.as_str())?;
-        }
-        Ok(())
-    }
-
     /// Writes each of these lines on a row of its own, and `fill` spaces behind them.
     fn put_filled(&mut self, lines: &[StandingLine], fill: usize) -> io::Result<()>
         ensures same { self.new.term.ghost_name ≡ self.old.term.ghost_name }
@@ -194,36 +180,12 @@ impl<'t, T: TermLike> Pen<'t, T> {
         Ok(())
     }
 
-    /// Writes the blank rows of a drawing, as empty lines.
-    fn put_blanks(&mut self, count: usize) -> io::Result<()>
-        ensures { Puts T.view (replicate count []) self.old self.new result }
-    {
-        for _ in 0..count {
-            self.put("")?;
-        }
-        Ok(())
-    }
-
-    /// Writes the first `count` lines of a frame.
-    fn put_frame(&mut self, frame: &[Segment], count: usize) -> io::Result<()>
-        ensures { Puts T.view (take count (frame_lines frame.now)) self.old self.new result }
-    {
-        let mut left = count;
-        for member in frame {
-            let n = left.min(member.lines.len());
-            self.put_lines(&member.lines[..n])?;
-            left -= n;
-        }
-        Ok(())
-    }
-
     /// Writes the lines of a drawing.
     fn put_drawing(&mut self, drawing: &Drawing<'_>) -> io::Result<()>
         ensures { Puts T.view (drawing_lines drawing.now) self.old self.new result }
     {
         self.put_above(drawing.text)?;
-        self.put_blanks(drawing.blanks)?;
-        self.put_frame(drawing.frame, drawing.lines)
+        self.put_standing(drawing.lines)
     }
 
     /// Goes below the painted lines, if the painting says so.

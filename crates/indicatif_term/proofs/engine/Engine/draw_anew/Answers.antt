@@ -28,7 +28,6 @@ use Rattle.indicatif_term.proofs.EngineLemmas.{within_rows, paints_refused, pain
 use Rattle.indicatif_term.proofs.SkippingLemmas.{drawn_shown, drawn_suits, sits_live, draw_changes, split_at, counted_by, some_lines, counted_refused, fits_refused, some_is}
 use Rattle.indicatif_term.proofs.OverLemmas.{AreWide}
 use Rattle.indicatif_term.proofs.MovingLemmas.{live_wide, draw_moves}
-use Rattle.indicatif_term.proofs.ShownRowLemmas.{frame_lines_le}
 use Rattle.indicatif_term.proofs.engine.Engine.draw_anew.Goals as goal
 
 pub returns-in_err-planned-clause-paints : goal.returns-in_err-planned-clause-paints
@@ -316,11 +315,6 @@ returns-in-Some-clause-paints g c = λ l fits plain.
     (fits_forgets c.args.self.now l fits) (drawn-sound s.columns s.rows bottom c.args.pass frame l) (drawn-adds s.columns s.rows bottom c.args.pass frame l)
     (drawn-known s.columns s.rows bottom c.args.pass frame l)
 
-pub paint-written-requires : goal.paint-written-requires
-paint-written-requires g c =
-    let s = g.T.TermLike.view (engine_term c.args.self.now) in
-    rw c.in_ok-planned.ensures.planned.plan_is.lines_are (frame_lines_le s.columns s.rows c.args.frame.now)
-
 pub returns-clause-lists : goal.returns-clause-lists
 returns-clause-lists g c = λ l fits.
     let s = g.T.TermLike.view (engine_term c.args.self.now) in
@@ -362,6 +356,7 @@ returns-clause-paints g c = λ l fits plain.
     let o = fits_counts c.args.self.now l fits in
     let plan = c.in_ok-planned.planned.plan in
     let f = c.fresh-fresh.result in
+    let drawn_are = c.behind-drawn.ensures ∙ c.in_ok-from.ensures.next.2 in
     let lines = [] ++ replicate c.blanks_of-blanks.result [] ++ take plan.lines (frame_lines c.args.frame.now) in
     let fill = draw_fill s.columns s.rows c.args.pass c.blanks_of-blanks.result old.live 0 bottom c.args.frame.now plan p.plan_is p.plan_ends blanks
     c.drawn-counts.result.below c.fill.result (rw p.columns_are at c.fill.ensures) in
@@ -369,7 +364,7 @@ returns-clause-paints g c = λ l fits plain.
     (drawn s.columns s.rows bottom c.args.pass frame)
     (reach_bytes f.down f.rows ++ (paint_bytes false old.below old.live lines c.drawn-counts.result.below ++ fill_bytes c.drawn-counts.result.below s.columns lines)) c.ended-2.ensures.remembers
     (fits_failed c.args.self.now l fits)
-    (rw (c.store.ensures.terminal, fill) at (c.ended-2.ensures.draws _ _ c.paint-written.ensures))
+    (rw (c.store.ensures.terminal, drawn_are, t, fill) at (c.ended-2.ensures.draws _ _ c.paint-written.ensures))
     (λ x same. draw_paints s.columns s.rows x old c.drawn-counts.result c.args.pass c.blanks_of-blanks.result bottom c.args.frame.now plan f
     (rw p.columns_are at win.some) plain p.narrow_frame same.counts p.plan_is (next x same.counts) blanks (rw p.rows_are at c.fresh-fresh.ensures)) o
     (fits_forgets c.args.self.now l fits) (drawn-sound s.columns s.rows bottom c.args.pass frame l) (drawn-adds s.columns s.rows bottom c.args.pass frame l)

@@ -1,4 +1,4 @@
-use Rattle.std.proofs.Common.{map, ◌≡◌, ◌≤◌, ◌+◌, ℕ, List, [], ◌++◌, ◌∙◌, ap, arith, false, replicate, take, length, length-append, length-take, subst, sym}
+use Rattle.std.proofs.Common.{map, ◌≡◌, ◌≤◌, ◌+◌, ℕ, List, [], ◌++◌, ◌∙◌, ap, arith, false, replicate, take, length, length-append, length-take, append_assoc, subst, sym}
 use Rattle.std.specs.Prelude.{string_bytes}
 use Rattle.std.proofs.lemmas.List.{length-map, length-replicate}
 use Rattle.std.proofs.Math.Logic.{∥∥₁_map}
@@ -7,6 +7,7 @@ use Rattle.indicatif_term.specs.Counts.{CountsOf, line_counts}
 use Rattle.indicatif_term.specs.Inside.Bytes.{paint_bytes, reach_bytes}
 use Rattle.indicatif_term.proofs.LastLineLemmas.{fill_bytes}
 use Rattle.indicatif_term.specs.Inside.Plans.{frame_lines, text_height}
+use Rattle.indicatif_term.specs.Standing.{texts}
 use Rattle.indicatif_term.specs.Frames.{bar_lines, logged_lines, text_lines, all_lines, is_fault}
 use Rattle.indicatif_term.specs.declared.engine.remembered.StandingLine.{StandingLine}
 use Rattle.indicatif_term.specs.Engines.{engine_term, Fits, Paints, is_failure, lists_after}
@@ -16,7 +17,6 @@ use Rattle.indicatif_term.proofs.DrawingLemmas.{logged-adds, logged-known, logge
 use Rattle.indicatif_term.proofs.LineEndLemmas.{log_fill}
 use Rattle.indicatif_term.proofs.EngineLemmas.{all_or_many, paints_refused, paints_by, fits_counts, fits_failed, fits_forgets, fits_by, suits_made, log_paints, narrow_both, answer_made}
 use Rattle.indicatif_term.proofs.LoggedLineLemmas.{logged_length, logged_utf8}
-use Rattle.indicatif_term.proofs.ShownRowLemmas.{frame_lines_le}
 use Rattle.indicatif_term.proofs.engine.Engine.log.Goals as goal
 
 pub returns-in_err-planned-clause-paints : goal.returns-in_err-planned-clause-paints
@@ -41,8 +41,8 @@ returns-in_err-lines-clause-paints g c = λ l fits plain.
 pub store-requires-clause-right : goal.store-requires-clause-right
 store-requires-clause-right g c = λ some. c.in_ok-lines.ensures.right c.in_ok-planned.planned.window.columns c.in_ok-planned.ensures.lines.measured
 
-pub returns-in_err-store-clause-memory : goal.returns-in_err-store-clause-memory
-returns-in_err-store-clause-memory g c = λ e.
+pub returns-in_err-from-clause-memory : goal.returns-in_err-from-clause-memory
+returns-in_err-from-clause-memory g c = λ e.
     let s = g.T.TermLike.view (engine_term c.args.self.now) in
     let p = c.in_ok-planned.ensures.planned in
     let plan = c.in_ok-planned.planned.plan in
@@ -58,27 +58,27 @@ returns-in_err-store-clause-memory g c = λ e.
     ∙ length-append front (take plan.lines (frame_lines c.args.frame.now)) ∙ ap (λ n. n + length (take plan.lines (frame_lines c.args.frame.now))) (length-replicate k []) in (
       rw p.columns_are at c.in_ok-planned.planned.window.some,
       some_lines s.columns s.rows 0 k (old.kept + old.live) rows (is_bottom c.args.alignment) c.args.frame.now plan p.plan_is blanks
-          (omega (arith, size, length-take plan.lines (frame_lines c.args.frame.now), c.in_err-store.ensures.refused.1)),
+          (omega (arith, size, length-take plan.lines (frame_lines c.args.frame.now), c.in_err-from.ensures.refused.1)),
     )
 
-pub returns-in_err-store-clause-counted : goal.returns-in_err-store-clause-counted
-returns-in_err-store-clause-counted g c =
-    counted_refused _ _ c.from_residual-in_err-store.result c.in_err-store.field-0.0 (ap (λ t. g.T.TermLike.view t) c.store.ensures.terminal) c.from_residual-in_err-store.ensures.1
-    (ap is_fault c.in_err-store.ensures.refused.0)
+pub returns-in_err-from-clause-counted : goal.returns-in_err-from-clause-counted
+returns-in_err-from-clause-counted g c =
+    counted_refused _ _ c.from_residual-in_err-from.result c.in_err-from.field-0.0 (ap (λ t. g.T.TermLike.view t) c.store.ensures.terminal) c.from_residual-in_err-from.ensures.1
+    (ap is_fault c.in_err-from.ensures.refused.0)
 
-pub returns-in_err-store-clause-lists : goal.returns-in_err-store-clause-lists
+pub returns-in_err-from-clause-lists : goal.returns-in_err-from-clause-lists
 unfolding Fits
-returns-in_err-store-clause-lists g c = λ l fits.
-    fits_refused _ _ c.from_residual-in_err-store.result c.in_err-store.field-0.0 l _ c.in_err-store.ensures.refused.2 c.from_residual-in_err-store.ensures.1
-    (ap is_fault c.in_err-store.ensures.refused.0) fits
+returns-in_err-from-clause-lists g c = λ l fits.
+    fits_refused _ _ c.from_residual-in_err-from.result c.in_err-from.field-0.0 l _ c.in_err-from.ensures.refused.2 c.from_residual-in_err-from.ensures.1
+    (ap is_fault c.in_err-from.ensures.refused.0) fits
 
-pub returns-in_err-store-clause-paints : goal.returns-in_err-store-clause-paints
-returns-in_err-store-clause-paints g c = λ l fits plain.
+pub returns-in_err-from-clause-paints : goal.returns-in_err-from-clause-paints
+returns-in_err-from-clause-paints g c = λ l fits plain.
     let s = g.T.TermLike.view (engine_term c.args.self.now) in
-    let r = c.from_residual-in_err-store.result in
+    let r = c.from_residual-in_err-from.result in
     let l' = logged s.columns s.rows (is_bottom c.args.alignment) (text_lines (logged_lines c.args.text.now)) (map bar_lines c.args.frame.now) l in
     subst (λ t. Paints s (g.T.TermLike.view t) (is_failure r) l (lists_after r l l')) (sym c.store.ensures.terminal)
-    (paints_refused s r c.in_err-store.field-0.0 l l' c.from_residual-in_err-store.ensures.1 (ap is_fault c.in_err-store.ensures.refused.0))
+    (paints_refused s r c.in_err-from.field-0.0 l l' c.from_residual-in_err-from.ensures.1 (ap is_fault c.in_err-from.ensures.refused.0))
 
 pub store-requires-clause-suits : goal.store-requires-clause-suits
 store-requires-clause-suits g c = λ r is.
@@ -102,11 +102,6 @@ store-requires-clause-suits g c = λ r is.
           c.in_ok-lines.ensures.counts p.counts_are (c.in_ok-lines.ensures.right win.columns c.in_ok-planned.ensures.lines.measured)),
     ))
 
-pub paint-written-requires : goal.paint-written-requires
-paint-written-requires g c =
-    let s = g.T.TermLike.view (engine_term c.args.self.now) in
-    rw c.in_ok-planned.ensures.planned.plan_is.lines_are (frame_lines_le s.columns s.rows c.args.frame.now)
-
 pub returns-clause-answer : goal.returns-clause-answer
 returns-clause-answer g c =
     let text = text_lines (logged_lines c.args.text.now) in
@@ -128,11 +123,11 @@ returns-clause-lists g c = λ l fits.
     let text = text_lines (logged_lines c.args.text.now) in
     let blanks = rw c.is_bottom.ensures at (c.blanks_of-blanks.ensures.blanks (old.kept + old.live) c.in_ok-planned.planned.text.height c.saturating_sub-free.ensures) in
     let t = c.in_ok-lines.ensures.texts ∙ ap (λ xs. replicate c.blanks_of-blanks.result [] ++ xs) c.in_ok-planned.ensures.lines.texts_are in
-    let is = c.in_ok-store.ensures.next.0 in
+    let is = c.in_ok-from.ensures.next.0 in
     let o = fits_counts c.args.self.now l fits in
     let l' = logged s.columns s.rows bottom text frame l in
     let next = rw p.rows_are at (c.logged-counts.ensures s.columns bottom text frame l o (rw (← p.rows_are) at p.plan_is) p.height_is blanks) in
-    fits_by _ c.store.new.self.shown c.ended.result c.ended.new.self l l' c.ended.ensures.remembers (subst (λ k. CountsOf k l') (sym c.in_ok-store.ensures.made.0) next)
+    fits_by _ c.store.new.self.shown c.ended.result c.ended.new.self l l' c.ended.ensures.remembers (subst (λ k. CountsOf k l') (sym c.in_ok-from.ensures.made.0) next)
     (logged-sound s.columns s.rows bottom text frame l)
     (logged_shown win.columns s.columns s.rows c.in_ok-planned.planned.text.height c.blanks_of-blanks.result bottom text c.args.frame.now l old c.in_ok-planned.planned.plan
     c.in_ok-lines.lines.items (line_counts c.in_ok-planned.planned.lines.items) c.store.new.self.shown p.columns_are is o p.plan_is p.height_is blanks t
@@ -159,12 +154,15 @@ returns-clause-paints g c = λ l fits plain.
     let fill = log_fill s.columns s.rows 0 c.blanks_of-blanks.result (old.kept + old.live) rows bottom c.args.frame.now plan p.plan_is p.plan_ends blanks
     c.logged-counts.result.below c.fill-fill.result c.unwrap_or-last.result text (logged_length c.args.text.now) (rw p.text_ends at c.unwrap_or-last.ensures)
     (rw p.columns_are at c.fill-fill.ensures) in
+    let t = c.in_ok-lines.ensures.texts ∙ ap (λ xs. replicate c.blanks_of-blanks.result [] ++ xs) c.in_ok-planned.ensures.lines.texts_are in
+    let all : text ++ texts c.behind.result.now ≡ lines = ap (λ xs. text ++ xs) (ap texts (c.behind.ensures ∙ c.in_ok-from.ensures.next.2) ∙ t)
+    ∙ sym (append_assoc text (replicate c.blanks_of-blanks.result []) (take plan.lines (frame_lines c.args.frame.now))) in
     paints_by s (g.T.TermLike.view (engine_term c.ended.new.self)) old _ _ c.ended.result c.ended.new.self c.args.self.now.failed l
     (logged s.columns s.rows bottom (text_lines text) frame)
     (reach_bytes f.down f.rows ++ (paint_bytes false old.below (old.kept + old.live) lines c.logged-counts.result.below ++ fill_bytes c.logged-counts.result.below s.columns lines))
     c.ended.ensures.remembers
     (fits_failed c.args.self.now l fits)
-    (rw (c.store.ensures.terminal, fill) at (c.ended.ensures.draws _ _ c.paint-written.ensures))
+    (rw (c.store.ensures.terminal, all, fill) at (c.ended.ensures.draws _ _ c.paint-written.ensures))
     (λ x is. log_paints s.columns s.rows x old c.logged-counts.result rows c.blanks_of-blanks.result bottom text c.args.frame.now plan end f
     (rw p.columns_are at c.in_ok-planned.planned.window.some) (logged_utf8 c.args.text.now c.utf8.text) plain p.narrow_text p.narrow_frame is.counts p.plan_is (next x is.counts) p.height_is blanks
     (rw p.rows_are at c.fresh-fresh.ensures) ends lasts) o

@@ -19,7 +19,7 @@ use Rattle.indicatif_term.proofs.LineEndLemmas.{nothing_ends, still_ends, member
 use Rattle.indicatif_term.specs.Inside.Plans.{frame_lines}
 use Rattle.indicatif_term.specs.Inside.Layouts.{HasLines}
 use Rattle.indicatif_term.proofs.BesideLemmas.{has_none, still_has}
-use Rattle.indicatif_term.proofs.MemberLineLemmas.{frame_step}
+use Rattle.indicatif_term.proofs.ShownRowLemmas.{frame_step}
 use Rattle.indicatif_term.proofs.engine.layout.plan_frame.Goals as goal
 use Rattle.indicatif_term.proofs.engine.layout.plan_frame.Goals.{then-left-gt0, else-left-gt0}
 

@@ -2,7 +2,7 @@ use Rattle.std.proofs.Common.{arith, ◌≡◌, refl, sym, subst, take, []}
 use Rattle.std.proofs.lemmas.List.{take_all}
 use Rattle.indicatif_term.specs.Inside.Renewed.{AreCompared}
 use Rattle.indicatif_term.proofs.LayoutLemmas.{nothing_of, lines_step, narrow_step}
-use Rattle.indicatif_term.proofs.MemberLineLemmas.{frame_step}
+use Rattle.indicatif_term.proofs.ShownRowLemmas.{frame_step}
 use Rattle.indicatif_term.proofs.engine.renewed.compare_frame.Goals as goal
 
 pub loop-member-init : goal.loop-member-init
