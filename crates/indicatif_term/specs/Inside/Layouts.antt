@@ -102,6 +102,7 @@ pub record IsPlannedFor (v : TermView) (pass : ℕ) (bottom : Bool) (text : List
   pub blanks_are : p.laid.blanks ≡ blanks_for bottom taken p.text.height p.laid.plan.rows
   pub blank_room : p.laid.blanks + p.laid.plan.rows ≤ max (taken - p.text.height) p.laid.plan.rows
   pub known : 0 < p.laid.at → r.width ≡ v.columns
+  pub below_text : 0 < length text → p.laid.at ≡ 0
 
 -- what is written is measured for a terminal's window, or nothing is written for this reason
 abbrev pub PlannedFor : TermView → ℕ → Bool → List (List ℕ) → List Segment → ℕ → Remembered → Result Planned Refusal → Type 0

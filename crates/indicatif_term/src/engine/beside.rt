@@ -1,9 +1,10 @@
 //! The lines that stand, as a drawing finds them: beside its own, above them, and the room that they leave.
-ghost use Rattle.std.specs.Prelude.{◌≡◌, ◌⊎◌, ◌+◌, ◌-◌, ◌<◌, ◌^◌, ◌++◌, [], ℕ, List, Err, min, replicate, IsTrue, string_bytes, IfOk, IfErr, IfSome};
+ghost use Rattle.std.specs.Prelude.{◌≡◌, ◌⊎◌, ◌+◌, ◌-◌, ◌<◌, ◌^◌, ◌++◌, [], ℕ, List, Err, min, replicate, IsTrue, string_bytes, option_map, IfOk, IfErr, IfSome};
 ghost use Rattle.indicatif_term.specs.Counts.{line_count, line_counts};
 ghost use Rattle.indicatif_term.specs.Inside.Owned.{blank_count};
 ghost use Rattle.indicatif_term.specs.Inside.Layouts.{AreBlank, AreWhole, IsFrameLaid};
-ghost use Rattle.indicatif_term.specs.Inside.Changes.{placed_height};
+ghost use Rattle.indicatif_term.specs.Inside.Changes.{PlacedLine, placed_height};
+ghost use Rattle.indicatif_term.specs.Inside.Fills.{last_of};
 ghost use Rattle.indicatif_term.specs.Inside.Places.{IsWithin};
 ghost use Rattle.indicatif_term.specs.Standing.{placed, texts, AreLines};
 ghost use Rattle.indicatif_term.specs.declared.engine.lines.Segment.{Segment};
@@ -114,6 +115,17 @@ pub fn height_of(lines: &[StandingLine]) -> usize
         rows = rows.saturating_add(line.rows);
     }
     rows
+}
+
+/// How many columns the last of some lines takes of its last row, if there is a line.
+pub fn last_column(lines: &[StandingLine]) -> Option<usize>
+    ensures { result ≡ option_map (λ (p : PlacedLine). p.last) (last_of (placed lines.now)) }
+{
+    let count = lines.len();
+    if count == 0 {
+        return None;
+    }
+    Some(lines[count - 1].last)
 }
 
 /// A frame that was laid out beside nothing, below `blanks` blank lines.

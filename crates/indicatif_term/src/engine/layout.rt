@@ -5,7 +5,7 @@ ghost use Rattle.indicatif_term.specs.Lists.{BarRows, lines_of, blanks_for};
 ghost use Rattle.indicatif_term.specs.Frames.{bar_lines, line_text, all_lines, some_wide, logged_lines, text_lines};
 ghost use Rattle.indicatif_term.specs.Standing.{placed, IsLine, AreLines};
 ghost use Rattle.indicatif_term.specs.Inside.Changes.{placed_height};
-ghost use Rattle.indicatif_term.specs.Inside.Plans.{IsSummed, IsWithheld, MeasuredText, text_above};
+ghost use Rattle.indicatif_term.specs.Inside.Plans.{IsSummed, IsWithheld, MeasuredLine, MeasuredText, text_above};
 ghost use Rattle.indicatif_term.specs.Inside.Layouts.{IsSized, IsBeside, AreBlank, own_lines, IsLaid, IsFrameLaid, FrameLaid, PlannedFor};
 ghost use Rattle.indicatif_term.specs.Remembered.{live_lines};
 ghost use Rattle.indicatif_term.specs.Counts.{line_counts};
@@ -125,10 +125,11 @@ pub fn plan_drawing<T: TermLike>(
 }
 
 /// What stands beside a frame; nothing where a text comes above it.
-fn beside_of(last: Last<'_>, asked: Asked<'_>, window: Window) -> Beside<'_>
+fn beside_of<'a>(last: Last<'a>, asked: Asked<'_>, window: Window) -> Beside<'a>
     ensures right { AreLines window.columns result.lines.now }
     ensures blank { AreBlank result.blanks result.lines.now }
     ensures live { (result.lines.now ≡ []) ⊎ ((last.entry.shown.now.width ≡ window.columns) × (result.lines.now ≡ live_lines last.entry.shown.now)) }
+    ensures nothing { 0 < length (text_above asked.entry.text) → result.lines.now ≡ [] }
 {
     match asked.text {
         Some(_) => Beside::nothing(),
