@@ -32,6 +32,7 @@ use Rattle.indicatif_term.specs.declared.engine.remembered.Remembered.{Remembere
 use Rattle.indicatif_term.specs.declared.engine.remembered.StandingLine.{StandingLine}
 use Rattle.indicatif_term.specs.declared.engine.renewed.NewLine.{NewLine}
 use Rattle.indicatif_term.proofs.OwnedLemmas.{count_more}
+use Rattle.indicatif_term.proofs.RememberedLemmas.{lines_taken, live_right}
 use Rattle.indicatif_term.proofs.BesideLemmas.{all_append, replicate_push}
 use Rattle.indicatif_term.proofs.LayoutLemmas.{nothing_laid, one_more, still_laid}
 use Rattle.indicatif_term.proofs.EditWalkLemmas.{sitting_both}
@@ -351,3 +352,50 @@ pub through_last : (n : ℕ) (ls : List StandingLine) (x : StandingLine) → 0 <
 through_last n ls x some h e =
     let back : n - 1 + 1 ≡ n = omega arith in
     rw back at (through_at (n - 1) ls x (omega arith) e)
+
+-- the first so many lines behind others, of which there may be none
+pub front_same : (at to kept : ℕ) (xs : List StandingLine) → (0 < at → to ≡ kept) → take at (drop to xs) ≡ take at (drop kept xs)
+front_same zero to kept xs e = refl
+front_same (suc at) to kept xs e = ap (λ n. take (suc at) (drop n xs)) (e (omega arith))
+
+pub front_in : (at to kept : ℕ) (xs : List StandingLine) → (0 < at → to ≡ kept) → to + at ≤ length xs → at ≤ length (drop kept xs)
+front_in zero to kept xs e h = omega arith
+front_in (suc at) to kept xs e h = let same : to ≡ kept = e (omega arith) in omega (arith, same, h, length-drop kept xs)
+
+pub front_right : (at w : ℕ) (r : Remembered) → 0 < w → (0 < at → r.width ≡ w) → AreLines w (take at (live_lines r))
+front_right zero w r some e = tt
+front_right (suc at) w r some e =
+    let same : r.width ≡ w = e (omega arith) in
+    lines_taken w (suc at) (live_lines r) (subst (λ n. AreLines n (live_lines r)) same (live_right r (omega (arith, same, some))))
+
+-- ---- the remembered lines, as they are put
+
+pub above_length : (from to at : ℕ) (xs : List StandingLine) → to + at ≤ length xs → length (drop from (take to xs)) ≡ to - from
+above_length from to at xs h = length-drop from (take to xs) ∙ ap (λ n. n - from) (length-take-le to xs (omega arith))
+
+module _ (from to at : ℕ) (xs front more now : List StandingLine) (h : from ≤ to) (k : to + at ≤ length xs)
+    (e : now ≡ (take (to - from) (drop from (take (to + at) xs)) ++ front) ++ more) where
+  pub put_lines : now ≡ drop from (take to xs) ++ (front ++ more)
+  put_lines = e ∙ append_assoc (take (to - from) (drop from (take (to + at) xs))) front more ∙ ap (λ ys. ys ++ (front ++ more)) (stay_above from to at xs h k)
+
+  pub put_length : line_counts front ≡ line_counts (drop (to - from) (drop from (take (to + at) xs))) → length now ≡ (to - from) + (at + length more)
+  put_length c =
+      let own : length front ≡ at = sym (length-map front line_count) ∙ ap length (c ∙ ap line_counts (stay_below from to at xs h k)) ∙ length-map (take at (drop to xs)) line_count
+      ∙ length-take-le at (drop to xs) (omega (arith, length-drop to xs)) in
+      omega (arith, ap length put_lines, length-append (drop from (take to xs)) (front ++ more), length-append front more, above_length from to at xs k, own)
+
+pub put_now : (w from to : ℕ) (r : Remembered) (l : Laid) (front : List StandingLine) → from ≤ to → 0 < w → to + l.at ≤ length r.lines → (0 < l.at → (r.width ≡ w) × (to ≡ r.kept)) →
+    AreFitting w (live_lines r) l.at l.changed.items →
+    let on = drop (to - from) (drop from (take (to + l.at) r.lines)) in
+    texts front ≡ renewed (texts on) l.changed.items → line_counts front ≡ line_counts on →
+    ((v : ℕ) → AreLines v on → AreFitting v on (length on) l.changed.items → AreInPlace v on front) → ((v : ℕ) → AreFitting v on (length on) l.changed.items → AreOver v on front) →
+    AreLines w l.more.items → AreWhole l.more.items → ArePut w (live_lines r) l (front ++ l.more.items)
+put_now w from to r l front h some k known fit t c p q right whole =
+    let same = λ (x : 0 < l.at). (known x).1 in
+    let live = live_lines r in
+    let is : drop (to - from) (drop from (take (to + l.at) r.lines)) ≡ take l.at live = stay_below from to l.at r.lines h k ∙ front_same l.at to r.kept r.lines same in
+    let fits : AreFitting w (take l.at live) (length (take l.at live)) l.changed.items = fits_taken w live l.at l.changed.items (front_in l.at to r.kept r.lines same k) fit in
+    let lines : AreLines w (take l.at live) = front_right l.at w r some (λ x. (known x).0) in
+    are_put w live l front fit lines (subst (λ ys. texts front ≡ renewed (texts ys) l.changed.items) is t) (subst (λ ys. line_counts front ≡ line_counts ys) is c)
+    (subst (λ ys. (v : ℕ) → AreLines v ys → AreFitting v ys (length ys) l.changed.items → AreInPlace v ys front) is p w lines fits)
+    (subst (λ ys. (v : ℕ) → AreFitting v ys (length ys) l.changed.items → AreOver v ys front) is q w fits) right whole

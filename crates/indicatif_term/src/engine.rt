@@ -466,10 +466,11 @@ impl<T: TermLike + Drop> Engine<T> {
         next: NextLines,
         width: usize,
     ) -> Result<usize, Refusal>
+        requires some { 0 < width }
         requires within { above.to + next.laid.at ≤ length self.old.shown.lines }
         requires known { 0 < next.laid.at → (self.old.shown.width ≡ width) × (above.to ≡ self.old.shown.kept) }
         requires fit { AreFitting width (live_lines self.old.shown) next.laid.at next.laid.changed.items }
-        requires right { 0 < width → AreLines width (drop above.from (take above.to self.old.shown.lines)) }
+        requires right { AreLines width (drop above.from (take above.to self.old.shown.lines)) }
         requires more { AreLines width next.laid.more.items × AreWhole next.laid.more.items }
         requires suits { (r : Remembered) (ls : List StandingLine) → ArePut width (live_lines self.old.shown) next.laid ls →
             IsNext width next.kept (drop above.from (take above.to self.old.shown.lines)) ls r → ∥ ((l : Lists) × Suits counts false r l) ∥₁ }

@@ -1,5 +1,5 @@
 //! The lines that an engine remembers, so that it writes only those that change.
-ghost use Rattle.std.specs.Prelude.{◌≡◌, ◌⊎◌, ◌+◌, ◌-◌, ◌<◌, ◌≤◌, ◌==◌, ◌++◌, [], ℕ, List, take, drop, length, if◌then◌else◌, IfOk, IfErr};
+ghost use Rattle.std.specs.Prelude.{◌≡◌, ◌⊎◌, ◌+◌, ◌-◌, ◌^◌, ◌<◌, ◌≤◌, ◌==◌, ◌++◌, [], ℕ, List, take, drop, length, if◌then◌else◌, IfOk, IfErr};
 ghost use Rattle.indicatif_term.specs.Standing.{AreLines};
 
 use crate::engine::beside::Beside;
@@ -93,6 +93,7 @@ impl StandingLines {
         requires first { first ≤ stays.to - stays.from }
         requires fit { (w : ℕ) × (let on = drop first (drop stays.from (take stays.to self.old)) in AreFitting w on (length on) laid.changed.items) }
         ensures refused { IfErr result (λ e. (e ≡ Refusal.Memory) × (0 < length laid.more.items) × (self.new ≡ self.old)) }
+        ensures small { length self.new ≤ 2 ^ 64 - 1 }
         ensures lines { let all = drop stays.from (take stays.to self.old) in
             let on = drop first all in
             IfOk result (λ _. (front : List StandingLine) × (self.new ≡ (take first all ++ front) ++ laid.more.items)
@@ -132,6 +133,7 @@ pub struct Remembered {
     /// How many of the lines, from the front, stand in kept rows.
     pub kept: usize,
     pub ghost within: { kept ≤ length lines },
+    pub ghost small: { length lines ≤ 2 ^ 64 - 1 },
     pub ghost right: { ∥ (0 < width → AreLines width lines) ∥₁ },
 }
 
@@ -244,10 +246,11 @@ impl Remembered {
         next: NextLines,
         width: usize,
     ) -> Result<(), Refusal>
+        requires some { 0 < width }
         requires within { above.to + next.laid.at ≤ length self.old.lines }
         requires known { 0 < next.laid.at → (self.old.width ≡ width) × (above.to ≡ self.old.kept) }
         requires fit { AreFitting width (live_lines self.old) next.laid.at next.laid.changed.items }
-        requires right { 0 < width → AreLines width (drop above.from (take above.to self.old.lines)) }
+        requires right { AreLines width (drop above.from (take above.to self.old.lines)) }
         requires more { AreLines width next.laid.more.items × AreWhole next.laid.more.items }
         ensures refused { IfErr result (λ e. (e ≡ Refusal.Memory) × (0 < length next.laid.more.items) × (self.new ≡ self.old)) }
         ensures next { IfOk result (λ _. (ls : List StandingLine) × ArePut width (live_lines self.old) next.laid ls
