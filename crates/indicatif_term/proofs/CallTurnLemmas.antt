@@ -12,8 +12,6 @@ use Rattle.indicatif_term.specs.Calls.{Told, State, Bytes, Nothing, is_told, led
 use Rattle.std.specs.Prelude.{not, ◌&&◌, ◌==◌}
 use Rattle.std.proofs.Common.{replicate}
 use Rattle.indicatif_term.specs.Inside.Bytes.{paint_bytes, lines_bytes, next_row, rows_down, reach_bytes, back_bytes}
-use Rattle.indicatif_term.specs.Inside.Paintings.{painting_bytes}
-use Rattle.indicatif_term.specs.declared.engine.painting.Painting.{Painting}
 
 pub led_on-append : (told : Told) (a b : List ℕ) → led_on (led_on told a) b ≡ led_on told (a ++ b)
 led_on-append (State t) a b = ap State (sym (after-append t a b))
@@ -139,18 +137,7 @@ pub or_lt_sum : (b : Bool) (m n : ℕ) → (b || nat_lt 0 (m + n)) ≡ ((b || na
 or_lt_sum true m n = refl
 or_lt_sum false m n = grind (arith, nat_tests)
 
-not_twice : (b : Bool) → not (not b) ≡ b
-not_twice true = refl
-not_twice false = refl
-
 -- rows that are reached for the first time, if there are any
 pub reach_some : (down n : ℕ) → 0 < n → reach_bytes down n ≡ move_bytes 0x42 down ++ (rows_down n ++ move_bytes 0x41 (down + n))
 reach_some down zero h = absurd (omega arith)
 reach_some down (suc n) h = refl
-
--- the bytes of a drawing, call by call, where it is known after each whether the cursor stands at the end of a row
-pub painting_split : (p : Painting) (lines : List (List ℕ)) (a b c : Bool) → a ≡ not p.below → b ≡ (a && (p.taken == 0)) → c ≡ (b || nat_lt 0 (length lines)) →
-    painting_bytes p lines ≡ ((if p.anew then anew_bytes else []) ++ reach_bytes p.fresh.down p.fresh.rows) ++ (back_bytes (not a) p.taken ++ (lines_bytes b lines
-    ++ ((if p.ends_below && c then next_row else []) ++ (replicate p.fill 0x20 ++ []))))
-unfolding paint_bytes
-painting_split p lines a b c e f g = rw (g, f, e, not_twice) (simp (append_assoc, append-nil))

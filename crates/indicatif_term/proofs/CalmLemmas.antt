@@ -20,9 +20,10 @@ use Rattle.indicatif_term.specs.Calm.{Stroke, Character, Colours, Move, Empty, s
 use Rattle.indicatif_term.specs.Inside.Inks.{RESET, AreColours}
 use Rattle.indicatif_term.specs.Inside.Edits.{Edit, Stay, Write, Close, Open, IsNarrowChar, IsWritable, edit_bytes, row_bytes}
 use Rattle.indicatif_term.specs.Inside.Bytes.{next_row, rows_down, back_bytes, reach_bytes, lines_bytes, paint_bytes}
-use Rattle.indicatif_term.specs.Inside.Changes.{Change, Leave, Within, Whole, PlacedLine, placed_height, placed_lines, emptied_bytes, step_bytes, step_down, walk_bytes, frame_bytes, rows_below, filled_whole, ending_by, ending, AreSitting, Becomes, all_stay, rewrite_bytes, free_behind, change_bytes}
+use Rattle.indicatif_term.specs.Inside.Changes.{Change, Leave, Within, Whole, PlacedLine, placed_height, placed_lines, emptied_bytes, step_bytes, step_down, walk_bytes, frame_bytes, rows_below, filled_whole, ending_by, ending, AreSitting, Becomes, all_stay, free_behind}
+use Rattle.indicatif_term.proofs.AmongLemmas.{rewrite_bytes, change_bytes}
 use Rattle.indicatif_term.specs.Inside.Fills.{last_of}
-use Rattle.indicatif_term.specs.Inside.LastChar.{ends_plainly}
+use Rattle.indicatif_term.specs.Inside.Changes.{ends_plainly}
 use Rattle.indicatif_term.proofs.ColourLemmas.{sequence_colours, reset_is}
 use Rattle.indicatif_term.proofs.GlyphLemmas.{some_width}
 use Rattle.indicatif_term.proofs.LastCharLemmas.{narrow_char}

@@ -6,7 +6,7 @@ use Rattle.std.proofs.lemmas.List.{take_at, drop_at, map-append, length-map}
 use Rattle.indicatif_text.specs.Columns.{Cell, rows_of}
 use Rattle.indicatif_term.specs.Shows.{look, looks_of}
 use Rattle.indicatif_term.specs.Inside.Changes.{Change, Leave, Within, Whole, PlacedLine, filled_whole, ended_by, ending_by, ending, Becomes, Ends, Sits}
-use Rattle.indicatif_term.specs.Inside.LastChar.{ends_plainly}
+use Rattle.indicatif_term.specs.Inside.Changes.{ends_plainly}
 use Rattle.indicatif_term.proofs.FillLemmas.{spaces}
 use Rattle.indicatif_term.proofs.FilledLineLemmas.{filled_line}
 use Rattle.indicatif_term.proofs.LastLineLemmas.{fill_width}

@@ -8,7 +8,7 @@ use Rattle.std.proofs.Math.ListN.{get_or-append}
 use Rattle.std.proofs.Math.Seq.{take-append-add}
 use Rattle.indicatif_text.specs.Columns.{Cell, rows_of}
 use Rattle.indicatif_term.specs.Shows.{looks_of}
-use Rattle.indicatif_term.specs.Lists.{BarRows, fitting, lines_of}
+use Rattle.indicatif_term.specs.Lists.{Lists, BarRows, fitting, lines_of, live_rows}
 use Rattle.indicatif_term.specs.Counts.{RowCount, row_count, line_count, line_counts}
 use Rattle.indicatif_term.specs.Standing.{placed_of, placed, texts, standing_rows, IsLine, AreLines, AreReady}
 use Rattle.indicatif_term.specs.Inside.Owned.{run_length, through, blank_count, no_plan}
@@ -27,7 +27,7 @@ use Rattle.indicatif_term.specs.declared.engine.layout.Laid.{Laid}
 use Rattle.indicatif_term.specs.declared.engine.layout.Plan.{Plan}
 use Rattle.indicatif_term.specs.declared.engine.lines.Segment.{Segment}
 use Rattle.indicatif_term.specs.declared.engine.parting.Step.TheVariants.{Whole}
-use Rattle.indicatif_term.specs.Remembered.{live_lines}
+use Rattle.indicatif_term.specs.Remembered.{AreRemembered, AreStanding, live_lines}
 use Rattle.indicatif_term.specs.declared.engine.remembered.Remembered.{Remembered}
 use Rattle.indicatif_term.specs.declared.engine.remembered.StandingLine.{StandingLine}
 use Rattle.indicatif_term.specs.declared.engine.renewed.NewLine.{NewLine}
@@ -399,3 +399,14 @@ put_now w from to r l front h some k known fit t c p q right whole =
     are_put w live l front fit lines (subst (λ ys. texts front ≡ renewed (texts ys) l.changed.items) is t) (subst (λ ys. line_counts front ≡ line_counts ys) is c)
     (subst (λ ys. (v : ℕ) → AreLines v ys → AreFitting v ys (length ys) l.changed.items → AreInPlace v ys front) is p w lines fits)
     (subst (λ ys. (v : ℕ) → AreFitting v ys (length ys) l.changed.items → AreOver v ys front) is q w fits) right whole
+
+pub stays_within : (at to : ℕ) (r : Remembered) → to ≤ length r.lines → (0 < at → to ≡ r.kept) → at ≤ length (live_lines r) → to + at ≤ length r.lines
+stays_within zero to r h e k = omega (arith, h)
+stays_within (suc at) to r h e k = let same : to ≡ r.kept = e (omega arith) in omega (arith, same, h, k, length-drop r.kept r.lines)
+
+-- lines on the rows of those that are remembered
+pub put_sits : (v w : ℕ) (r : Remembered) (l : Laid) (x : Lists) (ls : List StandingLine) → v ≡ w → 0 < v → ArePut v (live_lines r) l ls → AreRemembered r x → r.width ≡ v →
+    AreSitting w (looks_of (live_rows w x.live)) (placed ls)
+put_sits v w r l x ls e some put known same =
+    let stands = subst (λ n. AreStanding n r x) same (known (omega (arith, same, some))) in
+    subst (λ n. AreSitting n (looks_of (live_rows n x.live)) (placed ls)) e (put.sits (looks_of (live_rows v x.live)) (λ _. ap looks_of (sym stands.live_is)))

@@ -7,7 +7,7 @@ use Rattle.std.proofs.lemmas.Grind.{flat_map-append}
 use Rattle.std.proofs.lemmas.Bool.{cases_Bool, eqb-true}
 use Rattle.std.proofs.lemmas.List.{take_more, map-append, take_at, drop_at, drop-drop, length-map, length-take-le, length-drop, take-append-drop, take_all, nil_from_length}
 use Rattle.indicatif_text.specs.Columns.{Cell, rows_of}
-use Rattle.indicatif_term.specs.Inside.Changes.{PlacedLine, placed_height, placed_lines, free_behind, change_bytes}
+use Rattle.indicatif_term.specs.Inside.Changes.{PlacedLine, placed_height, placed_lines, free_behind}
 use Rattle.indicatif_term.specs.Inside.Fills.{last_of}
 use Rattle.indicatif_term.proofs.LastLineLemmas.{last_push}
 use Rattle.indicatif_term.specs.Standing.{placed_of, placed, texts, standing_rows, IsLine, AreLines}
@@ -182,50 +182,27 @@ split_around : (ls : List StandingLine) (k : ℕ) (x : StandingLine) → k < len
 split_around ls k x h e =
     ap placed (sym (take-append-drop k ls) ∙ ap (λ y. take k ls ++ y) (drop_more ls k x h e)) ∙ map-append placed_of (take k ls) (x ∷ drop (k + 1) ls)
 
-parts_same : (ps qs : List PlacedLine) (a b : PlacedLine) (xs ys : List PlacedLine) → ps ++ a ∷ xs ≡ qs ++ b ∷ ys → length ps ≡ length qs → (ps ≡ qs) × (a ≡ b) × (xs ≡ ys)
-parts_same [] [] a b xs ys e k = (refl, cc, cc)
-parts_same [] (q ∷ qs) a b xs ys e k = absurd (omega arith)
-parts_same (p ∷ ps) [] a b xs ys e k = absurd (omega arith)
-parts_same (p ∷ ps) (q ∷ qs) a b xs ys e k =
-    let h : p ≡ q = cc in
-    let t : ps ++ a ∷ xs ≡ qs ++ b ∷ ys = cc in
-    let r = parts_same ps qs a b xs ys t (omega arith) in
-    (ap (λ z. z ∷ ps) h ∙ ap (λ zs. q ∷ zs) r.0, r.1, r.2)
+-- lines up to the last one
+pub up_to_last : (ls : List StandingLine) (k : ℕ) (x : StandingLine) → k + 1 ≡ length ls → get_or ls k x ≡ x → placed ls ≡ placed (take k ls) ++ placed_of x ∷ []
+up_to_last ls k x n e =
+    split_around ls k x (omega arith) e
+    ∙ ap (λ ys. placed (take k ls) ++ placed_of x ∷ placed ys) (nil_from_length (drop (k + 1) ls) (length-drop (k + 1) ls ∙ omega arith))
 
--- lines split around one of them in whatever way, so many up to it
-pub changed_in : (w free : ℕ) (ls : List StandingLine) (n : ℕ) (x : StandingLine) (front : List PlacedLine) (last : PlacedLine) (more : List PlacedLine) → 0 < n → n ≤ length ls →
-    get_or ls (n - 1) x ≡ x →
-    placed ls ≡ front ++ last ∷ more → length front + 1 ≡ n → change_bytes w free (placed (take (n - 1) ls)) (placed_of x) (placed (drop n ls)) ≡ change_bytes w free front last more
-changed_in w free ls n x front last more p h e s k =
-    let next : n ≡ n - 1 + 1 = omega arith in
-    let r = parts_same (placed (take (n - 1) ls)) front (placed_of x) last (placed (drop (n - 1 + 1) ls)) more (sym (split_around ls (n - 1) x (omega arith) e) ∙ s)
-    (length-map (take (n - 1) ls) placed_of ∙ length-take-le (n - 1) ls (omega arith) ∙ omega (arith, k)) in
-    ap (λ m. change_bytes w free (placed (take (n - 1) ls)) (placed_of x) (placed (drop m ls))) next
-    ∙ ap (λ ps. change_bytes w free ps (placed_of x) (placed (drop (n - 1 + 1) ls))) r.0 ∙ ap (λ p. change_bytes w free front p (placed (drop (n - 1 + 1) ls))) r.1
-    ∙ ap (change_bytes w free front last) r.2
-
-pub changed_by : (w free : ℕ) (ls a b : List StandingLine) (n : ℕ) (x : StandingLine) (front : List PlacedLine) (last : PlacedLine) (more : List PlacedLine) → a ≡ ls → b ≡ ls → 0 < n →
-    n ≤ length ls → get_or ls (n - 1) x ≡ x →
-    placed ls ≡ front ++ last ∷ more → length front + 1 ≡ n → change_bytes w free (placed (take (n - 1) a)) (placed_of x)
-    (placed (take (length b - n) (drop n b))) ≡ change_bytes w free front last more
-changed_by w free ls a b n x front last more ea eb p h e s k =
-    ap (λ xs. change_bytes w free (placed (take (n - 1) a)) (placed_of x) (placed xs)) (take_all (length b - n) (drop n b) (omega (arith, length-drop n b)))
-    ∙ ap (λ xs. change_bytes w free (placed (take (n - 1) xs)) (placed_of x) (placed (drop n b))) ea ∙ ap (λ xs. change_bytes w free (placed (take (n - 1) ls)) (placed_of x) (placed (drop n xs))) eb
-    ∙ changed_in w free ls n x front last more p h e s k
-
-pub height_to : (ls : List StandingLine) (n : ℕ) (x : StandingLine) → 0 < n → n ≤ length ls → get_or ls (n - 1) x ≡ x →
-    placed_height (placed (take (n - 1) ls)) + x.rows ≡ placed_height (placed (take n ls))
-height_to ls n x p h e = sym (height_push ls (n - 1) x (omega arith) e) ∙ ap (λ m. placed_height (placed (take m ls))) (let next : n - 1 + 1 ≡ n = omega arith in next)
+pub height_to_last : (ls : List StandingLine) (k : ℕ) (x : StandingLine) → k + 1 ≡ length ls → get_or ls k x ≡ x → placed_height (placed ls) ≡ placed_height (placed (take k ls)) + x.rows
+height_to_last ls k x n e = ap placed_height (up_to_last ls k x n e) ∙ height-append (placed (take k ls)) (placed_of x ∷ []) ∙ omega arith
 
 -- the columns behind the last of lines
 pub none_behind : (w : ℕ) (ls : List StandingLine) → length ls ≡ 0 → 0 ≡ free_behind w (last_of (placed ls))
 none_behind w [] e = refl
 none_behind w (l ∷ ls) e = absurd (omega arith)
 
-pub last_behind : (w : ℕ) (ls : List StandingLine) (k : ℕ) (x : StandingLine) → k + 1 ≡ length ls → get_or ls k x ≡ x → w - x.last ≡ free_behind w (last_of (placed ls))
-last_behind w ls k x n e =
+pub last_line : (ls : List StandingLine) (k : ℕ) (x : StandingLine) → k + 1 ≡ length ls → get_or ls k x ≡ x → last_of (placed ls) ≡ Some (placed_of x)
+last_line ls k x n e =
     let nothing : drop (k + 1) ls ≡ [] = nil_from_length (drop (k + 1) ls) (length-drop (k + 1) ls ∙ omega arith) in
-    ap (free_behind w) (sym (last_push (placed (take k ls)) (placed_of x)) ∙ ap last_of (sym (split_around ls k x (omega arith) e ∙ ap (λ ys. placed (take k ls) ++ placed_of x ∷ placed ys) nothing)))
+    ap last_of (split_around ls k x (omega arith) e ∙ ap (λ ys. placed (take k ls) ++ placed_of x ∷ placed ys) nothing) ∙ last_push (placed (take k ls)) (placed_of x)
+
+pub last_behind : (w : ℕ) (ls : List StandingLine) (k : ℕ) (x : StandingLine) → k + 1 ≡ length ls → get_or ls k x ≡ x → w - x.last ≡ free_behind w (last_of (placed ls))
+last_behind w ls k x n e = ap (free_behind w) (sym (last_line ls k x n e))
 
 pub lines_placed : (ls : List StandingLine) → placed_lines (placed ls) ≡ texts ls
 lines_placed [] = refl

@@ -12,7 +12,8 @@ use Rattle.indicatif_term.specs.Counts.{CountsOf, RowCount, line_counts}
 use Rattle.indicatif_term.specs.Inside.Owned.{blank_count, kept_below}
 use Rattle.indicatif_term.proofs.OwnedLemmas.{owned_drawn, frame_owned, lines_have}
 use Rattle.indicatif_term.specs.Inside.Plans.{frame_lines, IsPlan, AreCounted, text_height}
-use Rattle.indicatif_term.specs.Inside.Changes.{PlacedLine, placed_height, placed_lines, AreSitting, change_bytes}
+use Rattle.indicatif_term.specs.Inside.Changes.{PlacedLine, placed_height, placed_lines, AreSitting}
+use Rattle.indicatif_term.proofs.AmongLemmas.{change_bytes}
 use Rattle.indicatif_term.specs.Inside.Places.{IsWithin}
 use Rattle.indicatif_term.specs.declared.engine.beside.Room.{Room}
 use Rattle.indicatif_term.specs.Standing.{placed_of, placed, texts, standing_rows, AreLines}

@@ -1,18 +1,19 @@
 -- The bytes of a walk through lines, line by line.
-use Rattle.std.proofs.Common.{inl, inr, ◌≡◌, ℕ, ◌+◌, ◌-◌, ◌<◌, ◌≤◌, Bool, true, false, List, [], ◌∷◌, ◌++◌, length, take, drop, get_or, Result, Ok, Err, refl, sym, ◌∙◌, ap, subst, arith, append_assoc, append-nil}
-use Rattle.std.specs.Prelude.{◌&&◌, nat_lt, slice_index, IsErrAnd, MatchResult, string_bytes}
+use Rattle.std.proofs.Common.{inl, inr, ◌≡◌, ℕ, zero, suc, ◌+◌, ◌-◌, ◌<◌, ◌≤◌, Bool, true, false, List, [], ◌∷◌, ◌++◌, length, take, drop, get_or, Result, Ok, Err, refl, sym, ◌∙◌, ap, subst, arith, append_assoc, append-nil}
+use Rattle.std.specs.Prelude.{◌&&◌, ◌==◌, if◌then◌else◌, nat_lt, slice_index, IsErrAnd, MatchResult, string_bytes}
 use Rattle.std.specs.declared.io.ErrorKind.{ErrorKind}
-use Rattle.std.proofs.lemmas.Bool.{cases_Bool}
+use Rattle.std.proofs.lemmas.Bool.{cases_Bool, false≢true}
 use Rattle.std.proofs.lemmas.List.{take_more, map-append, take-append-drop}
 use Rattle.indicatif_term.specs.Calls.{TermView, LeadsOn, BreaksOff, UP, DOWN, RIGHT, move_bytes}
-use Rattle.indicatif_term.specs.Inside.Changes.{Change, Leave, Within, Whole, PlacedLine, placed_height, emptied_bytes, changed_bytes, step_bytes, step_down, walk_bytes, walk_down, frame_bytes, ending, ending_by, last_bytes, stays, all_stay}
-use Rattle.indicatif_term.specs.Inside.LastChar.{ends_plainly, last_byte}
+use Rattle.indicatif_term.specs.Inside.Changes.{Change, Leave, Within, Whole, PlacedLine, placed_height, emptied_bytes, changed_bytes, step_bytes, step_down, walk_bytes, walk_down, frame_bytes, ending, ending_by, last_bytes, stays, all_stay, rows_below, among_bytes}
+use Rattle.indicatif_term.specs.Inside.Changes.{ends_plainly, last_byte}
 use Rattle.std.proofs.Math.Utf8.{encode}
 use Rattle.indicatif_term.proofs.LastCharLemmas.{last_is}
 use Rattle.indicatif_term.specs.Standing.{placed_of, placed}
 use Rattle.indicatif_term.specs.declared.engine.remembered.StandingLine.{StandingLine}
 use Rattle.indicatif_term.proofs.CallTurnLemmas.{breaks_then, breaks_early}
-use Rattle.indicatif_term.proofs.RememberedLemmas.{height_push}
+use Rattle.indicatif_term.proofs.AmongLemmas.{among_parts}
+use Rattle.indicatif_term.proofs.RememberedLemmas.{height_push, up_to_last, height_to_last}
 use Rattle.indicatif_term.proofs.EditWalkLemmas.{height-append, walk-append, down-append}
 
 step_low : (c : Change) (down n m : ℕ) → down ≤ m → 1 ≤ m → step_down c down n ≤ m + n
@@ -135,14 +136,32 @@ frame_split w below ps p =
     ap (λ m. move_bytes UP (m - 1 + below) ++ walk_bytes 0 (ps ++ q ∷ [])) n
     ∙ ap (λ x. move_bytes UP (placed_height ps + p.rows - 1 + below) ++ x) (walk-append 0 ps (q ∷ []) ∙ ap (λ x. walk_bytes 0 ps ++ x) (append-nil (last_bytes w (walk_down 0 ps) p)))
 
+-- lines among others: nothing, or up, through the others, and the last
+pub nothing_among : (w taken : ℕ) (ps : List PlacedLine) → ((taken == 0) && all_stay ps) ≡ true → among_bytes w taken ps ≡ []
+nothing_among w taken [] e = refl
+nothing_among w taken (p ∷ ps) e = rw e refl
+
+pub among_split : (w taken : ℕ) (ls : List StandingLine) (k : ℕ) (x : StandingLine) → k + 1 ≡ length ls → get_or ls k x ≡ x → ((taken == 0) && all_stay (placed ls)) ≡ false →
+    among_bytes w taken (placed ls)
+    ≡ move_bytes UP (placed_height (placed ls) - 1 + rows_below taken) ++ (walk_bytes 0 (placed (take k ls)) ++ last_bytes w (walk_down 0 (placed (take k ls))) (placed_of x))
+among_split w taken ls k x n e go =
+    let s = up_to_last ls k x n e in
+    let ps = placed (take k ls) in
+    let p = placed_of x in
+    let goes : ((taken == 0) && all_stay (ps ++ p ∷ [])) ≡ false = ap (λ qs. (taken == 0) && all_stay qs) (sym s) ∙ go in
+    ap (among_bytes w taken) s ∙ among_parts w taken ps p ∙ ap (λ b. if b then [] else frame_bytes (rows_below taken) (ps ++ ending w p ∷ [])) goes
+    ∙ frame_split w (rows_below taken) ps p
+    ∙ ap (λ m. move_bytes UP (m - 1 + rows_below taken) ++ (walk_bytes 0 ps ++ last_bytes w (walk_down 0 ps) p)) (sym (height_to_last ls k x n e))
+
 -- ---- failures, and tests
+
+pub some_length : (n : ℕ) → (n == 0) ≡ false → 0 < n
+some_length zero e = absurd (false≢true (sym e))
+some_length (suc n) e = omega arith
 
 pub broken : {E : Type 0} {e : E} (r : Result ℕ E) (P : ℕ → Type 0) (B : E → Type 0) → IsErrAnd r (λ x. x ≡ e) → B e → MatchResult r P B
 broken (Ok x) P B h b = absurd h
 broken (Err x) P B h b = subst B (sym h) b
-
-pub stay_with : (ps : List PlacedLine) (p : PlacedLine) → all_stay (ps ++ p ∷ []) ≡ (all_stay ps && stays p.change)
-stay_with ps p = stay-append ps (p ∷ []) ∙ ap (λ b. all_stay ps && b) (and-true (stays p.change))
 
 -- more bytes behind a changed line
 pub changed_more : (down rows : ℕ) (line more : List ℕ) → changed_bytes down rows (line ++ more) ≡ changed_bytes down rows line ++ more

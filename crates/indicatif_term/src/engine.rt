@@ -33,14 +33,13 @@
 //! - `parting`: the byte where two texts of one row part (`Part`, `Step`), before the first escape character or among colours; how many
 //!   characters of one column follow?
 //! - `inks`: a text read cell by cell, with the colour sequences that are open at each (`InkedText`, `Colours`).
-//! - `last_char`: the last character of a line, where it is written again alone.
 //!
 //! What is written:
 //!
-//! - `painting`: rows are taken back and emptied, and a logged text, blank rows and lines written on them, each on a row of its own
-//!   (`Painting`, `Pen`). Also the steps that `changing` and `moving` share: up, down, rows emptied, spaces.
-//! - `changing`: lines in the place of others, from the first down to the last: which stay, which are edited in a part, which are written
-//!   as a whole?
+//! - `writing`: a drawing from its first byte to its last (`Writing`, `write`): rows are emptied, lines come in the place of others, and below
+//!   them a text and the rest of the lines, each on a row of its own. Also its steps: up, down, rows emptied, spaces.
+//! - `changing`: the lines in the place of others, from the first down to the last: which stay, which are edited in a part, which are
+//!   written as a whole?
 //! - `row_edits`: such a part, column by column: characters in their colours, and steps over columns that stay (`Rest`).
 //! - `moving`: whole lines over those that stand, where all their rows are full and none joins the one before it (`are_even`), without an
 //!   empty row between.
@@ -57,11 +56,9 @@ pub(crate) mod comparing;
 pub(crate) mod counts;
 pub(crate) mod inks;
 pub(crate) mod joined;
-pub(crate) mod last_char;
 pub(crate) mod layout;
 pub(crate) mod lines;
 pub(crate) mod moving;
-pub(crate) mod painting;
 pub(crate) mod parting;
 pub(crate) mod recounting;
 pub(crate) mod recutting;
@@ -70,18 +67,19 @@ pub(crate) mod renewed;
 pub(crate) mod row_edits;
 pub(crate) mod spare;
 pub(crate) mod window;
+pub(crate) mod writing;
 
 use crate::engine::beside::{Room, height_of, last_column, lines_within};
-use crate::engine::changing::write_in_room;
+use crate::engine::changing::fill_behind;
 use crate::engine::counts::{Counts, Fresh, Keep};
 use crate::engine::layout::{Asked, Last, plan_drawing, run_of};
 use crate::engine::lines::Segment;
-use crate::engine::moving::{are_even, write_over};
-use crate::engine::painting::{Drawing, Painting, paint};
+use crate::engine::moving::are_even;
 use crate::engine::recutting::{CutLines, Widths};
 use crate::engine::remembered::{NextLines, Remembered, Span, StandingLine};
 use crate::engine::spare::Spare;
 use crate::engine::window::Window;
+use crate::engine::writing::{Drawing, Manner, Writing, write};
 use crate::target::limiter::RateLimiter;
 use crate::target::term_like::{Resize, TermLike};
 use crate::target::{MultiProgressAlignment, ProgressDrawTarget};
@@ -138,18 +136,16 @@ impl<T: Drop> Drop for Engine<T> {
 
 impl<T: TermLike + Drop> Engine<T> {
     ghost use Rattle.indicatif_term.specs.Lists.{Lists, drawn, logged, cleared, kept_of, fate};
-    ghost use Rattle.indicatif_term.specs.Inside.Bytes.{paint_bytes, reach_bytes};
+    ghost use Rattle.indicatif_term.specs.Inside.Writings.{CanWrite, writing_bytes};
     ghost use Rattle.indicatif_term.specs.Calls.{TermView, Writes};
     ghost use Rattle.indicatif_term.specs.Frames.{bar_lines, all_lines, are_plain, logged_lines, text_lines, is_fault};
-    ghost use Rattle.indicatif_term.specs.Inside.Plans.{frame_lines};
+    ghost use Rattle.indicatif_term.specs.Inside.Plans.{frame_lines, text_above};
     ghost use Rattle.indicatif_term.specs.Engines.{engine_moves, engine_term, Fits, is_failure, Answers, Counted, Paints, lists_after};
     ghost use Rattle.indicatif_term.specs.Inside.Remembering.{Draws, Remembers, IsNext, IsNothing};
     ghost use Rattle.indicatif_term.specs.Inside.Layouts.{AreWhole, ArePut};
     ghost use Rattle.indicatif_term.specs.Remembered.{live_lines};
-    ghost use Rattle.indicatif_term.specs.Inside.Moves.{moved_bytes};
-    ghost use Rattle.indicatif_term.specs.Inside.Changes.{PlacedLine, placed_height, change_bytes};
     ghost use Rattle.indicatif_term.specs.Inside.Renewed.{AreFitting};
-    ghost use Rattle.indicatif_term.specs.Standing.{placed, AreReady, AreLines};
+    ghost use Rattle.indicatif_term.specs.Standing.{AreLines};
     ghost use Rattle.indicatif_term.specs.Shows.{IsOpening, Rests, resting};
     ghost use Rattle.indicatif_term.specs.Screen.{Screen};
     ghost use Rattle.indicatif_term.specs.Terminal.{Terminal};
@@ -276,7 +272,12 @@ impl<T: TermLike + Drop> Engine<T> {
             pass,
             bottom: alignment.is_bottom(),
         };
-        let before = self.before();
+        let before = Before {
+            counts: self.counts,
+            failed: self.failed,
+            moves: self.moves,
+            width: self.shown.width,
+        };
         let last = Last {
             shown: &self.shown,
             blanks: before.counts.blanks,
@@ -295,30 +296,8 @@ impl<T: TermLike + Drop> Engine<T> {
         let above = self.shown.above(width, before.counts.kept);
         let next = NextLines { laid, kept };
         let from = self.store(counts, above, next, width)?;
-        let drawn = self.shown.behind(from);
-        let taken = before.counts.live;
-        if before.can_move(&counts, drawn, width) {
-            let written = write_over(&mut self.term, taken, drawn, width);
-            return self.ended(written);
-        }
-        if let Some(room) = before.room_for(&counts, drawn, width) {
-            let written = write_in_room(&mut self.term, drawn, room, width);
-            return self.ended(written);
-        }
-        let painting = Painting {
-            anew: before.failed,
-            fresh,
-            below: before.counts.below,
-            taken,
-            ends_below: counts.below,
-            fill: counts.fill(last_column(drawn), width),
-        };
-        let drawing = Drawing {
-            text: None,
-            lines: drawn,
-        };
-        let written = paint(&mut self.term, &painting, &drawing);
-        self.ended(written)
+        let writing = before.writing(fresh, &counts, self.shown.behind(from), width);
+        self.write(&writing, None, from)
     }
 
     /// Writes the lines of the text, which stay, in the place of the kept and the live rows, and draws the frame below
@@ -358,7 +337,9 @@ impl<T: TermLike + Drop> Engine<T> {
             pass: 0,
             bottom: alignment.is_bottom(),
         };
-        let taken = self.counts.kept + self.counts.live;
+        let old = self.counts;
+        let anew = self.failed;
+        let taken = old.kept + old.live;
         let last = Last {
             shown: &self.shown,
             blanks: 0,
@@ -371,31 +352,23 @@ impl<T: TermLike + Drop> Engine<T> {
         let plan = laid.plan;
         let blanks = laid.blanks;
         let end = metrics.height.saturating_add(blanks + plan.rows);
-        let fresh = self.counts.fresh(end, window.rows);
-        let counts = self
-            .counts
-            .logged(metrics.height, plan, blanks, window.rows);
-        let anew = self.failed;
-        let below = self.counts.below;
+        let fresh = old.fresh(end, window.rows);
+        let counts = old.logged(metrics.height, plan, blanks, window.rows);
         let above = Span { from: 0, to: 0 };
         let next = NextLines { laid, kept: 0 };
         let from = self.store(counts, above, next, window.columns)?;
-        let drawn = self.shown.behind(from);
-        let last = last_column(drawn).unwrap_or(metrics.last_line_width);
-        let painting = Painting {
+        let last = last_column(self.shown.behind(from)).unwrap_or(metrics.last_line_width);
+        let writing = Writing {
             anew,
             fresh,
-            below,
+            below: old.below,
             taken,
+            manner: Manner::Among(0),
+            width: window.columns,
             ends_below: counts.below,
             fill: counts.fill(Some(last), window.columns),
         };
-        let drawing = Drawing {
-            text: Some(text),
-            lines: drawn,
-        };
-        let written = paint(&mut self.term, &painting, &drawing);
-        self.ended(written)
+        self.write(&writing, Some(text), from)
     }
 
     /// Takes back the kept and the live rows. Takes no memory.
@@ -413,24 +386,21 @@ impl<T: TermLike + Drop> Engine<T> {
             Paints (T.view (engine_term self.old)) (T.view (engine_term self.new)) (is_failure result) l
             (lists_after result l (cleared l)) }
     {
-        Window::of(&self.term)?;
+        let window = Window::of(&self.term)?;
         let next = self.counts.cleared();
-        let painting = Painting {
+        let writing = Writing {
             anew: self.failed,
             fresh: Fresh::none(),
             below: self.counts.below,
             taken: self.counts.kept + self.counts.live,
+            manner: Manner::Among(0),
+            width: window.columns,
             ends_below: next.below,
             fill: 0,
         };
         let forgotten = Remembered::nothing(self.alloc);
         self.remember(next, forgotten);
-        let drawing = Drawing {
-            text: None,
-            lines: &[],
-        };
-        let written = paint(&mut self.term, &painting, &drawing);
-        self.ended(written)
+        self.write(&writing, None, 0)
     }
 
     /// The rows of a bar that is gone become kept rows, with the blank rows above them, if they are the first live ones of a
@@ -489,16 +459,22 @@ impl<T: TermLike + Drop> Engine<T> {
         Ok(from)
     }
 
-    /// What the engine knows of its rows before a drawing.
-    fn before(&self) -> Before
-        ensures { result ≡ record { counts = self.now.counts; failed = self.now.failed; moves = self.now.moves; width = self.now.shown.width } }
+    /// Writes this text, and the remembered lines behind the first `from`.
+    fn write(&mut self, writing: &Writing, text: Option<&str>, from: usize) -> Result<(), Refusal>
+        requires sound { self.old.failed ≡ false }
+        requires within { from ≤ length self.old.shown.lines }
+        requires can { CanWrite writing.now.manner (drop from self.old.shown.lines) }
+        ensures draws { Draws (writing_bytes writing.now (text_above text.entry) (drop from self.old.shown.lines))
+            (T.view (engine_term self.old)) (T.view (engine_term self.new)) result }
+        ensures remembers { Remembers self.old.counts self.old.shown result self.new }
+        ensures moves { engine_moves self.new ≡ engine_moves self.old }
     {
-        Before {
-            counts: self.counts,
-            failed: self.failed,
-            moves: self.moves,
-            width: self.shown.width,
-        }
+        let drawing = Drawing {
+            text,
+            lines: self.shown.behind(from),
+        };
+        let written = write(&mut self.term, writing, &drawing);
+        self.ended(written)
     }
 
     /// The answer of the engine after a drawing was written; after a failure all is forgotten but that a call has failed.
@@ -652,23 +628,24 @@ impl<T: Resize + Drop> Engine<T> {
 
 /// What an engine knows of its rows before a drawing: their counts, whether a call has failed, whether lines are written over those that stand
 /// where they can be, and the columns of the terminal on which they are remembered.
-#[derive(Clone, Copy, Drop)]
-pub(crate) struct Before {
-    pub counts: Counts,
-    pub failed: bool,
-    pub moves: bool,
-    pub width: usize,
+#[derive(Clone, Copy)]
+struct Before {
+    counts: Counts,
+    failed: bool,
+    moves: bool,
+    width: usize,
 }
 
 impl Before {
     ghost use Rattle.indicatif_term.specs.Inside.Remembering.{HasRoom, CanMove};
+    ghost use Rattle.indicatif_term.specs.Inside.Writings.{IsChosen, whole_writing};
     ghost use Rattle.indicatif_term.specs.Inside.Changes.{placed_height};
     ghost use Rattle.indicatif_term.specs.Inside.Places.{IsWithin};
     ghost use Rattle.indicatif_term.specs.Standing.{placed};
 
     /// Whether lines can be written over the live rows by moves alone, if `set_move_cursor` was told so.
     fn can_move(&self, next: &Counts, lines: &[StandingLine], width: usize) -> bool
-        ensures { IsTrue result → CanMove self.now next.now width lines.now }
+        ensures { IsTrue result → CanMove self.now.counts self.now.failed self.now.width next.now width lines.now }
     {
         let live = self.counts.live;
         if !self.moves || self.failed || next.below || lines.is_empty() {
@@ -692,7 +669,7 @@ impl Before {
 
     /// How lines stand in the place of the live rows, if those that stay can be left; else all lines are painted.
     fn room_for(&self, next: &Counts, lines: &[StandingLine], width: usize) -> Option<Room>
-        ensures { IfSome result (λ room. HasRoom self.now next.now width lines.now × IsWithin lines.now self.now.counts.live room) }
+        ensures { IfSome result (λ room. HasRoom self.now.counts self.now.failed self.now.width next.now width lines.now × IsWithin lines.now self.now.counts.live room) }
     {
         if self.failed || self.counts.below || next.below || self.goes_further(lines) {
             return None;
@@ -701,6 +678,55 @@ impl Before {
             return None;
         }
         lines_within(lines, self.counts.live)
+    }
+
+    /// How the lines of a draw are written, which goes on with these counts: as `chosen` says.
+    fn writing(
+        &self,
+        fresh: Fresh,
+        next: &Counts,
+        lines: &[StandingLine],
+        width: usize,
+    ) -> Writing
+        ensures { IsChosen self.now.counts self.now.failed self.now.width next.now lines.now
+            (whole_writing self.now.counts self.now.failed fresh next.now width lines.now) result }
+    {
+        let whole = Writing {
+            anew: self.failed,
+            fresh,
+            below: self.counts.below,
+            taken: self.counts.live,
+            manner: Manner::Among(0),
+            width,
+            ends_below: next.below,
+            fill: next.fill(last_column(lines), width),
+        };
+        self.chosen(whole, next, lines)
+    }
+
+    /// How lines are written that may be written whole: over the live rows, among those that stay, or whole.
+    fn chosen(&self, whole: Writing, next: &Counts, lines: &[StandingLine]) -> Writing
+        ensures { IsChosen self.now.counts self.now.failed self.now.width next.now lines.now whole result }
+    {
+        if self.can_move(next, lines, whole.width) {
+            return Writing {
+                fresh: Fresh::none(),
+                taken: 0,
+                manner: Manner::Over(whole.taken),
+                fill: 0,
+                ..whole
+            };
+        }
+        match self.room_for(next, lines, whole.width) {
+            Some(room) => Writing {
+                fresh: Fresh::none(),
+                taken: room.free,
+                manner: Manner::Among(room.lines),
+                fill: fill_behind(&lines[room.lines..], whole.width),
+                ..whole
+            },
+            None => whole,
+        }
     }
 }
 

@@ -1,12 +1,12 @@
 -- Lines drawn over others: each stays, is edited in its last row, or is written as a whole.
-use Rattle.std.specs.Prelude.{◌≡◌, true, false, ◌&&◌, ◌==◌, nat_lt, slice_index, ℕ, zero, suc, ◌+◌, ◌-◌, Bool, IsTrue, List, [], ◌∷◌, ◌++◌, map, length, take, drop, replicate, chars, Option, Some, None, if◌then◌else◌}
+use Rattle.std.specs.Prelude.{◌≡◌, true, false, ◌&&◌, ◌==◌, not, nat_lt, slice_index, ℕ, zero, suc, ◌+◌, ◌-◌, Bool, IsTrue, List, [], ◌∷◌, ◌++◌, map, length, take, drop, replicate, chars, Option, Some, None, if◌then◌else◌}
 use Rattle.indicatif_text.specs.Columns.{Cell, rows_of, last_columns}
 use Rattle.indicatif_term.specs.Calls.{UP, DOWN, move_bytes, clear_bytes}
 use Rattle.indicatif_term.specs.Shows.{look, looks_of}
-use Rattle.indicatif_term.specs.Inside.Bytes.{rows_down, back_bytes, lines_bytes}
+use Rattle.indicatif_term.specs.Inside.Bytes.{rows_down}
 use Rattle.indicatif_term.specs.Inside.Edits.{Edit, Write, edit_columns, edit_gap, row_bytes, edited_row, Renews}
-use Rattle.indicatif_term.specs.Inside.Fills.{last_of}
-use Rattle.indicatif_term.specs.Inside.LastChar.{ends_plainly}
+use Rattle.std.specs.List.{list_any}
+use Rattle.std.specs.Int.{is_in_range}
 
 -- a change of a line: none, or its last row is edited from a column on, or its rows are emptied and it is written
 pub data Change : Type 0 where
@@ -66,6 +66,14 @@ abbrev pub frame_bytes : ℕ → List PlacedLine → List ℕ
 frame_bytes below ps = move_bytes UP (placed_height ps - 1 + below) ++ walk_bytes 0 ps
 
 -- ---- the last line of some
+
+-- a line without an escape character that ends in printable ASCII: writing its last byte again shows the same
+abbrev pub ends_plainly : List ℕ → Bool
+ends_plainly line = is_in_range 0x20 0x7E (slice_index line (length line - 1)) && not (list_any (λ b. b == 0x1B) line)
+
+-- the last byte of a line
+abbrev pub last_byte : List ℕ → List ℕ
+last_byte line = drop (length line - 1) line
 
 -- a line written as a whole, with the spaces that fill its last row
 abbrev pub filled_whole : ℕ → PlacedLine → PlacedLine
@@ -153,17 +161,18 @@ abbrev pub rows_below : ℕ → ℕ
 rows_below zero = 0
 rows_below (suc n) = 1
 
--- lines in the first of the rows, with this many others erased; nothing if all lines stay and there are no others
-abbrev pub rewrite_bytes : ℕ → ℕ → List PlacedLine → PlacedLine → List ℕ
-rewrite_bytes w taken front last =
-    if (taken == 0) && all_stay (front ++ last ∷ []) then [] else back_bytes false taken ++ frame_bytes (rows_below taken) (front ++ ending w last ∷ [])
+-- lines of which the last one leaves the cursor waiting at the end of its row
+abbrev pub ended : ℕ → List PlacedLine → List PlacedLine
+ended w [] = []
+ended w (p ∷ []) = ending w p ∷ []
+ended w (p ∷ q ∷ ps) = p ∷ ended w (q ∷ ps)
 
--- the columns that are free after a line, if there is one
+-- lines in the rows above this many erased ones; nothing if all stay and no row was erased
+abbrev pub among_bytes : ℕ → ℕ → List PlacedLine → List ℕ
+among_bytes w taken [] = []
+among_bytes w taken (p ∷ ps) = if (taken == 0) && all_stay (p ∷ ps) then [] else frame_bytes (rows_below taken) (ended w (p ∷ ps))
+
+-- the columns that are free behind a line, if there is one
 abbrev pub free_behind : ℕ → Option PlacedLine → ℕ
 free_behind w None = 0
 free_behind w (Some p) = w - p.last
-
--- the same, and more lines below them, each on its own row; the last one is filled
-abbrev pub change_bytes : ℕ → ℕ → List PlacedLine → PlacedLine → List PlacedLine → List ℕ
-change_bytes w taken front last more =
-    rewrite_bytes w taken front last ++ (lines_bytes true (placed_lines more) ++ replicate (free_behind w (last_of more)) 0x20)

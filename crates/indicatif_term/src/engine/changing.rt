@@ -1,63 +1,51 @@
 //! The lines of a drawing in the place of those that stand: each stays, is edited, or is written as a whole.
-ghost use Rattle.std.specs.Prelude.{length, ◌≡◌, ◌==◌, ◌&&◌, ◌+◌, ◌-◌, ◌≤◌, ◌++◌, ◌∷◌, [], ℕ, List, string_bytes, MatchResult};
+ghost use Rattle.std.specs.Prelude.{length, ◌≡◌, ◌==◌, ◌&&◌, ◌+◌, ◌-◌, ◌≤◌, ◌++◌, ◌∷◌, [], ℕ, List, string_bytes, MatchResult, IsTrue};
 ghost use Rattle.std.specs.IoError.{error_kind};
 ghost use Rattle.indicatif_term.specs.Calls.{Writes, LeadsOn, BreaksOff, DOWN, RIGHT, move_bytes};
-ghost use Rattle.indicatif_term.specs.Inside.Changes.{PlacedLine, placed_height, changed_bytes, step_bytes, step_down, walk_bytes, walk_down, filled_whole, ending, last_bytes, all_stay, stays, rows_below, rewrite_bytes, free_behind, change_bytes};
+ghost use Rattle.indicatif_term.specs.Inside.Changes.{PlacedLine, placed_height, changed_bytes, step_bytes, step_down, walk_bytes, walk_down, filled_whole, ending, last_bytes, all_stay, stays, rows_below, free_behind, among_bytes, ends_plainly, last_byte};
 ghost use Rattle.indicatif_term.specs.Inside.Edits.{edit_bytes, row_bytes};
 ghost use Rattle.indicatif_term.specs.Inside.Rests.{HasRoom, left_bytes};
 ghost use Rattle.indicatif_term.specs.Inside.Parting.{HasPart, IsReady, part_edits};
 ghost use Rattle.indicatif_term.specs.Inside.Fills.{last_of};
-ghost use Rattle.indicatif_term.specs.Inside.Places.{IsWithin};
 ghost use Rattle.indicatif_term.specs.Standing.{placed_of, placed, AreReady};
 
-use crate::engine::beside::{Room, height_of};
+use crate::engine::beside::height_of;
 use crate::engine::inks::{Colours, InkedText};
-use crate::engine::last_char::{ends_plainly, last_char};
-use crate::engine::painting::{empty_down, go_down, go_up, put_below, put_spaces, take_back_rows};
 use crate::engine::parting::{Part, Step};
 use crate::engine::remembered::StandingLine;
 use crate::engine::row_edits::{Rest, close, go_right, write_next};
+use crate::engine::writing::{empty_down, go_down, go_up, put_spaces};
 use crate::target::term_like::TermLike;
 use std::io;
 
-/// The lines of a drawing beside the rows that they replace: those that stand in the first of these, up to a last one; how many of
-/// the rows are free then; and the lines below them.
-#[derive(Clone, Copy)]
-struct Changes<'a> {
-    front: &'a [StandingLine],
-    last: &'a StandingLine,
-    free: usize,
-    more: &'a [StandingLine],
-}
-
-/// Writes those of the lines that do not stay, of which some stand in the rows that they replace and leave some of these. The cursor is
-/// at the end of the last of these rows, and comes to the end of the last of the lines'; nothing is written where all stay and no row
-/// is free.
-pub fn write_in_room<T: TermLike>(
+/// Writes lines in the place of others, from the first down: those that stay are skipped. Below their rows so many were taken back, and the
+/// cursor is on the first of these; if there are none, it is at the end of the lines' last row. It comes to the end of that, and
+/// nothing is written where all stay and no row was taken back.
+pub fn put_among<T: TermLike>(
     term: &mut T,
     lines: &[StandingLine],
-    room: Room,
+    taken: usize,
     width: usize,
 ) -> io::Result<()>
-    requires room { (rows : ℕ) × IsWithin lines.now rows room × (rows ≤ 65535) }
+    requires small { placed_height (placed lines.now) ≤ 65535 }
     requires ready { AreReady lines.now }
-    ensures { (front : List PlacedLine) (last : PlacedLine) (more : List PlacedLine) → placed lines.now ≡ front ++ last ∷ more → length front + 1 ≡ room.lines →
-        Writes (change_bytes width room.free front last more) (T.view term.old) (T.view term.new) result }
+    ensures { Writes (among_bytes width taken (placed lines.now)) (T.view term.old) (T.view term.new) result }
 {
-    let before = room.lines - 1;
-    let changes = Changes {
-        front: &lines[..before],
-        last: &lines[before],
-        free: room.free,
-        more: &lines[room.lines..],
-    };
-    rewrite(term, &changes, width)?;
-    put_below(term, changes.more, fill_behind(changes.more, width))?;
-    term.flush()
+    if lines.is_empty() {
+        return Ok(());
+    }
+    if is_nothing(lines, taken) {
+        return Ok(());
+    }
+    let before = lines.len() - 1;
+    let last = &lines[before];
+    go_up(term, height_of(lines).saturating_sub(1) + one_below(taken))?;
+    let down = walk(term, &lines[..before])?;
+    write_last(term, down, last, width)
 }
 
 /// How many columns of its row the last of these lines leaves free; 0 if there is no line.
-fn fill_behind(lines: &[StandingLine], width: usize) -> usize
+pub fn fill_behind(lines: &[StandingLine], width: usize) -> usize
     ensures { result ≡ free_behind width (last_of (placed lines.now)) }
 {
     let count = lines.len();
@@ -67,35 +55,11 @@ fn fill_behind(lines: &[StandingLine], width: usize) -> usize
     width.saturating_sub(lines[count - 1].last)
 }
 
-/// Takes back the rows below the lines in the first of the rows, and writes those lines that don't stay, from the first down.
-fn rewrite<T: TermLike>(term: &mut T, changes: &Changes<'_>, width: usize) -> io::Result<()>
-    requires small { placed_height (placed changes.now.front.now) + changes.now.last.now.rows + changes.now.free ≤ 65535 }
-    requires front { AreReady changes.now.front.now }
-    requires last { AreReady (changes.now.last.now ∷ []) }
-    ensures { Writes (rewrite_bytes width changes.now.free (placed changes.now.front.now) (placed_of changes.now.last.now)) (T.view term.old) (T.view term.new) result }
+/// Whether all these lines stay, and no row was taken back, so that nothing is written.
+fn is_nothing(lines: &[StandingLine], taken: usize) -> bool
+    ensures { result ≡ ((taken == 0) && all_stay (placed lines.now)) }
 {
-    if is_nothing(changes) {
-        return Ok(());
-    }
-    take_back_rows(term, changes.free)?;
-    let rows = height_of(changes.front) + changes.last.rows;
-    go_up(term, rows.saturating_sub(1) + one_below(changes.free))?;
-    let down = walk(term, changes.front)?;
-    write_last(term, down, changes.last, width)
-}
-
-/// Whether nothing is to be written of the lines in the first of the rows: all stay, and no row is free.
-fn is_nothing(changes: &Changes<'_>) -> bool
-    ensures { result ≡ ((changes.now.free == 0) && all_stay (placed changes.now.front.now ++ placed_of changes.now.last.now ∷ [])) }
-{
-    changes.free == 0 && all_with_last(changes.front, changes.last)
-}
-
-/// Whether these lines and the last one stay where they stand.
-fn all_with_last(front: &[StandingLine], last: &StandingLine) -> bool
-    ensures { result ≡ all_stay (placed front.now ++ placed_of last.now ∷ []) }
-{
-    all_standing(front) && is_left(last)
+    taken == 0 && all_standing(lines)
 }
 
 /// Whether all these lines stay where they stand, so that none is written.
@@ -290,4 +254,25 @@ fn write_end<T: TermLike>(term: &mut T, down: usize, text: &str, width: usize) -
     term.write_str("\r")?;
     go_right(term, width.saturating_sub(1))?;
     term.write_str(text)
+}
+
+/// Whether a line has no escape character, so no colours, and ends with printable ASCII, which no joiner joins.
+fn ends_plainly(line: &str) -> bool
+    ensures { result ≡ ends_plainly line.now }
+{
+    let bytes = line.as_bytes();
+    let count = bytes.len();
+    if count == 0 {
+        return false;
+    }
+    let last = bytes[count - 1];
+    last >= 0x20 && last <= 0x7E && !bytes.contains(&0x1B)
+}
+
+/// The last character of a line that ends plainly.
+fn last_char(line: &str) -> &str
+    requires { IsTrue (ends_plainly line.now) }
+    ensures { result.now ≡ last_byte line.now }
+{
+    &line[line.len() - 1..]
 }

@@ -7,8 +7,8 @@ ghost use Rattle.indicatif_term.specs.Calls.{Writes};
 ghost use Rattle.indicatif_term.specs.Standing.{placed_of, placed};
 ghost use Rattle.indicatif_term.specs.Inside.Moves.{filled_bytes, run_bytes, moved_bytes, joins, IsEven, AreEven};
 
-use crate::engine::painting::{go_up, put_spaces};
 use crate::engine::remembered::StandingLine;
+use crate::engine::writing::{go_up, put_spaces};
 use crate::target::term_like::TermLike;
 use indicatif_text::columns::{Piece, columns, pieces, width as width_of_char};
 use std::io;
@@ -75,7 +75,7 @@ fn first_of(text: &str) -> Option<char>
 
 /// Writes lines over rows, on the last of which the cursor rests, or from its own row on if there are no rows. It goes up to the first of
 /// them and to its front; no line end and no row is emptied.
-pub fn write_over<T: TermLike>(
+pub fn put_over<T: TermLike>(
     term: &mut T,
     taken: usize,
     lines: &[StandingLine],
@@ -85,8 +85,7 @@ pub fn write_over<T: TermLike>(
 {
     go_up(term, taken.saturating_sub(1))?;
     term.write_str("\r")?;
-    put_run(term, lines, width)?;
-    term.flush()
+    put_run(term, lines, width)
 }
 
 /// Writes lines over rows, one behind another, each with the spaces that fill its last row.

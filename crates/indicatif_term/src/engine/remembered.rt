@@ -223,6 +223,7 @@ impl Remembered {
     /// The remembered lines in the last `rows` kept rows of a terminal of `width` columns.
     pub fn above(&self, width: usize, rows: usize) -> Span
         ensures within { result.to ≤ length self.now.lines }
+        ensures known { self.now.width ≡ width → result.to ≡ self.now.kept }
         ensures right { 0 < width → AreLines width (drop result.from (take result.to self.now.lines)) }
         ensures above { (l : Lists) → 0 < width → AreRemembered self.now l →
             StandAbove width (drop result.from (take result.to self.now.lines)) l }

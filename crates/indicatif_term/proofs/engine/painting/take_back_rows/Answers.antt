@@ -1,5 +1,0 @@
-use Rattle.indicatif_term.proofs.CallTurnLemmas.{reaches_none}
-use Rattle.indicatif_term.proofs.engine.painting.take_back_rows.Goals as goal
-
-pub returns-then-rows-eq0 : goal.returns-then-rows-eq0
-returns-then-rows-eq0 g c = rw c.if-rows-eq0.true (reaches_none (g.T.TermLike.view c.args.term.now))
