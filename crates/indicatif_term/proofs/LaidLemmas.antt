@@ -47,7 +47,8 @@ bytes = λ (l : StandingLine). string_bytes l.text
 abbrev pub ShowNothing : ℕ → List StandingLine → Type 0
 ShowNothing n on = (texts (take n on) ≡ replicate n []) × (line_counts (take n on) ≡ replicate n blank_count)
 
-pub one_blank : (on : List StandingLine) (n : ℕ) (x : StandingLine) → n < length on → get_or on n x ≡ x → string_bytes x.text ≡ [] → line_count x ≡ blank_count → ShowNothing n on → ShowNothing (n + 1) on
+pub one_blank : (on : List StandingLine) (n : ℕ) (x : StandingLine) → n < length on → get_or on n x ≡ x → string_bytes x.text ≡ [] → line_count x ≡ blank_count → ShowNothing n on →
+    ShowNothing (n + 1) on
 one_blank on n x h e t m b =
     let more : take (n + 1) on ≡ take n on ++ x ∷ [] = take_more on n x h ∙ ap (λ y. take n on ++ y ∷ []) e in (
       ap texts more ∙ map-append bytes (take n on) (x ∷ []) ∙ ap (λ ys. ys ++ string_bytes x.text ∷ []) b.0 ∙ ap (λ y. replicate n [] ++ y ∷ []) t ∙ replicate_push n [],
@@ -105,9 +106,11 @@ module _ (w h : ℕ) (on : List StandingLine) (before : List (List ℕ)) (bars :
 
     more_texts : laid_texts on l' ≡ laid_texts on l ++ text ∷ [] → laid_texts on l' ≡ replicate l'.blanks [] ++ take l'.plan.lines (before ++ text ∷ [])
     more_texts t = t ∙ ap (λ xs. xs ++ text ∷ []) (o.texts_are ∙ ap (λ xs. replicate l.blanks [] ++ xs) old_lines) ∙ append_assoc (replicate l.blanks []) before (text ∷ [])
-        ∙ ap (λ xs. replicate l.blanks [] ++ xs) (sym (take_all l'.plan.lines (before ++ text ∷ []) (omega (arith, lines_now)))) ∙ ap (λ n. replicate n [] ++ take l'.plan.lines (before ++ text ∷ [])) (sym b)
+        ∙ ap (λ xs. replicate l.blanks [] ++ xs) (sym (take_all l'.plan.lines (before ++ text ∷ []) (omega (arith, lines_now))))
+        ∙ ap (λ n. replicate n [] ++ take l'.plan.lines (before ++ text ∷ [])) (sym b)
 
-    more_counts : line_counts (laid_lines on l') ≡ line_counts (laid_lines on l) ++ row_count s ∷ [] → line_counts (laid_lines on l') ≡ replicate l'.blanks blank_count ++ (o.counts ++ row_count s ∷ [])
+    more_counts : line_counts (laid_lines on l') ≡ line_counts (laid_lines on l) ++ row_count s ∷ [] →
+        line_counts (laid_lines on l') ≡ replicate l'.blanks blank_count ++ (o.counts ++ row_count s ∷ [])
     more_counts t = t ∙ ap (λ xs. xs ++ row_count s ∷ []) o.counts_are ∙ append_assoc (replicate l.blanks blank_count) o.counts (row_count s ∷ [])
         ∙ ap (λ n. replicate n blank_count ++ (o.counts ++ row_count s ∷ [])) (sym b)
 
@@ -187,7 +190,8 @@ laid_still w h n m on before bars l o = record {
 
 module _ (w h : ℕ) (on : List StandingLine) (before : List (List ℕ)) (bars : List BarRows) (l : Laid) (o : IsLaid w h on before bars l) where
   pub own_counts : line_counts (own_lines on l) ≡ o.counts
-  own_counts = sym (drop-map line_count l.blanks (laid_lines on l)) ∙ ap (drop l.blanks) o.counts_are ∙ drop_at (replicate l.blanks blank_count) o.counts l.blanks (length-replicate l.blanks blank_count)
+  own_counts = sym (drop-map line_count l.blanks (laid_lines on l)) ∙ ap (drop l.blanks) o.counts_are
+      ∙ drop_at (replicate l.blanks blank_count) o.counts l.blanks (length-replicate l.blanks blank_count)
 
   pub own_laid : IsLaidOut h bars l.plan (line_counts (own_lines on l))
   own_laid = subst (IsLaidOut h bars l.plan) (sym own_counts) o.laid
@@ -252,9 +256,9 @@ laid_blanks w h pass on frame l l' none f p at changed t c right whole =
     let o = f.is_laid in
     let zeros : l'.at ≡ 0 = at ∙ none_stays w h pass frame l f in
     let counts : line_counts l.more.items ≡ o.counts = sym (ap (λ xs. line_counts (xs ++ l.more.items)) (ap (λ n. take n []) (none_stays w h pass frame l f))) ∙ o.counts_are
-        ∙ ap (λ n. replicate n blank_count ++ o.counts) none in
+    ∙ ap (λ n. replicate n blank_count ++ o.counts) none in
     let shown : texts l.more.items ≡ take l.plan.lines (frame_lines frame) = sym (ap (λ n. take n (renewed [] l.changed.items) ++ texts l.more.items) (none_stays w h pass frame l f)) ∙ o.texts_are
-        ∙ ap (λ n. replicate n [] ++ take l.plan.lines (frame_lines frame)) none in
+    ∙ ap (λ n. replicate n [] ++ take l.plan.lines (frame_lines frame)) none in
     frame_on_any w h pass [] on frame l' zeros (record {
       narrow = f.narrow;
       plan_is = subst (λ q. IsPlan w h pass (map bar_lines frame) q) (sym p) f.plan_is;
@@ -265,7 +269,8 @@ laid_blanks w h pass on frame l l' none f p at changed t c right whole =
         fit = subst (AreFitting w [] l'.at) (sym changed) (subst (λ n. AreFitting w [] n l.changed.items) (sym at) o.fit);
         lines_in = omega (arith, ap (λ (q : Plan). q.lines) p, o.lines_in);
         all_in = λ e. ap (λ (q : Plan). q.lines) p ∙ o.all_in (sym (ap (λ (q : Plan). q.full) p) ∙ e);
-        texts_are = ap (λ n. take n (renewed [] l'.changed.items) ++ texts l'.more.items) zeros ∙ t ∙ ap (λ xs. replicate l'.blanks [] ++ xs) (shown ∙ ap (λ n. take n (frame_lines frame)) (sym (ap (λ (q : Plan). q.lines) p)));
+        texts_are = ap (λ n. take n (renewed [] l'.changed.items) ++ texts l'.more.items) zeros ∙ t
+            ∙ ap (λ xs. replicate l'.blanks [] ++ xs) (shown ∙ ap (λ n. take n (frame_lines frame)) (sym (ap (λ (q : Plan). q.lines) p)));
         counts = o.counts;
         counts_are = ap (λ xs. line_counts (xs ++ l'.more.items)) (ap (λ n. take n []) zeros) ∙ c ∙ ap (λ xs. replicate l'.blanks blank_count ++ xs) counts;
         laid = subst (λ q. IsLaidOut h (lines_of w (map bar_lines frame)) q o.counts) (sym p) o.laid;
@@ -275,8 +280,8 @@ laid_blanks w h pass on frame l l' none f p at changed t c right whole =
     })
 
 -- or it is refused
-pub blanks_or_refused : (w h pass k : ℕ) (on : List StandingLine) (frame : List Segment) (r : Result Laid Refusal) → IfErr r (λ e. (e ≡ Memory) × (0 < k)) → IfOk r (λ l. IsFrameLaid w h pass on frame l) →
-    FrameLaid w h pass on frame r
+pub blanks_or_refused : (w h pass k : ℕ) (on : List StandingLine) (frame : List Segment) (r : Result Laid Refusal) → IfErr r (λ e. (e ≡ Memory) × (0 < k)) →
+    IfOk r (λ l. IsFrameLaid w h pass on frame l) → FrameLaid w h pass on frame r
 blanks_or_refused w h pass k on frame (Ok l) e f = f
 blanks_or_refused w h pass k on frame (Err x) e f = subst (IsWithheld w (all_lines (map bar_lines frame))) (sym e.0) (refl, tt)
 

@@ -113,8 +113,11 @@ fits_first w on from at (n ∷ new) h f =
     let same_rows : get_or (heights on) n.at 0 ≡ get_or (heights (take at on)) n.at 0 = sym (ap (λ xs. get_or xs n.at 0) (sym (take-map rows at on)) ∙ get_or-take at (heights on) n.at 0 f.1.0) in
     let same_text : get_or (texts on) n.at [] ≡ get_or (texts (take at on)) n.at [] = sym (ap (λ xs. get_or xs n.at []) (sym (take-map bytes at on)) ∙ get_or-take at (texts on) n.at [] f.1.0) in (
       f.0,
-      (omega (arith, size, f.1.0), subst (λ r. IsNew w n.at r (get_or (texts (take at on)) n.at []) (string_bytes n.text) n) same_rows
-          (subst (λ o. IsNew w n.at (get_or (heights on) n.at 0) o (string_bytes n.text) n) same_text f.1.1)),
+      (
+        omega (arith, size, f.1.0),
+        subst (λ r. IsNew w n.at r (get_or (texts (take at on)) n.at []) (string_bytes n.text) n) same_rows
+            (subst (λ o. IsNew w n.at (get_or (heights on) n.at 0) o (string_bytes n.text) n) same_text f.1.1),
+      ),
       fits_first w on (suc n.at) at new h f.2,
     )
 

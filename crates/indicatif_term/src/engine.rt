@@ -25,11 +25,11 @@
 //!
 //! What differs:
 //!
-//! - `renewed`: the lines of a frame that has the same rows as the last one, each compared with the one in its place (`NewLine`).
-//! - `layout`: a frame with other rows, or a logged text: `Plan`, which lines are shown, and how many rows they take.
-//! - `beside`: the lines of such a drawing beside those that stand there: which are the same, on the same rows (`SizedLine`, `Beside`,
-//!   `Room`)?
+//! - `layout`: a frame beside the lines that stand, in one pass (`Laid`): which of these stay, which new ones come in their place, which are
+//!   written below; and how many rows all take (`Plan`).
+//! - `beside`: the lines that stand there (`Beside`), blank ones above a frame, and the room that is left for it (`Room`).
 //! - `comparing`: what becomes of one line where another text comes in its place (`Turn`): edited, or written as a whole?
+//! - `renewed`: new lines (`NewLine`) in the place of those that stand.
 //! - `parting`: the byte where two texts of one row part (`Part`, `Step`), before the first escape character or among colours; how many
 //!   characters of one column follow?
 //! - `inks`: a text read cell by cell, with the colour sequences that are open at each (`InkedText`, `Colours`).
@@ -237,9 +237,9 @@ impl<T: TermLike + Drop> Engine<T> {
     /// then become kept rows, with the blank rows above them.
     ///
     /// As many lines from the front are written as have at most the terminal's rows together, and none where the frame stands as it is.
-    /// One pass over the frame before the first byte, two over the lines at its front that stand there, one while writing. Memory for
-    /// its lines, where earlier drawings left no room for them, is taken before the first byte. The lines of kept rows
-    /// aren't copied; the room of the list that holds them grows with it.
+    /// One pass over the frame before the first byte, beside the lines that stand there; two where their blank rows are others then. Some over
+    /// the lines of the drawing, one of them while writing. Memory for new texts, where earlier drawings left no room for them, is taken before
+    /// the first byte. The lines of kept rows and those that stay aren't copied; the room of the list that holds them grows with it.
     ///
     /// Refused: `NoColumns` where the terminal has no columns; `TooWide` where any line, also one past the terminal's
     /// rows, holds a character wider than the terminal; `Memory`, also in place of `TooWide`, and never where the frame has no
@@ -681,13 +681,7 @@ impl Before {
     }
 
     /// How the lines of a draw are written, which goes on with these counts: as `chosen` says.
-    fn writing(
-        &self,
-        fresh: Fresh,
-        next: &Counts,
-        lines: &[StandingLine],
-        width: usize,
-    ) -> Writing
+    fn writing(&self, fresh: Fresh, next: &Counts, lines: &[StandingLine], width: usize) -> Writing
         ensures { IsChosen self.now.counts self.now.failed self.now.width next.now lines.now
             (whole_writing self.now.counts self.now.failed fresh next.now width lines.now) result }
     {

@@ -180,4 +180,3 @@ fn behind_blanks(
     lines.rotate_right(blanks);
     Ok(lines)
 }
-

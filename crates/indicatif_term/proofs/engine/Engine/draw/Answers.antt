@@ -1,4 +1,4 @@
-use Rattle.std.proofs.Common.{map, arith, ◌∙◌, ◌≡◌, ◌≤◌, ◌<◌, ◌+◌, ℕ, List, refl, [], ◌++◌, replicate, take, drop, length, sym, ap, subst}
+use Rattle.std.proofs.Common.{map, arith, ◌∙◌, ◌≡◌, ◌≤◌, ◌+◌, refl, [], ◌++◌, replicate, take, drop, sym, ap, subst}
 use Rattle.std.proofs.Math.Logic.{∥∥₁_map}
 use Rattle.indicatif_term.specs.Inside.Remembering.{Draws}
 use Rattle.indicatif_term.specs.Lists.{Lists, drawn, blanks_for}
@@ -205,10 +205,11 @@ returns-clause-paints g c = λ x fits plain.
     let v' = g.T.TermLike.view (engine_term c.write.new.self) in
     let right = subst (λ k. AreLines k ls) p.columns_are put.right in
     let below = c.drawn-counts.result.below in
-    let fill = draw_fill s.columns ls below _ _ right refl (ap (λ k. (whole_writing old e.failed c.fresh-fresh.result c.drawn-counts.result k ls).fill) p.columns_are) ∙ ap (fill_bytes below s.columns) t in
+    let fill = draw_fill s.columns ls below _ _ right refl (ap (λ k. (whole_writing old e.failed c.fresh-fresh.result c.drawn-counts.result k ls).fill) p.columns_are)
+    ∙ ap (fill_bytes below s.columns) t in
     let d = chosen_draws old e.failed e.shown win.columns s.columns s.rows c.args.pass l.blanks _ bottom c.drawn-counts.result c.args.frame.now l.plan ls c.fresh-fresh.result q x p.columns_are
-    (rw p.columns_are at win.some) plain f.narrow f.plan_is next blanks t right (put_sits win.columns s.columns e.shown l x ls p.columns_are win.some put known) (rw p.rows_are at c.fresh-fresh.ensures)
-    fill (fits_counts e x fits) known (rw lines at c.writing-writing.ensures) in
+    (rw p.columns_are at win.some) plain f.narrow f.plan_is next blanks t right (put_sits win.columns s.columns e.shown l x ls p.columns_are win.some put known)
+    (rw p.rows_are at c.fresh-fresh.ensures) fill (fits_counts e x fits) known (rw lines at c.writing-writing.ensures) in
     let writes : Draws (writing_bytes q [] ls) s v' c.write.result = rw (c.store.ensures.terminal, y.4) at c.write.ensures.draws in
     paints_by s v' old _ _ c.write.result c.write.new.self e.failed x (drawn s.columns s.rows bottom c.args.pass frame) d.0 c.write.ensures.remembers (fits_failed e x fits)
     (subst (λ b. Draws b s v' c.write.result) d.1 writes) d.2 (fits_counts e x fits) (fits_forgets e x fits) (drawn-sound s.columns s.rows bottom c.args.pass frame x)

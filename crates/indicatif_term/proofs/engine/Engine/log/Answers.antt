@@ -1,4 +1,4 @@
-use Rattle.std.proofs.Common.{map, false, ◌≡◌, ◌≤◌, ◌<◌, ◌+◌, List, ℕ, [], ◌++◌, ◌∙◌, ap, arith, replicate, take, length, append_assoc, subst, sym}
+use Rattle.std.proofs.Common.{map, false, ◌≡◌, ◌≤◌, ◌+◌, [], ◌++◌, ◌∙◌, ap, arith, replicate, take, append_assoc, subst, sym}
 use Rattle.std.proofs.Math.Logic.{∥∥₁_map}
 use Rattle.indicatif_term.specs.Lists.{Lists, logged}
 use Rattle.indicatif_term.specs.Counts.{CountsOf}
@@ -156,7 +156,8 @@ returns-clause-paints g c = λ x fits plain.
     let y = c.in_ok-from.ensures.next in
     let ls = y.0 in
     let put = y.1 in
-    let all : text ++ texts ls ≡ lines = ap (λ xs. text ++ xs) (put.texts_are ∙ f.is_laid.texts_are) ∙ sym (append_assoc text (replicate l.blanks []) (take plan.lines (frame_lines c.args.frame.now))) in
+    let all : text ++ texts ls ≡ lines = ap (λ xs. text ++ xs) (put.texts_are ∙ f.is_laid.texts_are)
+    ∙ sym (append_assoc text (replicate l.blanks []) (take plan.lines (frame_lines c.args.frame.now))) in
     let right = subst (λ k. AreLines k ls) p.columns_are put.right in
     let fill = log_fill s.columns text ls below c.last_column.result c.unwrap_or-last.result c.fill.result (logged_length c.args.text.now) right
     (rw (c.behind.ensures ∙ y.4) at c.last_column.ensures) (rw p.text_ends at c.unwrap_or-last.ensures) (rw p.columns_are at c.fill.ensures) ∙ ap (fill_bytes below s.columns) all in

@@ -1,7 +1,4 @@
-use Rattle.std.proofs.Common.{arith, ◌≡◌, sym, subst, refl, ap}
-use Rattle.std.specs.Prelude.{string_bytes}
-use Rattle.indicatif_term.specs.Counts.{line_count}
-use Rattle.indicatif_term.specs.declared.engine.remembered.StandingLine.{StandingLine}
+use Rattle.std.proofs.Common.{arith, ◌≡◌, sym, subst, refl}
 use Rattle.indicatif_term.proofs.LaidLemmas.{ShowNothing, one_blank}
 use Rattle.indicatif_term.proofs.engine.beside.are_blank.Goals as goal
 

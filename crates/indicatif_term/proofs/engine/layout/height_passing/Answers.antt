@@ -9,4 +9,5 @@ loop-at-preserved c =
     let l = c.args.laid.now in
     let ls = own_lines c.args.standing.now l in
     let size : length ls ≡ l.at + length l.more.items - l.blanks = own_length c.args.standing.now l c.requires.in_lines in
-    omega (arith, c.loop-at.invariant, c.saturating_add-rows.ensures, height_push ls c.loop-at.at c.own_line.result.now (omega (arith, size, c.requires.within, c.loop-at-test.true)) c.own_line.ensures)
+    let push = height_push ls c.loop-at.at c.own_line.result.now (omega (arith, size, c.requires.within, c.loop-at-test.true)) c.own_line.ensures in
+    omega (arith, c.loop-at.invariant, c.saturating_add-rows.ensures, push)

@@ -1,7 +1,6 @@
 use Rattle.std.proofs.Common.{arith, refl, sym, ap, subst, ◌∙◌, ◌+◌, ◌<◌, length, chars}
 use Rattle.indicatif_text.specs.Columns.{has_wide, rows_of, last_columns}
 use Rattle.indicatif_term.specs.Lists.{BarRows}
-use Rattle.indicatif_term.specs.Standing.{IsLine}
 use Rattle.indicatif_term.specs.Inside.Edits.{AreSingle}
 use Rattle.indicatif_term.proofs.OwnedLemmas.{count_same}
 use Rattle.indicatif_term.proofs.TerminalStepLemmas.{rows_some}

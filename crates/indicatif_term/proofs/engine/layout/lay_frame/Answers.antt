@@ -1,8 +1,8 @@
-use Rattle.std.proofs.Common.{arith, ◌+◌, ◌-◌, ◌^◌, ◌≡◌, ◌≤◌, ◌∙◌, refl, sym, ap, subst, min, Err, map, take, length, [], ◌++◌}
-use Rattle.std.proofs.lemmas.List.{take_all, length-map}
+use Rattle.std.proofs.Common.{arith, ◌+◌, ◌≡◌, ◌∙◌, refl, sym, ap, Err, map, take, length, []}
+use Rattle.std.proofs.lemmas.List.{take_all}
 use Rattle.indicatif_text.specs.declared.refusal.Refusal.TheVariants.{Memory}
 use Rattle.indicatif_term.specs.Lists.{fitting, lines_of}
-use Rattle.indicatif_term.specs.Counts.{row_count, line_count, line_counts}
+use Rattle.indicatif_term.specs.Counts.{line_counts}
 use Rattle.indicatif_term.specs.Frames.{bar_lines}
 use Rattle.indicatif_term.specs.Standing.{placed}
 use Rattle.indicatif_term.specs.Inside.Changes.{placed_height}
@@ -13,7 +13,7 @@ use Rattle.indicatif_term.specs.declared.engine.layout.Plan.{Plan}
 use Rattle.indicatif_term.proofs.OwnedLemmas.{first_within}
 use Rattle.indicatif_term.proofs.ShownRowLemmas.{frame_step}
 use Rattle.indicatif_term.proofs.LayoutLemmas.{nothing_laid, no_bars, nothing_passes, still_summed, lines_step, narrow_step, frame_refused, some_line, passing_now, passing_same, passing_all, passing_height, planned, still_laid}
-use Rattle.indicatif_term.proofs.LaidLemmas.{laid_none, laid_as, laid_still, own_laid, own_count, own_counts}
+use Rattle.indicatif_term.proofs.LaidLemmas.{laid_none, laid_as, laid_still, own_laid, own_count}
 use Rattle.indicatif_term.proofs.engine.layout.lay_frame.Goals as goal
 use Rattle.indicatif_term.proofs.engine.layout.lay_frame.Goals.{then-left-gt0, else-left-gt0}
 
@@ -28,7 +28,8 @@ loop-member-init c =
       blanks_are = refl;
       narrow = refl;
       passing = ap (λ (p : Plan). p.passing) c.none.ensures ∙ nothing_passes w h c.args.asked.pass c.args.asked.frame.now;
-      laid = laid_as w h c.args.beside.lines.now [] [] [] _ _ refl (sym (no_bars w)) (laid_none w h c.args.beside.lines.now _ c.requires.blank refl c.none.ensures c.take_new.ensures c.take_lines.ensures);
+      laid = laid_as w h c.args.beside.lines.now [] [] [] _ _ refl (sym (no_bars w))
+          (laid_none w h c.args.beside.lines.now _ c.requires.blank refl c.none.ensures c.take_new.ensures c.take_lines.ensures);
     }
 
 pub lay_member-requires-clause-summed : goal.lay_member-requires-clause-summed

@@ -1,9 +1,8 @@
-use Rattle.std.proofs.Common.{arith, get_or, ◌≡◌, ◌<◌, ◌≤◌, ◌∙◌, refl, sym, ap, subst, append_assoc, append-nil, chars, length, map, take, [], ◌∷◌, ◌++◌}
+use Rattle.std.proofs.Common.{arith, get_or, ◌≡◌, ◌<◌, ◌≤◌, ◌∙◌, refl, sym, ap, append_assoc, append-nil, chars, length, map, take, [], ◌∷◌, ◌++◌}
 use Rattle.std.proofs.Common.{Err}
 use Rattle.std.proofs.lemmas.Result.{err_from_is_err_and}
 use Rattle.std.proofs.lemmas.List.{length-map, take_all}
 use Rattle.indicatif_term.specs.Frames.{bar_lines, line_text}
-use Rattle.indicatif_term.proofs.ShownRowLemmas.{line_segments}
 use Rattle.indicatif_term.proofs.MeasureLemmas.{narrow_more, withheld_by, one_of}
 use Rattle.indicatif_term.proofs.BesideLemmas.{line_texts_step}
 use Rattle.indicatif_term.proofs.LayoutLemmas.{line_bars, member_bars, string_at}

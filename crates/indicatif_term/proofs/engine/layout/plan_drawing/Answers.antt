@@ -1,4 +1,4 @@
-use Rattle.std.proofs.Common.{◌+◌, ◌<◌, ◌≡◌, ◌∙◌, sym, ap, arith, inl, inr, Err}
+use Rattle.std.proofs.Common.{◌<◌, ◌≡◌, ◌∙◌, sym, ap, arith, inl, inr, Err}
 use Rattle.std.proofs.lemmas.Result.{err_from_is_err_and}
 use Rattle.indicatif_text.specs.declared.refusal.Refusal.TheVariants.{Memory}
 use Rattle.indicatif_term.specs.Lists.{blanks_for}

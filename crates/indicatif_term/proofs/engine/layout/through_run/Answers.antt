@@ -1,4 +1,4 @@
-use Rattle.std.proofs.Common.{◌≡◌, ◌+◌, ◌-◌, ◌≤◌, arith, sym, ap, length}
+use Rattle.std.proofs.Common.{◌≡◌, ◌+◌, ◌-◌, arith, length}
 use Rattle.indicatif_term.proofs.GroupLemmas.{run_stop, run_end}
 use Rattle.indicatif_term.specs.Inside.Layouts.{own_lines}
 use Rattle.indicatif_term.proofs.LaidLemmas.{own_length, through_last}

@@ -1,4 +1,4 @@
-use Rattle.std.proofs.Common.{◌≡◌, ◌+◌, ◌-◌, ◌≤◌, drop}
+use Rattle.std.proofs.Common.{◌≡◌, ◌+◌, ◌≤◌, drop}
 use Rattle.indicatif_term.specs.Counts.{line_counts}
 use Rattle.indicatif_term.specs.Inside.Owned.{run_length}
 use Rattle.indicatif_term.specs.Inside.Layouts.{own_lines}

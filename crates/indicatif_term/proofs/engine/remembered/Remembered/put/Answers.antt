@@ -1,11 +1,7 @@
-use Rattle.std.proofs.Common.{arith, ◌≡◌, ◌≤◌, ◌<◌, ◌+◌, ◌-◌, ◌∙◌, ◌++◌, ◌^◌, List, [], refl, sym, ap, subst, take, drop, length, length-append, append_assoc}
-use Rattle.std.proofs.lemmas.List.{length-take-le, length-drop, length-map}
-use Rattle.indicatif_term.specs.Counts.{line_count, line_counts}
-use Rattle.indicatif_term.specs.Standing.{texts, IsLine, AreLines}
+use Rattle.std.proofs.Common.{arith, ◌≡◌, ◌≤◌, ◌<◌, ◌+◌, ◌-◌, ◌∙◌, ◌++◌, ◌^◌, refl, sym, subst, take, drop, length}
+use Rattle.indicatif_term.specs.Standing.{IsLine, AreLines}
 use Rattle.indicatif_term.specs.Remembered.{live_lines}
-use Rattle.indicatif_term.specs.Inside.Renewed.{AreFitting, AreInPlace, AreOver, renewed}
-use Rattle.indicatif_term.specs.Inside.Layouts.{ArePut}
-use Rattle.indicatif_term.specs.declared.engine.remembered.StandingLine.{StandingLine}
+use Rattle.indicatif_term.specs.Inside.Renewed.{AreFitting}
 use Rattle.indicatif_term.proofs.BesideLemmas.{all_append}
 use Rattle.indicatif_term.proofs.RenewedLemmas.{fits_taken}
 use Rattle.indicatif_term.proofs.LaidLemmas.{stay_below, front_same, front_in, put_length, put_lines, put_now, above_length}
