@@ -37,9 +37,9 @@ use Rattle.indicatif_term.proofs.SkippingLemmas.{draw_changes, split_at}
 use Rattle.indicatif_term.proofs.WritingLemmas.{whole_bytes, among_written, over_written}
 
 -- lines can be written as it was chosen
-pub chosen_can : (counts : Counts) (failed : Bool) (shown : Remembered) (next : Counts) (ls : List StandingLine) (p q : Writing) → p.manner ≡ Among 0 → AreReady ls →
-    IsChosen counts failed shown next ls p q → CanWrite q.manner ls
-chosen_can counts failed shown next ls p q whole ready is = elim is [
+pub chosen_can : (counts : Counts) (failed : Bool) (stood : ℕ) (next : Counts) (ls : List StandingLine) (p q : Writing) → p.manner ≡ Among 0 → AreReady ls →
+    IsChosen counts failed stood next ls p q → CanWrite q.manner ls
+chosen_can counts failed stood next ls p q whole ready is = elim is [
   | inl a ↦ subst (λ (z : Writing). CanWrite z.manner ls) (sym a.1.is) tt
   | inr b ↦ elim b [
     | inl c ↦
@@ -65,7 +65,7 @@ module _ (counts : Counts) (failed : Bool) (shown : Remembered) (v w h pass blan
   abbrev whole : Writing
   whole = record { anew = failed; fresh = f; below = counts.below; taken = counts.live; manner = Among 0; width = v; ends_below = next.below; fill = fill }
 
-  by_over : CanMove counts failed shown next v ls → IsOver whole q → IsDrawn
+  by_over : CanMove counts failed shown.width next v ls → IsOver whole q → IsDrawn
   by_over can is =
       let set = λ (b : Bool). writing_bytes
       (record { anew = failed; fresh = is.fresh; below = counts.below; taken = 0; manner = Over counts.live; width = v; ends_below = b; fill = 0 }) [] ls in
@@ -78,7 +78,7 @@ module _ (counts : Counts) (failed : Bool) (shown : Remembered) (v w h pass blan
             right even can.enough can.some (subst (λ live. AreWide w (live_rows w live)) (sym like.live) wide) (λ u. within_rows counts (placed ls) (can.no_more u)),
       )
 
-  by_room : (room : Room) → HasRoom counts failed shown next v ls → IsWithin ls counts.live room → IsAmong room ls whole q → IsDrawn
+  by_room : (room : Room) → HasRoom counts failed shown.width next v ls → IsWithin ls counts.live room → IsAmong room ls whole q → IsDrawn
   by_room room has within is =
       let parts = split_at (placed ls) room.lines within.some (omega (arith, within.in_lines, length-map ls placed_of)) in
       let set = λ (a b : Bool). writing_bytes (record {
@@ -111,7 +111,7 @@ module _ (counts : Counts) (failed : Bool) (shown : Remembered) (v w h pass blan
         λ x like. draw_paints w h x counts next pass blanks bottom frame plan f some plain narrow like.counts planned (counted x like.counts) blank fresh,
       )
 
-  pub chosen_draws : IsChosen counts failed shown next ls whole q → IsDrawn
+  pub chosen_draws : IsChosen counts failed shown.width next ls whole q → IsDrawn
   chosen_draws is = elim is [
     | inl a ↦ by_over a.0 a.1
     | inr b ↦ elim b [

@@ -20,7 +20,7 @@ use Rattle.indicatif_term.specs.declared.engine.remembered.StandingLine.{Standin
 use Rattle.std.specs.Prelude.{sum_by}
 use Rattle.std.proofs.lemmas.List.Sums.{sum_by-take-drop}
 use Rattle.indicatif_term.proofs.OwnedLemmas.{lines_split, rows_by, height_counted, counts_height}
-use Rattle.indicatif_term.specs.Inside.Plans.{IsLaidOut, IsSummed, IsPlaced, IsPlan, IsWithheld}
+use Rattle.indicatif_term.specs.Inside.Plans.{IsLaidOut, IsSummed, IsPlan, IsWithheld}
 use Rattle.indicatif_term.specs.declared.engine.layout.Plan.{Plan}
 use Rattle.indicatif_term.specs.declared.engine.lines.Segment.{Segment}
 use Rattle.indicatif_term.specs.declared.engine.lines.LineType.{LineType}
@@ -103,37 +103,27 @@ string_at s items j x e within at = (
   get_or-map (λ (x : LineType). chars (line_text x)) s.lines.items j x ∙ ap (λ (x : LineType). chars (line_text x)) (ap (λ xs. get_or xs j x) (sym e) ∙ at),
 )
 
-module _ (w h : ℕ) (s : Segment) (j : ℕ) (line : List ℕ) (within : j < length (bar_lines s).lines) (at : get_or (bar_lines s).lines j line ≡ line) where
-  pub line_placed : (before : List BarRows) (p : Plan) (cs : List RowCount) →
-      IsLaidOut h ((before ++ line_segments w s.bar (take j (bar_lines s).lines)) ++ record { bar = s.bar; rows = rows_of w line } ∷ []) p cs →
-      IsLaidOut h (before ++ line_segments w s.bar (take (j + 1) (bar_lines s).lines)) p cs
-  line_placed before p cs o = subst (λ ls. IsLaidOut h ls p cs)
-      (append_assoc before (line_segments w s.bar (take j (bar_lines s).lines)) (record { bar = s.bar; rows = rows_of w line } ∷ [])
-      ∙ ap (λ ls. before ++ ls) (sym (line_step w s.bar j (bar_lines s).lines line within at))) o
+-- the bars' rows with those of one line more of a member
+pub line_bars : (w : ℕ) (s : Segment) (j : ℕ) (line : List ℕ) → j < length (bar_lines s).lines → get_or (bar_lines s).lines j line ≡ line → (bars : List BarRows) →
+    (bars ++ line_segments w s.bar (take j (bar_lines s).lines)) ++ record { bar = s.bar; rows = rows_of w line } ∷ [] ≡ bars ++ line_segments w s.bar (take (j + 1) (bar_lines s).lines)
+line_bars w s j line within at bars =
+    append_assoc bars (line_segments w s.bar (take j (bar_lines s).lines)) (record { bar = s.bar; rows = rows_of w line } ∷ [])
+    ∙ ap (λ ls. bars ++ ls) (sym (line_step w s.bar j (bar_lines s).lines line within at))
 
-pub member_placed : (w h j : ℕ) (s : Segment) (before : List BarRows) (p : Plan) (cs : List RowCount) → length (bar_lines s).lines ≤ j →
-    IsLaidOut h (before ++ line_segments w s.bar (take j (bar_lines s).lines)) p cs → IsLaidOut h (before ++ lines_of w (bar_lines s ∷ [])) p cs
+-- and with all of them
+pub member_bars : (w j : ℕ) (s : Segment) → length (bar_lines s).lines ≤ j → (bars : List BarRows) →
+    bars ++ line_segments w s.bar (take j (bar_lines s).lines) ≡ bars ++ lines_of w (bar_lines s ∷ [])
 unfolding lines_of
-member_placed w h j s before p cs all o = subst (λ ls. IsLaidOut h (before ++ ls) p cs) (ap (line_segments w s.bar) (take_all j (bar_lines s).lines all)
-    ∙ sym (append-nil (line_segments w s.bar (bar_lines s).lines))) o
-
-pub member_refused : (w h : ℕ) (s : Segment) (j : ℕ) (line : List ℕ) (before : List BarRows) (p : Plan) (cs : List RowCount) (e : Refusal) (r : Result Unit Refusal) → r ≡ Err e →
-    j < length (bar_lines s).lines →
-    get_or (bar_lines s).lines j line ≡ line →
-    IsWithheld w (line ∷ []) e → IsPlaced w h before (bar_lines s) p cs r
-member_refused w h s j line before p cs e r q within at m = rw q (withheld_by w (line ∷ []) (bar_lines s).lines e (one_of w (bar_lines s).lines j line within at) m)
+member_bars w j s all bars = ap (λ ls. bars ++ ls) (ap (line_segments w s.bar) (take_all j (bar_lines s).lines all) ∙ sym (append-nil (line_segments w s.bar (bar_lines s).lines)))
 
 -- ---- the members of a frame
 
-module _ (w h : ℕ) (frame : List Segment) (i : ℕ) (s : Segment) (within : i < length frame) (at : get_or frame i s ≡ s) where
+module _ (w : ℕ) (frame : List Segment) (i : ℕ) (s : Segment) (within : i < length frame) (at : get_or frame i s ≡ s) where
   members_step : map bar_lines (take (i + 1) frame) ≡ map bar_lines (take i frame) ++ bar_lines s ∷ []
   members_step = ap (map bar_lines) (take_more frame i s within ∙ ap (λ x. take i frame ++ x ∷ []) at) ∙ map-append bar_lines (take i frame) (s ∷ [])
 
-  pub lines_step : (before : List BarRows) (p : Plan) (cs : List RowCount) → IsLaidOut h ((before ++ lines_of w (map bar_lines (take i frame))) ++ lines_of w (bar_lines s ∷ [])) p cs →
-      IsLaidOut h (before ++ lines_of w (map bar_lines (take (i + 1) frame))) p cs
-  lines_step before p cs o = subst (λ ls. IsLaidOut h ls p cs)
-      (append_assoc before (lines_of w (map bar_lines (take i frame))) (lines_of w (bar_lines s ∷ []))
-      ∙ ap (λ ls. before ++ ls) (sym (ap (lines_of w) members_step ∙ lines_split w (map bar_lines (take i frame)) (bar_lines s ∷ [])))) o
+  pub lines_step : lines_of w (map bar_lines (take i frame)) ++ lines_of w (bar_lines s ∷ []) ≡ lines_of w (map bar_lines (take (i + 1) frame))
+  lines_step = sym (ap (lines_of w) members_step ∙ lines_split w (map bar_lines (take i frame)) (bar_lines s ∷ []))
 
   pub narrow_step : some_wide w (all_lines (map bar_lines (take i frame))) ≡ false → some_wide w (bar_lines s).lines ≡ false → some_wide w (all_lines (map bar_lines (take (i + 1) frame))) ≡ false
   narrow_step a b = ap (λ ms. some_wide w (all_lines ms)) members_step
@@ -153,8 +143,8 @@ module _ (w h : ℕ) (frame : List Segment) (i : ℕ) (s : Segment) (within : i 
       ∙ ap (λ b. some_wide w (all_lines (map bar_lines (take i frame))) || b) (list_any-append (has_wide w) (bar_lines s).lines (all_lines (map bar_lines (drop (i + 1) frame))) ∙ rw e refl)
       ∙ or-true (some_wide w (all_lines (map bar_lines (take i frame))))
 
-  pub frame_refused : (before : List BarRows) (p : Plan) (cs : List RowCount) (e : Refusal) → IsPlaced w h before (bar_lines s) p cs (Err e) → IsWithheld w (all_lines (map bar_lines frame)) e
-  frame_refused before p cs e m = withheld_by w (bar_lines s).lines (all_lines (map bar_lines frame)) e wide_member m
+  pub frame_refused : (e : Refusal) → IsWithheld w (bar_lines s).lines e → IsWithheld w (all_lines (map bar_lines frame)) e
+  frame_refused e m = withheld_by w (bar_lines s).lines (all_lines (map bar_lines frame)) e wide_member m
 
 -- a member with a line is in a frame with one
 pub some_line : (frame : List Segment) (i : ℕ) (s : Segment) → i < length frame → get_or frame i s ≡ s → 0 < length (bar_lines s).lines → 0 < length (all_lines (map bar_lines frame))
@@ -183,9 +173,9 @@ planned w h pass frame p cs o e f = record {
   passing_rows_are = f;
 }
 
-pub nothing_of : (w h : ℕ) (before : List BarRows) (p : Plan) (cs : List RowCount) → IsLaidOut h before p cs → IsLaidOut h (before ++ lines_of w []) p cs
+pub no_bars : (w : ℕ) → lines_of w [] ≡ []
 unfolding lines_of
-nothing_of w h before p cs o = subst (λ ls. IsLaidOut h ls p cs) (sym (append-nil before)) o
+no_bars w = refl
 
 -- ---- the members that are passed on, and the others
 

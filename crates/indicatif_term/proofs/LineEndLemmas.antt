@@ -1,85 +1,21 @@
--- Where the last line that a plan shows ends, as lines are placed one after another.
+-- Where the last of some lines ends, and the spaces behind it.
 use Rattle.std.proofs.Common.{◌≡◌, ℕ, ◌+◌, ◌<◌, true, false, List, [], ◌∷◌, ◌++◌, length, map, take, replicate, get_or, refl, sym, ◌∙◌, ap, arith, append-nil, length-append, Option, Some, None, Bool, Bor, Result, Ok, Err, chars}
 use Rattle.std.proofs.lemmas.Str.{chars-nil}
 use Rattle.indicatif_text.specs.Columns.{last_columns, visible, rows_of}
 use Rattle.indicatif_text.specs.declared.columns.Metrics.{Metrics}
 use Rattle.indicatif_text.specs.declared.refusal.Refusal.{Refusal}
 use Rattle.std.specs.Prelude.{option_map, unwrap_or, fold}
-use Rattle.std.proofs.lemmas.Grind.{flat_map-append}
 use Rattle.std.proofs.lemmas.List.{take_more, take_all, take-map, map-append, take-append-le, length-take-le, nil_from_length}
-use Rattle.indicatif_term.specs.Frames.{line_text, bar_lines}
-use Rattle.indicatif_term.specs.Lists.{BarLines, blanks_for, fitting, lines_of, shown_rows, grouped, onto_segments, segments_height}
-use Rattle.indicatif_term.proofs.ShownRowLemmas.{frame_lines_le}
-use Rattle.indicatif_term.specs.Inside.Plans.{frame_lines, IsPlan, MeasuredLine, MeasuredText}
+use Rattle.indicatif_term.specs.Inside.Plans.{MeasuredLine, MeasuredText}
 use Rattle.indicatif_term.proofs.MeasureLemmas.{empty_height, empty_narrow}
-use Rattle.indicatif_term.specs.Inside.Fills.{PlanEndsAt, last_of, line_end, member_ends, frame_ends, fill_columns, line_or_none, last_or_none}
-use Rattle.indicatif_term.specs.declared.engine.lines.Segment.{Segment}
-use Rattle.indicatif_term.specs.declared.engine.lines.LineType.{LineType}
-use Rattle.indicatif_term.specs.declared.engine.layout.Plan.{Plan}
+use Rattle.indicatif_term.specs.Inside.Fills.{last_of, line_end, fill_columns, line_or_none, last_or_none}
+use Rattle.indicatif_term.specs.Inside.Changes.{PlacedLine}
+use Rattle.indicatif_term.specs.Standing.{placed, texts, AreLines}
+use Rattle.indicatif_term.specs.declared.engine.remembered.StandingLine.{StandingLine}
 use Rattle.std.proofs.Common.{subst}
-use Rattle.indicatif_term.specs.Inside.Owned.{no_plan}
 use Rattle.indicatif_term.proofs.LastLineLemmas.{last_push, last_append, some_last, fill_bytes, spaces_behind}
 
-pub nothing_ends : (p : Plan) → p ≡ no_plan → PlanEndsAt [] p
-nothing_ends p e = subst (PlanEndsAt []) (sym e) (record { lines_in = omega arith; all_in = λ e. refl; last_is = refl })
-
-module _ (before : List ℕ) (p p' : Plan) (e : PlanEndsAt before p) where
-  -- a line that is not shown, nor any after it
-  pub not_shown : (x : ℕ) → p'.lines ≡ p.lines → p'.last ≡ p.last → p'.full ≡ true → PlanEndsAt (before ++ x ∷ []) p'
-  not_shown x a b c = record {
-    lines_in = omega (arith, a, e.lines_in, length-append before (x ∷ []));
-    all_in = λ f. let no : true ≡ false = sym c ∙ f in cc;
-    last_is = b ∙ e.last_is ∙ ap last_of (sym (take-append-le p.lines before (x ∷ []) e.lines_in) ∙ ap (λ n. take n (before ++ x ∷ [])) (sym a));
-  }
-
-  -- one that is
-  pub is_shown : (x : ℕ) → p.full ≡ false → p'.lines ≡ p.lines + 1 → p'.last ≡ Some x → PlanEndsAt (before ++ x ∷ []) p'
-  is_shown x f a b =
-      let n : p'.lines ≡ length (before ++ x ∷ []) = omega (arith, a, e.all_in f, length-append before (x ∷ [])) in
-      record {
-        lines_in = omega (arith, n);
-        all_in = λ _. n;
-        last_is = b ∙ sym (last_push before x) ∙ ap last_of (sym (take_all p'.lines (before ++ x ∷ []) (omega (arith, n))));
-      }
-
-  -- the plan changes elsewhere
-  pub still_ends : p'.lines ≡ p.lines → p'.last ≡ p.last → p'.full ≡ p.full → PlanEndsAt before p'
-  still_ends a b c = record { lines_in = omega (arith, a, e.lines_in); all_in = λ f. a ∙ e.all_in (sym c ∙ f); last_is = b ∙ e.last_is ∙ ap (λ n. last_of (take n before)) (sym a) }
-
--- ---- line by line, member by member
-
-pub line_ends_step : (w : ℕ) (items : List LineType) (j : ℕ) (x : LineType) → j < length items → get_or items j x ≡ x →
-    map (λ line. line_end w (line_text line)) (take (j + 1) items) ≡ map (λ line. line_end w (line_text line)) (take j items) ++ line_end w (line_text x) ∷ []
-line_ends_step w items j x h e =
-    ap (map (λ line. line_end w (line_text line))) (take_more items j x h ∙ ap (λ y. take j items ++ y ∷ []) e) ∙ map-append (λ line. line_end w (line_text line)) (take j items) (x ∷ [])
-
-pub member_ends_step : (w : ℕ) (frame : List Segment) (i : ℕ) (s : Segment) → i < length frame → get_or frame i s ≡ s →
-    frame_ends w (take (i + 1) frame) ≡ frame_ends w (take i frame) ++ member_ends w s
-member_ends_step w frame i s h e =
-    ap (frame_ends w) (take_more frame i s h ∙ ap (λ y. take i frame ++ y ∷ []) e) ∙ flat_map-append (member_ends w) (take i frame) (s ∷ [])
-    ∙ ap (λ xs. frame_ends w (take i frame) ++ xs) (append-nil (member_ends w s))
-
 -- ---- what fills the last row
-
-both_maps : (w : ℕ) (items : List LineType) → map (line_end w) (map line_text items) ≡ map (λ line. line_end w (line_text line)) items
-both_maps w [] = refl
-both_maps w (x ∷ items) = ap (λ xs. line_end w (line_text x) ∷ xs) (both_maps w items)
-
-frame_ends_lines : (w : ℕ) (frame : List Segment) → map (line_end w) (frame_lines frame) ≡ frame_ends w frame
-frame_ends_lines w [] = refl
-frame_ends_lines w (s ∷ frame) =
-    map-append (line_end w) (map line_text s.lines.items) (frame_lines frame) ∙ cc (both_maps w s.lines.items, frame_ends_lines w frame)
-
-last_map : (f : List ℕ → ℕ) (lines : List (List ℕ)) → last_of (map f lines) ≡ option_map f (last_of lines)
-last_map f [] = refl
-last_map f (line ∷ []) = refl
-last_map f (line ∷ next ∷ lines) = last_map f (next ∷ lines)
-
--- the last line that a plan shows ends there
-pub plan_end : (w : ℕ) (frame : List Segment) (p : Plan) → PlanEndsAt (frame_ends w frame) p → p.last ≡ option_map (line_end w) (last_of (take p.lines (frame_lines frame)))
-plan_end w frame p e =
-    e.last_is ∙ ap (λ xs. last_of (take p.lines xs)) (sym (frame_ends_lines w frame)) ∙ ap last_of (take-map (line_end w) p.lines (frame_lines frame))
-    ∙ last_map (line_end w) (take p.lines (frame_lines frame))
 
 fill_by_last : (w : ℕ) (last : Option (List ℕ)) → replicate (fill_columns false w (option_map (line_end w) last)) 0x20 ≡ spaces_behind w last
 fill_by_last w None = refl
@@ -115,10 +51,6 @@ abbrev pub either : Option ℕ → Option ℕ → Option ℕ
 either None other = other
 either (Some n) other = Some n
 
-either_none : (o : Option ℕ) → o ≡ either o None
-either_none None = refl
-either_none (Some n) = refl
-
 either_line : (w : ℕ) (o : Option ℕ) (last : Option (List ℕ)) → (last ≡ None → ⊥) → Some (unwrap_or o (line_end w (line_or_none last))) ≡ either o (option_map (line_end w) last)
 either_line w None None h = absurd (h refl)
 either_line w None (Some line) h = refl
@@ -135,45 +67,26 @@ some_either w (Some line) other h = refl
 some_end : (w : ℕ) (line : List ℕ) (lines : List (List ℕ)) (other : Option ℕ) → option_map (line_end w) (last_of (line ∷ lines)) ≡ either (option_map (line_end w) (last_of (line ∷ lines))) other
 some_end w line lines other = some_either w (last_of (line ∷ lines)) other (some_last line lines)
 
-nothing_fits : (w h : ℕ) (frame : List BarLines) → length (fitting h (lines_of w frame)) ≡ 0 → segments_height (shown_rows w h frame) ≡ 0
-unfolding shown_rows grouped
-nothing_fits w h frame e = ap (λ ss. segments_height (fold onto_segments [] ss)) (nil_from_length (fitting h (lines_of w frame)) e)
+-- the last of lines ends where it is measured
+pub last_measured : (w : ℕ) (ls : List StandingLine) → AreLines w ls → option_map (λ (p : PlacedLine). p.last) (last_of (placed ls)) ≡ option_map (line_end w) (last_of (texts ls))
+last_measured w [] all = refl
+last_measured w (l ∷ []) all = ap Some all.0.last_is
+last_measured w (l ∷ k ∷ ls) all = last_measured w (k ∷ ls) all.1
 
--- blank lines are only written above others
-drawing_end : (w blanks : ℕ) (text shown : List (List ℕ)) → (length shown ≡ 0 → blanks ≡ 0) →
-    option_map (line_end w) (last_of (text ++ replicate blanks [] ++ shown)) ≡ either (option_map (line_end w) (last_of shown)) (option_map (line_end w) (last_of text))
-drawing_end w blanks text [] none =
-    let e : text ++ replicate blanks [] ++ [] ≡ text = append-nil (text ++ replicate blanks []) ∙ ap (λ n. text ++ replicate n []) (none refl) ∙ append-nil text in
-    ap (λ ls. option_map (line_end w) (last_of ls)) e
-drawing_end w blanks text (line ∷ lines) none =
-    ap (option_map (line_end w)) (last_append (text ++ replicate blanks []) (line ∷ lines) (omega arith)) ∙ some_end w line lines (option_map (line_end w) (last_of text))
+-- the spaces behind a draw of some lines
+pub draw_fill : (w : ℕ) (ls : List StandingLine) (below : Bool) (last : Option ℕ) (n : ℕ) → AreLines w ls → last ≡ option_map (λ (p : PlacedLine). p.last) (last_of (placed ls)) →
+    n ≡ fill_columns below w last → replicate n 0x20 ≡ fill_bytes below w (texts ls)
+draw_fill w ls below last n all e f = ap (λ n. replicate n 0x20) (f ∙ ap (fill_columns below w) (e ∙ last_measured w ls all)) ∙ fill_by below w (texts ls)
 
-no_blanks : (bottom : Bool) (taken text : ℕ) → blanks_for bottom taken text 0 ≡ 0
-no_blanks true taken text = refl
-no_blanks false taken text = refl
+either_both : (w : ℕ) (text lines : List (List ℕ)) → option_map (line_end w) (last_of (text ++ lines)) ≡ either (option_map (line_end w) (last_of lines)) (option_map (line_end w) (last_of text))
+either_both w text [] = ap (λ ls. option_map (line_end w) (last_of ls)) (append-nil text)
+either_both w text (line ∷ lines) = ap (option_map (line_end w)) (last_append text (line ∷ lines) (omega arith)) ∙ some_end w line lines (option_map (line_end w) (last_of text))
 
-module _ (w h pass blanks taken text_rows : ℕ) (bottom : Bool) (frame : List Segment) (p : Plan) (q : IsPlan w h pass (map bar_lines frame) p) (e : PlanEndsAt (frame_ends w frame) p)
-    (b : blanks ≡ blanks_for bottom taken text_rows p.rows) where
-  abbrev shown : List (List ℕ)
-  shown = take p.lines (frame_lines frame)
-
-  -- where no line of the frame is shown, no blank one is written
-  none_shown : length shown ≡ 0 → blanks ≡ 0
-  none_shown n =
-      let k : length (fitting h (lines_of w (map bar_lines frame))) ≡ 0 =
-      omega (arith, q.lines_are, n, length-take-le p.lines (frame_lines frame) (rw q.lines_are (frame_lines_le w h frame))) in
-      b ∙ ap (blanks_for bottom taken text_rows) (q.rows_are ∙ nothing_fits w h (map bar_lines frame) k) ∙ no_blanks bottom taken text_rows
-
-  -- the spaces behind a draw
-  pub draw_fill : (below : Bool) (n : ℕ) → n ≡ fill_columns below w p.last → replicate n 0x20 ≡ fill_bytes below w ([] ++ replicate blanks [] ++ shown)
-  draw_fill below n f =
-      ap (λ n. replicate n 0x20) (f ∙ ap (fill_columns below w) (plan_end w frame p e ∙ either_none _ ∙ sym (drawing_end w blanks [] shown none_shown)))
-      ∙ fill_by below w ([] ++ replicate blanks [] ++ shown)
-
-  -- those behind a log
-  pub log_fill : (below : Bool) (n last : ℕ) (text : List (List ℕ)) → 0 < length text → last ≡ unwrap_or p.last (line_end w (last_or_none text)) → n ≡ fill_columns below w (Some last) →
-      replicate n 0x20 ≡ fill_bytes below w (text ++ replicate blanks [] ++ shown)
-  log_fill below n last text some u f =
-      ap (λ n. replicate n 0x20) (f ∙ ap (fill_columns below w) (ap Some (u ∙ ap (λ o. unwrap_or o (line_end w (last_or_none text))) (plan_end w frame p e)) ∙ either_last w text _ some
-      ∙ sym (drawing_end w blanks text shown none_shown)))
-      ∙ fill_by below w (text ++ replicate blanks [] ++ shown)
+-- those behind a log of a text above some lines
+pub log_fill : (w : ℕ) (text : List (List ℕ)) (ls : List StandingLine) (below : Bool) (found : Option ℕ) (last n : ℕ) → 0 < length text → AreLines w ls →
+    found ≡ option_map (λ (p : PlacedLine). p.last) (last_of (placed ls)) → last ≡ unwrap_or found (line_end w (last_or_none text)) → n ≡ fill_columns below w (Some last) →
+    replicate n 0x20 ≡ fill_bytes below w (text ++ texts ls)
+log_fill w text ls below found last n some all e u f =
+    ap (λ n. replicate n 0x20) (f ∙ ap (fill_columns below w) (ap Some (u ∙ ap (λ o. unwrap_or o (line_end w (last_or_none text))) (e ∙ last_measured w ls all)) ∙ either_last w text _ some
+    ∙ sym (either_both w text (texts ls))))
+    ∙ fill_by below w (text ++ texts ls)

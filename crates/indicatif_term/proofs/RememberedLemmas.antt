@@ -21,9 +21,8 @@ use Rattle.indicatif_term.proofs.ShownRowLemmas.{lines_rows}
 use Rattle.indicatif_term.specs.Lists.{Lists, all_rows, live_rows, no_live, cleared, passed, kept_of, is_first}
 use Rattle.indicatif_term.specs.declared.engine.remembered.Remembered.{Remembered}
 use Rattle.indicatif_term.proofs.CountLemmas.{passed-rows, length-live}
-use Rattle.indicatif_term.specs.Inside.Places.{IsAt, IsThere, IsWithin}
+use Rattle.indicatif_term.specs.Inside.Places.{IsWithin}
 use Rattle.indicatif_term.specs.declared.engine.remembered.StandingLine.{StandingLine}
-use Rattle.indicatif_term.specs.declared.engine.beside.LineAt.{LineAt}
 use Rattle.indicatif_term.specs.declared.engine.beside.Room.{Room}
 use Rattle.indicatif_term.proofs.EditWalkLemmas.{height-append}
 
@@ -44,29 +43,6 @@ pub line_at : (w : ℕ) (ls : List StandingLine) (i : ℕ) (x : StandingLine) �
 line_at w [] i x all h e = absurd (omega arith)
 line_at w (y ∷ ls) zero x all h e = subst (IsLine w) e all.0
 line_at w (y ∷ ls) (suc i) x all h e = line_at w ls i x all.1 (omega arith) e
-
--- ---- places
-
-pub at_next : (w : ℕ) (ls : List StandingLine) (at : LineAt) (row : ℕ) (x : StandingLine) → at.index < length ls → get_or ls at.index x ≡ x → row ≡ min (at.row + x.rows) (2 ^ 64 - 1) →
-    AreLines w ls → IsAt w ls at →
-    IsAt w ls (record { index = at.index + 1; row = row })
-at_next w ls at row x h e r all is = λ small.
-    let exact : row ≡ at.row + x.rows = omega arith in
-    let here = is (omega arith) in
-    let l = line_at w ls at.index x all h e in
-    ap (λ n. drop n (standing_rows w ls)) exact ∙ sym (drop-drop x.rows at.row (standing_rows w ls)) ∙ ap (drop x.rows) (here ∙ ap (standing_rows w) (drop_more ls at.index x h e))
-    ∙ drop_at (rows_of w (chars (string_bytes x.text))) (standing_rows w (drop (at.index + 1) ls)) x.rows (sym l.rows_are)
-
--- a line that is the same as the one at a place stands there
-pub there_at : (w : ℕ) (ls : List StandingLine) (at : LineAt) (start : ℕ) (x y : StandingLine) → at.index < length ls → get_or ls at.index x ≡ x → start ≤ 65535 → at.row ≡ start →
-    string_bytes x.text ≡ string_bytes y.text → IsLine w y → IsAt w ls at → IsThere w ls start y
-there_at w ls at start x y h i small r s line is =
-    let rows : y.rows ≡ length (rows_of w (chars (string_bytes x.text))) = line.rows_are ∙ ap (λ t. length (rows_of w (chars t))) (sym s) in (
-      small,
-      ap (λ n. take y.rows (drop n (standing_rows w ls))) (sym r) ∙ ap (take y.rows) (is (omega arith) ∙ ap (standing_rows w) (drop_more ls at.index x h i))
-          ∙ take_at (rows_of w (chars (string_bytes x.text))) (standing_rows w (drop (at.index + 1) ls)) y.rows (sym rows)
-          ∙ ap (λ t. rows_of w (chars t)) s,
-    )
 
 -- the rows of lines and of others below them
 pub rows-append : (w : ℕ) (before ls : List StandingLine) → standing_rows w (before ++ ls) ≡ standing_rows w before ++ standing_rows w ls
@@ -220,8 +196,13 @@ pub none_behind : (w : ℕ) (ls : List StandingLine) → length ls ≡ 0 → 0 �
 none_behind w [] e = refl
 none_behind w (l ∷ ls) e = absurd (omega arith)
 
+pub last_line : (ls : List StandingLine) (k : ℕ) (x : StandingLine) → k + 1 ≡ length ls → get_or ls k x ≡ x → last_of (placed ls) ≡ Some (placed_of x)
+last_line ls k x n e =
+    let nothing : drop (k + 1) ls ≡ [] = nil_from_length (drop (k + 1) ls) (length-drop (k + 1) ls ∙ omega arith) in
+    ap last_of (split_around ls k x (omega arith) e ∙ ap (λ ys. placed (take k ls) ++ placed_of x ∷ placed ys) nothing) ∙ last_push (placed (take k ls)) (placed_of x)
+
 pub last_behind : (w : ℕ) (ls : List StandingLine) (k : ℕ) (x : StandingLine) → k + 1 ≡ length ls → get_or ls k x ≡ x → w - x.last ≡ free_behind w (last_of (placed ls))
-last_behind w ls k x n e = ap (free_behind w) (sym (last_push (placed (take k ls)) (placed_of x)) ∙ ap last_of (sym (up_to_last ls k x n e)))
+last_behind w ls k x n e = ap (free_behind w) (sym (last_line ls k x n e))
 
 pub lines_placed : (ls : List StandingLine) → placed_lines (placed ls) ≡ texts ls
 lines_placed [] = refl

@@ -168,17 +168,6 @@ draw_changes w h l c next pass blanks bottom frame plan ls room front last more 
     ap (λ xs. length (lines_rows w xs)) (split' ∙ sym t) ∙ sym (lines_height w ls all) in omega (arith, m, n, count))
     (λ a b. subst (Replaces w h l l' l.kept gone) (sym split') (drawn_goes w h pass bottom (map bar_lines frame) l lines a b rows))
 
-on_same : (r : Remembered) (v : ℕ) → r.width ≡ v → (if r.width == v then live_lines r else []) ≡ live_lines r
-on_same r v e = rw (eq-eqb r.width v e) refl
-
--- lines that sit on the live rows that are remembered sit on the live ones
-pub sits_live : (v w : ℕ) (r : Remembered) (on : List StandingLine) (l : Lists) (ps : List PlacedLine) → v ≡ w → 0 < v → r.width ≡ v →
-    on ≡ (if r.width == v then live_lines r else []) → AreRemembered r l → AreSitting v (looks_of (standing_rows v on)) ps → AreSitting w (looks_of (live_rows w l.live)) ps
-sits_live v w r on l ps same p e f a s =
-    let x = subst (λ n. AreStanding n r l) e (a (omega (arith, e))) in
-    let moved : AreSitting v (looks_of (standing_rows v (live_lines r))) ps = subst (λ xs. AreSitting v (looks_of (standing_rows v xs)) ps) (f ∙ on_same r v e) s in
-    subst (λ n. AreSitting n (looks_of (live_rows n l.live)) ps) same (subst (λ y. AreSitting v (looks_of y) ps) x.live_is moved)
-
 -- ---- what is written, counted
 
 pub counted_by : {T : Type 0} (bytes : List ℕ) (v v' : TermView) (next : Counts) (shown : Remembered) (r : Result Unit Refusal) (new : Engine T) → Remembers next shown r new → Draws bytes v v' r →

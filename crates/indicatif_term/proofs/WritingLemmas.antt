@@ -9,7 +9,7 @@ use Rattle.indicatif_term.proofs.PaintingLemmas.{paint_bytes}
 use Rattle.indicatif_term.specs.Inside.Changes.{PlacedLine, placed_height, placed_lines, frame_bytes, all_stay, ending, ended, among_bytes, free_behind}
 use Rattle.indicatif_term.specs.Inside.Fills.{last_of}
 use Rattle.indicatif_term.specs.Inside.Moves.{moved_bytes}
-use Rattle.indicatif_term.specs.Inside.Writings.{writing_bytes, IsSkipping, ArePlaceable}
+use Rattle.indicatif_term.specs.Inside.Writings.{writing_bytes}
 use Rattle.indicatif_term.specs.declared.engine.counts.Fresh.{Fresh}
 use Rattle.indicatif_term.specs.declared.engine.remembered.StandingLine.{StandingLine}
 use Rattle.indicatif_term.specs.declared.engine.writing.Manner.TheVariants.{Among, Over}
@@ -63,17 +63,3 @@ over_written anew below f rows w ls none =
     let a = if anew then anew_bytes else [] in
     let m = moved_bytes w rows (placed ls) in
     ap (λ r. (a ++ (r ++ [])) ++ (m ++ [])) (ap (reach_bytes f.down) none) ∙ ap (λ x. x ++ (m ++ [])) (append-nil a) ∙ ap (λ x. a ++ x) (append-nil m)
-
--- lines of which only what changes is written, in their rows
-pub skipping_written : (n w : ℕ) (p : Writing) (ls : List StandingLine) (front : List PlacedLine) (last : PlacedLine) → IsSkipping n w p → n ≡ length ls → placed ls ≡ front ++ last ∷ [] →
-    writing_bytes p [] ls ≡ change_bytes w 0 front last []
-skipping_written n w p ls front last is all s =
-    let set = λ (k : ℕ). writing_bytes (record { anew = false; fresh = is.fresh; below = false; taken = 0; manner = Among n; width = w; ends_below = false; fill = k }) [] ls in
-    let none : length (drop n ls) ≡ 0 = length-drop n ls ∙ omega arith in
-    ap (λ z. writing_bytes z [] ls) is.is ∙ ap set (none_behind w (drop n ls) none)
-    ∙ among_written false is.fresh 0 n w ls front last [] is.none s (omega (arith, all, ap length s, length-map ls placed_of, length-append front (last ∷ [])))
-
-pub all_placeable : (ls : List StandingLine) → placed_height (placed ls) ≤ 65535 → AreReady ls → ArePlaceable (length ls) ls
-all_placeable ls low ready =
-    let all : take (length ls) ls ≡ ls = take_all (length ls) ls (omega arith) in
-    record { in_lines = omega arith; small = omega (arith, ap (λ xs. placed_height (placed xs)) all, low); ready = ready_take ls (length ls) ready }

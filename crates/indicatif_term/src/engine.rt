@@ -24,11 +24,11 @@
 //!
 //! What differs:
 //!
-//! - `renewed`: the lines of a frame that has the same rows as the last one, each compared with the one in its place (`NewLine`).
-//! - `layout`: a frame with other rows, or a logged text: `Plan`, which lines are shown, and how many rows they take.
-//! - `beside`: the lines of such a drawing beside those that stand there: which are the same, on the same rows (`SizedLine`, `Beside`,
-//!   `Room`)?
+//! - `layout`: a frame beside the lines that stand, in one pass (`Laid`): which of these stay, which new ones come in their place, which are
+//!   written below; and how many rows all take (`Plan`).
+//! - `beside`: the lines that stand there (`Beside`), blank ones above a frame, and the room that is left for it (`Room`).
 //! - `comparing`: what becomes of one line where another text comes in its place (`Turn`): edited, or written as a whole?
+//! - `renewed`: new lines (`NewLine`) in the place of those that stand.
 //! - `parting`: the byte where two texts of one row part (`Part`, `Step`), before the first escape character or among colours; how many
 //!   characters of one column follow?
 //! - `inks`: a text read cell by cell, with the colour sequences that are open at each (`InkedText`, `Colours`).
@@ -67,15 +67,14 @@ pub(crate) mod spare;
 pub(crate) mod window;
 pub(crate) mod writing;
 
-use crate::engine::beside::{Room, below_blanks, height_of, lines_among, lines_within};
+use crate::engine::beside::{Room, height_of, last_column, lines_within};
 use crate::engine::changing::fill_behind;
-use crate::engine::counts::{Counts, Fresh, Keep, blanks_of};
-use crate::engine::layout::{plan_drawing, run_of};
+use crate::engine::counts::{Counts, Fresh, Keep};
+use crate::engine::layout::{Asked, Last, plan_drawing, run_of};
 use crate::engine::lines::Segment;
 use crate::engine::moving::are_even;
 use crate::engine::recutting::{CutLines, Widths};
 use crate::engine::remembered::{NextLines, Remembered, Span, StandingLine};
-use crate::engine::renewed::{Last, NewLine, new_lines};
 use crate::engine::spare::Spare;
 use crate::engine::window::Window;
 use crate::engine::writing::{Drawing, Manner, Writing, write};
@@ -135,17 +134,16 @@ impl<T: Drop> Drop for Engine<T> {
 
 impl<T: TermLike + Drop> Engine<T> {
     ghost use Rattle.indicatif_term.specs.Lists.{Lists, drawn, logged, cleared, kept_of, fate};
-    ghost use Rattle.indicatif_term.specs.Inside.Writings.{CanWrite, IsChosen, writing_bytes};
+    ghost use Rattle.indicatif_term.specs.Inside.Writings.{CanWrite, writing_bytes};
     ghost use Rattle.indicatif_term.specs.Calls.{TermView, Writes};
     ghost use Rattle.indicatif_term.specs.Frames.{bar_lines, all_lines, are_plain, logged_lines, text_lines, is_fault};
     ghost use Rattle.indicatif_term.specs.Inside.Plans.{frame_lines, text_above};
     ghost use Rattle.indicatif_term.specs.Engines.{engine_moves, engine_term, Fits, is_failure, Answers, Counted, Paints, lists_after};
-    ghost use Rattle.indicatif_term.specs.Inside.Remembering.{Draws, Remembers, IsNext, IsNothing, HasRoom, CanMove};
+    ghost use Rattle.indicatif_term.specs.Inside.Remembering.{Draws, Remembers, IsNext, IsNothing};
+    ghost use Rattle.indicatif_term.specs.Inside.Layouts.{AreWhole, ArePut};
     ghost use Rattle.indicatif_term.specs.Remembered.{live_lines};
-    ghost use Rattle.indicatif_term.specs.Inside.Changes.{placed_height};
-    ghost use Rattle.indicatif_term.specs.Inside.Renewed.{AreFitting, AreInPlace, AreOver, Renews};
-    ghost use Rattle.indicatif_term.specs.Inside.Places.{IsWithin};
-    ghost use Rattle.indicatif_term.specs.Standing.{placed, AreReady, AreLines};
+    ghost use Rattle.indicatif_term.specs.Inside.Renewed.{AreFitting};
+    ghost use Rattle.indicatif_term.specs.Standing.{AreLines};
     ghost use Rattle.indicatif_term.specs.Shows.{IsOpening, Rests, resting};
     ghost use Rattle.indicatif_term.specs.Screen.{Screen};
     ghost use Rattle.indicatif_term.specs.Terminal.{Terminal};
@@ -237,9 +235,9 @@ impl<T: TermLike + Drop> Engine<T> {
     /// then become kept rows, with the blank rows above them.
     ///
     /// As many lines from the front are written as have at most the terminal's rows together, and none where the frame stands as it is.
-    /// One pass over the frame before the first byte, two over the lines at its front that stand there, one while writing. Memory for
-    /// its lines, where earlier drawings left no room for them, is taken before the first byte. The lines of kept rows
-    /// aren't copied; the room of the list that holds them grows with it.
+    /// One pass over the frame before the first byte, beside the lines that stand there; two where their blank rows are others then. Some over
+    /// the lines of the drawing, one of them while writing. Memory for new texts, where earlier drawings left no room for them, is taken before
+    /// the first byte. The lines of kept rows and those that stay aren't copied; the room of the list that holds them grows with it.
     ///
     /// Refused: `NoColumns` where the terminal has no columns; `TooWide` where any line, also one past the terminal's
     /// rows, holds a character wider than the terminal; `Memory`, also in place of `TooWide`, and never where the frame has no
@@ -266,68 +264,37 @@ impl<T: TermLike + Drop> Engine<T> {
             Paints s (T.view (engine_term self.new)) (is_failure result) l (lists_after result l
             (drawn s.columns s.rows (is_bottom alignment) pass (map bar_lines frame.now) l)) }
     {
-        let may_stay = self.may_stay(pass);
-        let before = Last::of(&self.shown, &self.counts, may_stay);
-        let Some(changed) = new_lines(&mut self.spare, &self.term, before, frame) else {
-            return self.draw_anew(frame, pass, alignment);
+        let asked = Asked {
+            text: None,
+            frame,
+            pass,
+            bottom: alignment.is_bottom(),
         };
-        self.shown.put_new(&mut self.spare, changed);
-        let lines = self.shown.live().len();
-        let writing = Writing::skipping(lines, self.shown.width);
-        let from = self.shown.kept;
-        self.write(&writing, None, from)
-    }
-
-    /// Draws the frame by a plan of it, where some of its rows are others than those that stand.
-    #[inline(never)]
-    fn draw_anew(
-        &mut self,
-        frame: &[Segment],
-        pass: usize,
-        alignment: MultiProgressAlignment,
-    ) -> Result<(), Refusal>
-        ensures answer { Answers (T.view (engine_term self.old)).columns
-            (all_lines (map bar_lines frame.now)) result }
-        ensures counted { Counted (T.view (engine_term self.old)) (T.view (engine_term self.new)) result }
-        ensures moves { engine_moves self.new ≡ engine_moves self.old }
-        ensures memory { result ≡ Err Refusal.Memory →
-            (0 < (T.view (engine_term self.old)).columns) × (0 < length (all_lines (map bar_lines frame.now))) }
-        ensures unchanged { IfErr result (λ e. IsFalse (is_fault e) → self.new ≡ self.old) }
-        ensures lists { (l : Lists) → Fits self.old l → let s = T.view (engine_term self.old) in
-            Fits self.new (lists_after result l
-            (drawn s.columns s.rows (is_bottom alignment) pass (map bar_lines frame.now) l)) }
-        ensures paints { (l : Lists) → Fits self.old l →
-            IsTrue (are_plain (all_lines (map bar_lines frame.now))) →
-            let s = T.view (engine_term self.old) in
-            Paints s (T.view (engine_term self.new)) (is_failure result) l (lists_after result l
-            (drawn s.columns s.rows (is_bottom alignment) pass (map bar_lines frame.now) l)) }
-    {
-        let planned = plan_drawing(&self.term, &self.shown, &mut self.spare, None, frame, pass)?;
+        let before = Before {
+            counts: self.counts,
+            failed: self.failed,
+            moves: self.moves,
+            width: self.shown.width,
+        };
+        let last = Last {
+            shown: &self.shown,
+            blanks: before.counts.blanks,
+            taken: before.counts.live,
+        };
+        let planned = plan_drawing(&self.term, &mut self.spare, last, asked)?;
         let window = planned.window;
         let width = window.columns;
-        let plan = planned.plan;
-        let taken = self.counts.live;
-        let blanks = blanks_of(alignment.is_bottom(), taken, plan.rows);
-        let standing = self.shown.on(width);
-        let lines = lines_among(&mut self.spare, standing, blanks, planned.lines)?;
+        let laid = planned.laid;
+        let plan = laid.plan;
+        let blanks = laid.blanks;
         let kept = plan.kept_below(blanks);
-        let end = self.counts.kept + (blanks + plan.rows);
-        let fresh = self.counts.fresh(end, window.rows);
-        let counts = self.counts.drawn(plan, blanks, window.rows);
-        let whole = Writing {
-            anew: self.failed,
-            fresh,
-            below: self.counts.below,
-            taken,
-            manner: Manner::Among(0),
-            width,
-            ends_below: counts.below,
-            fill: counts.fill(plan.last, width),
-        };
-        let writing = self.chosen(whole, &counts, &lines);
-        let above = self.shown.above(width, self.counts.kept);
-        let next = NextLines { lines, kept };
+        let end = before.counts.kept + (blanks + plan.rows);
+        let fresh = before.counts.fresh(end, window.rows);
+        let counts = before.counts.drawn(plan, blanks, window.rows);
+        let above = self.shown.above(width, before.counts.kept);
+        let next = NextLines { laid, kept };
         let from = self.store(counts, above, next, width)?;
+        let writing = before.writing(fresh, &counts, self.shown.behind(from), width);
         self.write(&writing, None, from)
     }
 
@@ -362,40 +329,43 @@ impl<T: TermLike + Drop> Engine<T> {
             (logged s.columns s.rows (is_bottom alignment)
             (text_lines (logged_lines text.now)) (map bar_lines frame.now) l)) }
     {
-        let planned = plan_drawing(
-            &self.term,
-            &self.shown,
-            &mut self.spare,
-            Some(text),
+        let asked = Asked {
+            text: Some(text),
             frame,
-            0,
-        )?;
+            pass: 0,
+            bottom: alignment.is_bottom(),
+        };
+        let old = self.counts;
+        let anew = self.failed;
+        let taken = old.kept + old.live;
+        let last = Last {
+            shown: &self.shown,
+            blanks: 0,
+            taken,
+        };
+        let planned = plan_drawing(&self.term, &mut self.spare, last, asked)?;
         let window = planned.window;
         let metrics = planned.text;
-        let plan = planned.plan;
-        let taken = self.counts.kept + self.counts.live;
-        let free = taken.saturating_sub(metrics.height);
-        let blanks = blanks_of(alignment.is_bottom(), free, plan.rows);
-        let lines = below_blanks(&mut self.spare, blanks, planned.lines)?;
-        let last = plan.last.unwrap_or(metrics.last_line_width);
+        let laid = planned.laid;
+        let plan = laid.plan;
+        let blanks = laid.blanks;
         let end = metrics.height.saturating_add(blanks + plan.rows);
-        let fresh = self.counts.fresh(end, window.rows);
-        let counts = self
-            .counts
-            .logged(metrics.height, plan, blanks, window.rows);
+        let fresh = old.fresh(end, window.rows);
+        let counts = old.logged(metrics.height, plan, blanks, window.rows);
+        let above = Span { from: 0, to: 0 };
+        let next = NextLines { laid, kept: 0 };
+        let from = self.store(counts, above, next, window.columns)?;
+        let last = last_column(self.shown.behind(from)).unwrap_or(metrics.last_line_width);
         let writing = Writing {
-            anew: self.failed,
+            anew,
             fresh,
-            below: self.counts.below,
+            below: old.below,
             taken,
             manner: Manner::Among(0),
             width: window.columns,
             ends_below: counts.below,
             fill: counts.fill(Some(last), window.columns),
         };
-        let above = Span { from: 0, to: 0 };
-        let next = NextLines { lines, kept: 0 };
-        let from = self.store(counts, above, next, window.columns)?;
         self.write(&writing, Some(text), from)
     }
 
@@ -455,8 +425,8 @@ impl<T: TermLike + Drop> Engine<T> {
         Keep::Passed
     }
 
-    /// Remembers the next counts, and new lines below some of those that stand, which are about to be written: from which on those are
-    /// the new ones. Refused: `Memory`, where there is a new line; all is unchanged then.
+    /// Remembers the next counts, and a frame that was laid out in the place of the live lines, which is about to be written, below some that
+    /// stand: from which on its lines stand. Refused: `Memory`, where there is a line below; all is unchanged then.
     fn store(
         &mut self,
         counts: Counts,
@@ -464,91 +434,27 @@ impl<T: TermLike + Drop> Engine<T> {
         next: NextLines,
         width: usize,
     ) -> Result<usize, Refusal>
-        requires within { above.to ≤ length self.old.shown.lines }
-        requires right { 0 < width → AreLines width (drop above.from (take above.to self.old.shown.lines) ++ next.lines.items) }
-        requires suits { (r : Remembered) → IsNext width next.kept (drop above.from (take above.to self.old.shown.lines)) next.lines.items r →
-            ∥ ((l : Lists) × Suits counts false r l) ∥₁ }
-        ensures refused { IfErr result (λ e. (e ≡ Refusal.Memory) × (0 < length next.lines.items) × (self.new ≡ self.old)) }
-        ensures next { IfOk result (λ from. IsNext width next.kept (drop above.from (take above.to self.old.shown.lines)) next.lines.items self.new.shown
-            × (from ≤ length self.new.shown.lines) × (drop from self.new.shown.lines ≡ next.lines.items)) }
+        requires some { 0 < width }
+        requires within { above.to + next.laid.at ≤ length self.old.shown.lines }
+        requires known { 0 < next.laid.at → (self.old.shown.width ≡ width) × (above.to ≡ self.old.shown.kept) }
+        requires fit { AreFitting width (live_lines self.old.shown) next.laid.at next.laid.changed.items }
+        requires right { AreLines width (drop above.from (take above.to self.old.shown.lines)) }
+        requires more { AreLines width next.laid.more.items × AreWhole next.laid.more.items }
+        requires suits { (r : Remembered) (ls : List StandingLine) → ArePut width (live_lines self.old.shown) next.laid ls →
+            IsNext width next.kept (drop above.from (take above.to self.old.shown.lines)) ls r → ∥ ((l : Lists) × Suits counts false r l) ∥₁ }
+        ensures refused { IfErr result (λ e. (e ≡ Refusal.Memory) × (0 < length next.laid.more.items) × (self.new ≡ self.old)) }
+        ensures next { IfOk result (λ from. (ls : List StandingLine) × ArePut width (live_lines self.old.shown) next.laid ls
+            × IsNext width next.kept (drop above.from (take above.to self.old.shown.lines)) ls self.new.shown
+            × (from ≤ length self.new.shown.lines) × (drop from self.new.shown.lines ≡ ls)) }
         ensures made { IfOk result (λ _. (self.new.counts ≡ counts) × (self.new.failed ≡ false)) }
         ensures terminal { engine_term self.new ≡ engine_term self.old }
         ensures moves { engine_moves self.new ≡ engine_moves self.old }
     {
         let from = above.to - above.from;
-        self.shown.put_below(&mut self.spare, above, next, width)?;
+        self.shown.put(&mut self.spare, above, next, width)?;
         self.counts = counts;
         self.failed = false;
         Ok(from)
-    }
-
-    /// Whether lines can be written over the live rows by moves alone, if `set_move_cursor` was told so.
-    fn can_move(&self, next: &Counts, lines: &[StandingLine], width: usize) -> bool
-        ensures { IsTrue result → CanMove self.now.counts self.now.failed self.now.shown next.now width lines.now }
-    {
-        let live = self.counts.live;
-        if !self.moves || self.failed || next.below || lines.is_empty() {
-            return false;
-        }
-        if self.counts.below != (live == 0) || height_of(lines) < live {
-            return false;
-        }
-        if live > 0 && self.shown.width != width || self.goes_further(lines) {
-            return false;
-        }
-        are_even(lines, width)
-    }
-
-    /// Whether lines take more rows than the live ones where anything may stand below.
-    fn goes_further(&self, lines: &[StandingLine]) -> bool
-        ensures { IsFalse result → IsTrue self.now.counts.under → min (placed_height (placed lines.now)) (2 ^ 64 - 1) ≤ self.now.counts.live }
-    {
-        self.counts.under && height_of(lines) > self.counts.live
-    }
-
-    /// Whether a draw may be left out where it changes nothing: no call has failed, the cursor needn't move, and no member passes.
-    fn may_stay(&self, pass: usize) -> bool
-        ensures { result ≡ true → (self.now.failed ≡ false) × (pass ≡ 0) }
-    {
-        !self.failed && !self.moves && pass == 0
-    }
-
-    /// How lines stand in the place of the live rows, if those that stay can be left; else all lines are painted.
-    fn room_for(&self, next: &Counts, lines: &[StandingLine], width: usize) -> Option<Room>
-        ensures { IfSome result (λ room. HasRoom self.now.counts self.now.failed self.now.shown next.now width lines.now × IsWithin lines.now self.now.counts.live room) }
-    {
-        if self.failed || self.counts.below || next.below || self.goes_further(lines) {
-            return None;
-        }
-        if self.shown.width != width || width > 65535 {
-            return None;
-        }
-        lines_within(lines, self.counts.live)
-    }
-
-    /// How lines are written that may be written whole: over the live rows, among those that stay, or whole.
-    fn chosen(&self, whole: Writing, next: &Counts, lines: &[StandingLine]) -> Writing
-        ensures { IsChosen self.now.counts self.now.failed self.now.shown next.now lines.now whole result }
-    {
-        if self.can_move(next, lines, whole.width) {
-            return Writing {
-                fresh: Fresh::none(),
-                taken: 0,
-                manner: Manner::Over(whole.taken),
-                fill: 0,
-                ..whole
-            };
-        }
-        match self.room_for(next, lines, whole.width) {
-            Some(room) => Writing {
-                fresh: Fresh::none(),
-                taken: room.free,
-                manner: Manner::Among(room.lines),
-                fill: fill_behind(&lines[room.lines..], whole.width),
-                ..whole
-            },
-            None => whole,
-        }
     }
 
     /// Writes this text, and the remembered lines behind the first `from`.
@@ -715,6 +621,104 @@ impl<T: Resize + Drop> Engine<T> {
             return Ok(CutLines::none(self.alloc));
         }
         self.shown.cut(self.alloc, widths)
+    }
+}
+
+/// What an engine knows of its rows before a drawing: their counts, whether a call has failed, whether lines are written over those that stand
+/// where they can be, and the columns of the terminal on which they are remembered.
+#[derive(Clone, Copy)]
+struct Before {
+    counts: Counts,
+    failed: bool,
+    moves: bool,
+    width: usize,
+}
+
+impl Before {
+    ghost use Rattle.indicatif_term.specs.Inside.Remembering.{HasRoom, CanMove};
+    ghost use Rattle.indicatif_term.specs.Inside.Writings.{IsChosen, whole_writing};
+    ghost use Rattle.indicatif_term.specs.Inside.Changes.{placed_height};
+    ghost use Rattle.indicatif_term.specs.Inside.Places.{IsWithin};
+    ghost use Rattle.indicatif_term.specs.Standing.{placed};
+
+    /// Whether lines can be written over the live rows by moves alone, if `set_move_cursor` was told so.
+    fn can_move(&self, next: &Counts, lines: &[StandingLine], width: usize) -> bool
+        ensures { IsTrue result → CanMove self.now.counts self.now.failed self.now.width next.now width lines.now }
+    {
+        let live = self.counts.live;
+        if !self.moves || self.failed || next.below || lines.is_empty() {
+            return false;
+        }
+        if self.counts.below != (live == 0) || height_of(lines) < live {
+            return false;
+        }
+        if live > 0 && self.width != width || self.goes_further(lines) {
+            return false;
+        }
+        are_even(lines, width)
+    }
+
+    /// Whether lines take more rows than the live ones where anything may stand below.
+    fn goes_further(&self, lines: &[StandingLine]) -> bool
+        ensures { IsFalse result → IsTrue self.now.counts.under → min (placed_height (placed lines.now)) (2 ^ 64 - 1) ≤ self.now.counts.live }
+    {
+        self.counts.under && height_of(lines) > self.counts.live
+    }
+
+    /// How lines stand in the place of the live rows, if those that stay can be left; else all lines are painted.
+    fn room_for(&self, next: &Counts, lines: &[StandingLine], width: usize) -> Option<Room>
+        ensures { IfSome result (λ room. HasRoom self.now.counts self.now.failed self.now.width next.now width lines.now × IsWithin lines.now self.now.counts.live room) }
+    {
+        if self.failed || self.counts.below || next.below || self.goes_further(lines) {
+            return None;
+        }
+        if self.width != width || width > 65535 {
+            return None;
+        }
+        lines_within(lines, self.counts.live)
+    }
+
+    /// How the lines of a draw are written, which goes on with these counts: as `chosen` says.
+    fn writing(&self, fresh: Fresh, next: &Counts, lines: &[StandingLine], width: usize) -> Writing
+        ensures { IsChosen self.now.counts self.now.failed self.now.width next.now lines.now
+            (whole_writing self.now.counts self.now.failed fresh next.now width lines.now) result }
+    {
+        let whole = Writing {
+            anew: self.failed,
+            fresh,
+            below: self.counts.below,
+            taken: self.counts.live,
+            manner: Manner::Among(0),
+            width,
+            ends_below: next.below,
+            fill: next.fill(last_column(lines), width),
+        };
+        self.chosen(whole, next, lines)
+    }
+
+    /// How lines are written that may be written whole: over the live rows, among those that stay, or whole.
+    fn chosen(&self, whole: Writing, next: &Counts, lines: &[StandingLine]) -> Writing
+        ensures { IsChosen self.now.counts self.now.failed self.now.width next.now lines.now whole result }
+    {
+        if self.can_move(next, lines, whole.width) {
+            return Writing {
+                fresh: Fresh::none(),
+                taken: 0,
+                manner: Manner::Over(whole.taken),
+                fill: 0,
+                ..whole
+            };
+        }
+        match self.room_for(next, lines, whole.width) {
+            Some(room) => Writing {
+                fresh: Fresh::none(),
+                taken: room.free,
+                manner: Manner::Among(room.lines),
+                fill: fill_behind(&lines[room.lines..], whole.width),
+                ..whole
+            },
+            None => whole,
+        }
     }
 }
 

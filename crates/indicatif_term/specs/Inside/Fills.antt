@@ -29,19 +29,3 @@ abbrev pub fill_columns : Bool → ℕ → Option ℕ → ℕ
 fill_columns true w last = 0
 fill_columns false w None = 0
 fill_columns false w (Some n) = w - n
-
--- ---- how the lines of a frame end
-
--- the columns that each line of a member takes of its last row
-abbrev pub member_ends : ℕ → Segment → List ℕ
-member_ends w member = map (λ line. line_end w (line_text line)) member.lines.items
-
--- the columns that each line of a frame takes of its last row
-abbrev pub frame_ends : ℕ → List Segment → List ℕ
-frame_ends w frame = flat_map (member_ends w) frame
-
--- a plan knows where the last line that it shows ends
-pub record PlanEndsAt (ends : List ℕ) (p : Plan) : Type 0 where
-  pub lines_in : p.lines ≤ length ends
-  pub all_in : p.full ≡ false → p.lines ≡ length ends
-  pub last_is : p.last ≡ last_of (take p.lines ends)

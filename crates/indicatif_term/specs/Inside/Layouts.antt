@@ -1,32 +1,120 @@
--- The lines that a plan shows.
-use Rattle.std.specs.Prelude.{◌≡◌, ℕ, ◌≤◌, false, IsTrue, IsFalse, List, [], ◌∷◌, length, take, drop, string_bytes, Option, IfSome}
+-- A frame laid out beside the lines that stand.
+use Rattle.std.specs.Prelude.{◌≡◌, ℕ, ◌+◌, ◌-◌, ◌<◌, ◌≤◌, ◌^◌, min, max, false, Bool, IsTrue, IsFalse, List, [], ◌++◌, map, length, take, drop, get_or, replicate, Result, MatchResult}
 use Rattle.std.specs.List.{AllByRecursion}
-use Rattle.indicatif_text.specs.Columns.{has_wide, rows_of, last_columns}
+use Rattle.indicatif_text.specs.Columns.{Cell, has_wide, rows_of, last_columns}
+use Rattle.indicatif_text.specs.declared.refusal.Refusal.{Refusal}
+use Rattle.indicatif_term.specs.Lists.{BarRows, lines_of, blanks_for}
+use Rattle.indicatif_term.specs.Calls.{TermView}
+use Rattle.indicatif_term.specs.Shows.{looks_of}
+use Rattle.indicatif_term.specs.Counts.{RowCount, line_counts}
+use Rattle.indicatif_term.specs.Frames.{bar_lines, all_lines, text_lines, some_wide}
+use Rattle.indicatif_term.specs.Remembered.{live_lines}
 use Rattle.indicatif_term.specs.Inside.Edits.{AreSingle}
-use Rattle.indicatif_term.specs.Standing.{texts, AreLines}
-use Rattle.indicatif_term.specs.declared.engine.layout.Plan.{Plan}
-use Rattle.indicatif_term.specs.declared.engine.beside.SizedLine.{SizedLine}
+use Rattle.indicatif_term.specs.Inside.Owned.{blank_count}
+use Rattle.indicatif_term.specs.Inside.Fills.{line_end, last_or_none}
+use Rattle.indicatif_term.specs.Inside.Changes.{AreSitting}
+use Rattle.indicatif_term.specs.Inside.Plans.{IsPlan, IsSummed, IsLaidOut, IsWithheld, frame_lines, text_height}
+use Rattle.indicatif_term.specs.Inside.Renewed.{AreFitting, renewed}
+use Rattle.indicatif_term.specs.Standing.{placed, texts, standing_rows, AreLines, AreReady}
+use Rattle.indicatif_term.specs.declared.engine.comparing.Turn.{Turn}
+use Rattle.indicatif_term.specs.declared.engine.layout.Laid.{Laid}
+use Rattle.indicatif_term.specs.declared.engine.layout.Planned.{Planned}
+use Rattle.indicatif_term.specs.declared.engine.lines.Segment.{Segment}
+use Rattle.indicatif_term.specs.declared.engine.parting.Step.TheVariants.{Whole}
+use Rattle.indicatif_term.specs.declared.engine.remembered.Remembered.{Remembered}
 use Rattle.indicatif_term.specs.declared.engine.remembered.StandingLine.{StandingLine}
 
 -- a line of these characters agrees with its measures
-pub record IsSized (w : ℕ) (line : List ℕ) (l : SizedLine) : Type 0 where
-  pub rows_are : l.rows ≡ length (rows_of w line)
-  pub last_is : l.last ≡ last_columns w line
+pub record IsSized (w : ℕ) (line : List ℕ) (t : Turn) : Type 0 where
+  pub rows_are : t.rows ≡ length (rows_of w line)
+  pub last_is : t.last ≡ last_columns w line
   pub narrow : IsFalse (has_wide w line)
-  pub single : IsTrue l.narrow → AreSingle line
+  pub single : IsTrue t.narrow → AreSingle line
 
--- the line at that index, if there is one, has these bytes
-abbrev pub IsLike : List StandingLine → List ℕ → Option ℕ → Type 0
-IsLike on text like = IfSome like (λ i. take 1 (drop i (texts on)) ≡ text ∷ [])
+-- lines that are written as a whole
+abbrev pub AreWhole : List StandingLine → Type 0
+AreWhole ls = AllByRecursion (λ (l : StandingLine). l.step ≡ Whole) ls
 
--- each line names the one of these that has its bytes
-abbrev pub AreLike : List StandingLine → List StandingLine → Type 0
-AreLike on ls = AllByRecursion (λ (l : StandingLine). IsLike on (string_bytes l.text) l.like) ls
+-- the first so many lines are blank ones
+pub record AreBlank (blanks : ℕ) (on : List StandingLine) : Type 0 where
+  pub in_lines : blanks ≤ length on
+  pub empty : texts (take blanks on) ≡ replicate blanks []
+  pub counts : line_counts (take blanks on) ≡ replicate blanks blank_count
 
--- these are the lines that a plan shows, of lines with these bytes, beside others
-pub record HasLines (w : ℕ) (on : List StandingLine) (before : List (List ℕ)) (p : Plan) (ls : List StandingLine) : Type 0 where
-  pub lines_in : p.lines ≤ length before
-  pub all_in : p.full ≡ false → p.lines ≡ length before
-  pub texts_are : texts ls ≡ take p.lines before
-  pub measured : AreLines w ls
-  pub alike : AreLike on ls
+-- ---- beside the lines that stand
+
+-- those that keep their rows, and the lines below them
+abbrev pub laid_lines : List StandingLine → Laid → List StandingLine
+laid_lines on l = take l.at on ++ l.more.items
+
+-- behind the blank ones
+abbrev pub own_lines : List StandingLine → Laid → List StandingLine
+own_lines on l = drop l.blanks (laid_lines on l)
+
+-- their texts, with those of the new lines
+abbrev pub laid_texts : List StandingLine → Laid → List (List ℕ)
+laid_texts on l = take l.at (renewed (texts on) l.changed.items) ++ texts l.more.items
+
+-- a line stands where the next one of this bar is to stand
+pub record IsBeside (h : ℕ) (on : List StandingLine) (l : Laid) (bar : ℕ) (x : StandingLine) : Type 0 where
+  pub none_below : l.more.items ≡ []
+  pub not_full : l.plan.full ≡ false
+  pub within : l.at < length on
+  pub line_is : get_or on l.at x ≡ x
+  pub bar_is : x.bar ≡ bar
+  pub fits : x.rows ≤ h - l.plan.rows
+
+-- so many blank lines, and the lines of a frame that its plan shows, of lines with these bytes, bars and rows
+pub record IsLaid (w h : ℕ) (on : List StandingLine) (before : List (List ℕ)) (bars : List BarRows) (l : Laid) : Type 0 where
+  pub at_in : l.at ≤ length on
+  pub blanks_in : l.blanks ≤ l.at + length l.more.items
+  pub fit : AreFitting w on l.at l.changed.items
+  pub lines_in : l.plan.lines ≤ length before
+  pub all_in : l.plan.full ≡ false → l.plan.lines ≡ length before
+  pub texts_are : laid_texts on l ≡ replicate l.blanks [] ++ take l.plan.lines before
+  pub counts : List RowCount
+  pub counts_are : line_counts (laid_lines on l) ≡ replicate l.blanks blank_count ++ counts
+  pub laid : IsLaidOut h bars l.plan counts
+  pub measured : AreLines w l.more.items
+  pub whole : AreWhole l.more.items
+
+-- a frame laid out, with the first `pass` members dropped
+pub record IsFrameLaid (w h pass : ℕ) (on : List StandingLine) (frame : List Segment) (l : Laid) : Type 0 where
+  pub narrow : IsFalse (some_wide w (all_lines (map bar_lines frame)))
+  pub plan_is : IsPlan w h pass (map bar_lines frame) l.plan
+  pub is_summed : IsSummed h l.plan
+  pub is_laid : IsLaid w h on (frame_lines frame) (lines_of w (map bar_lines frame)) l
+
+-- a frame laid out, or why it isn't
+abbrev pub FrameLaid : ℕ → ℕ → ℕ → List StandingLine → List Segment → Result Laid Refusal → Type 0
+FrameLaid w h pass on frame result = MatchResult result (λ l. IsFrameLaid w h pass on frame l) (λ e. IsWithheld w (all_lines (map bar_lines frame)) e)
+
+-- ---- a drawing
+
+-- what is written is measured for a terminal's window, beside the remembered live lines, and none of its lines is too wide
+pub record IsPlannedFor (v : TermView) (pass : ℕ) (bottom : Bool) (text : List (List ℕ)) (frame : List Segment) (taken : ℕ) (r : Remembered) (p : Planned) : Type 0 where
+  pub columns_are : p.window.columns ≡ v.columns
+  pub rows_are : p.window.rows ≡ v.rows
+  pub narrow_text : IsFalse (some_wide v.columns (text_lines text))
+  pub height_is : p.text.height ≡ min (text_height v.columns (text_lines text)) (2 ^ 64 - 1)
+  pub text_ends : p.text.last_line_width ≡ line_end v.columns (last_or_none text)
+  pub frame_is : IsFrameLaid v.columns v.rows pass (live_lines r) frame p.laid
+  pub blanks_are : p.laid.blanks ≡ blanks_for bottom taken p.text.height p.laid.plan.rows
+  pub blank_room : p.laid.blanks + p.laid.plan.rows ≤ max (taken - p.text.height) p.laid.plan.rows
+  pub known : 0 < p.laid.at → r.width ≡ v.columns
+  pub below_text : 0 < length text → p.laid.at ≡ 0
+
+-- what is written is measured for a terminal's window, or nothing is written for this reason
+abbrev pub PlannedFor : TermView → ℕ → Bool → List (List ℕ) → List Segment → ℕ → Remembered → Result Planned Refusal → Type 0
+PlannedFor v pass bottom text frame taken r result =
+    MatchResult result (λ p. IsPlannedFor v pass bottom text frame taken r p) (λ e. IsWithheld v.columns (text_lines text ++ all_lines (map bar_lines frame)) e)
+
+-- ---- the lines of a drawing, as they stand afterwards
+
+-- those that keep their rows are renewed, and the others stand below them: all can be written over the rows that stand
+pub record ArePut (w : ℕ) (on : List StandingLine) (l : Laid) (ls : List StandingLine) : Type 0 where
+  pub texts_are : texts ls ≡ laid_texts on l
+  pub counts_are : line_counts ls ≡ line_counts (laid_lines on l)
+  pub right : AreLines w ls
+  pub ready : AreReady ls
+  pub sits : (looks : List (List Cell)) → (0 < l.at → looks ≡ looks_of (standing_rows w on)) → AreSitting w looks (placed ls)

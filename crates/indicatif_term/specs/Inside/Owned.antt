@@ -25,4 +25,4 @@ kept_below p blanks = if p.passing == 0 then 0 else blanks + p.passing
 
 -- nothing planned yet
 abbrev pub no_plan : Plan
-no_plan = record { rows = 0; lines = 0; last = None; full = false; passing = 0; passing_rows = 0 }
+no_plan = record { rows = 0; lines = 0; full = false; passing = 0; passing_rows = 0 }

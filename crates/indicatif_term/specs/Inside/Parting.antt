@@ -79,11 +79,6 @@ waits_of steps.Leave = false
 waits_of (steps.Within p) = p.waits
 waits_of steps.Whole = false
 
--- a line that is written as a whole, if it doesn't stay
-abbrev pub whole_or_left : Bool → Step
-whole_or_left true = steps.Leave
-whole_or_left false = steps.Whole
-
 -- a line that is edited has its colours
 abbrev pub HasColours : Step → List ℕ → List ℕ → Type 0
 HasColours steps.Leave old new = Unit {0}

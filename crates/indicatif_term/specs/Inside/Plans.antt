@@ -9,11 +9,9 @@ use Rattle.indicatif_term.specs.Calls.{TermView}
 use Rattle.indicatif_term.specs.Frames.{line_text, bar_lines, all_lines, text_lines, logged_lines, some_wide, RefusesLines, is_fault}
 use Rattle.indicatif_term.specs.Counts.{RowCount, row_count, line_counts}
 use Rattle.indicatif_term.specs.Inside.Owned.{through}
-use Rattle.indicatif_term.specs.Inside.Fills.{line_end, last_or_none, PlanEndsAt, frame_ends}
+use Rattle.indicatif_term.specs.Inside.Fills.{line_end, last_or_none}
 use Rattle.indicatif_term.specs.declared.engine.lines.Segment.{Segment}
 use Rattle.indicatif_term.specs.declared.engine.layout.Plan.{Plan}
-use Rattle.indicatif_term.specs.declared.engine.layout.Layout.{Layout}
-use Rattle.indicatif_term.specs.declared.engine.layout.Planned.{Planned}
 
 -- ---- what a draw writes
 
@@ -61,17 +59,6 @@ pub record IsLaidOut (h : ℕ) (lines : List BarRows) (p : Plan) (cs : List RowC
   pub all_fit : p.full ≡ false → fitting h lines ≡ lines
   pub none_more : p.full ≡ true → (more : List BarRows) → fitting h (lines ++ more) ≡ fitting h lines
 
--- the plan with a member's lines after them, or why there is none
-abbrev pub IsPlaced : ℕ → ℕ → List BarRows → BarLines → Plan → List RowCount → Result Unit Refusal → Type 0
-IsPlaced w h before member p cs result =
-    MatchResult result (λ _. IsFalse (some_wide w member.lines) × IsLaidOut h (before ++ lines_of w (member ∷ [])) p cs) (λ e. IsWithheld w member.lines e)
-
--- a plan, or why there is none
-abbrev pub Measured : ℕ → ℕ → ℕ → List BarLines → Result Layout Refusal → Type 0
-Measured w h pass frame result =
-    MatchResult result (λ l. IsFalse (some_wide w (all_lines frame)) × IsPlan w h pass frame l.plan × IsSummed h l.plan × AreCounted w h frame (line_counts l.lines.items))
-    (λ e. IsWithheld w (all_lines frame) e)
-
 -- a line's measures, or why there are none
 abbrev pub MeasuredLine : ℕ → List ℕ → Result Metrics Refusal → Type 0
 MeasuredLine w line result =
@@ -82,21 +69,3 @@ abbrev pub MeasuredText : ℕ → List (List ℕ) → Result Metrics Refusal →
 MeasuredText w text result =
     MatchResult result (λ m. IsFalse (some_wide w (text_lines text)) × (m.height ≡ min (text_height w (text_lines text)) (2 ^ 64 - 1))
     × (m.last_line_width ≡ line_end w (last_or_none text))) (λ e. IsWithheld w (text_lines text) e)
-
--- what is written is measured for a terminal's window, and none of its lines is too wide
-pub record IsPlannedFor (v : TermView) (pass : ℕ) (text : List (List ℕ)) (frame : List Segment) (p : Planned) : Type 0 where
-  pub columns_are : p.window.columns ≡ v.columns
-  pub rows_are : p.window.rows ≡ v.rows
-  pub narrow_text : IsFalse (some_wide v.columns (text_lines text))
-  pub narrow_frame : IsFalse (some_wide v.columns (all_lines (map bar_lines frame)))
-  pub height_is : p.text.height ≡ min (text_height v.columns (text_lines text)) (2 ^ 64 - 1)
-  pub text_ends : p.text.last_line_width ≡ line_end v.columns (last_or_none text)
-  pub plan_is : IsPlan v.columns v.rows pass (map bar_lines frame) p.plan
-  pub is_summed : IsSummed v.rows p.plan
-  pub counts_are : AreCounted v.columns v.rows (map bar_lines frame) (line_counts p.lines.items)
-  pub plan_ends : PlanEndsAt (frame_ends v.columns frame) p.plan
-
--- what is written is measured for a terminal's window, or nothing is written for this reason
-abbrev pub PlannedFor : TermView → ℕ → List (List ℕ) → List Segment → Result Planned Refusal → Type 0
-PlannedFor v pass text frame result =
-    MatchResult result (λ p. IsPlannedFor v pass text frame p) (λ e. IsWithheld v.columns (text_lines text ++ all_lines (map bar_lines frame)) e)

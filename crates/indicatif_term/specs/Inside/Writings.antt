@@ -1,17 +1,16 @@
 -- The bytes of a draw.
-use Rattle.std.specs.Prelude.{◌≡◌, ◌⊎◌, ℕ, ◌≤◌, Bool, true, false, ◌&&◌, ◌||◌, not, nat_lt, ◌==◌, List, [], ◌++◌, length, take, drop, replicate, if◌then◌else◌}
+use Rattle.std.specs.Prelude.{◌≡◌, ◌⊎◌, ℕ, ◌≤◌, Bool, true, false, ◌&&◌, ◌||◌, not, nat_lt, ◌==◌, List, [], ◌++◌, length, take, drop, replicate, option_map, if◌then◌else◌}
 use Rattle.indicatif_term.specs.Calls.{anew_bytes}
 use Rattle.indicatif_term.specs.Standing.{placed, texts, AreReady}
 use Rattle.indicatif_term.specs.Inside.Bytes.{next_row, reach_bytes, back_bytes, lines_bytes}
-use Rattle.indicatif_term.specs.Inside.Changes.{placed_height, free_behind, among_bytes}
-use Rattle.indicatif_term.specs.Inside.Fills.{last_of}
+use Rattle.indicatif_term.specs.Inside.Changes.{PlacedLine, placed_height, free_behind, among_bytes}
+use Rattle.indicatif_term.specs.Inside.Fills.{last_of, fill_columns}
 use Rattle.indicatif_term.specs.Inside.Moves.{moved_bytes}
 use Rattle.indicatif_term.specs.Inside.Places.{IsWithin}
 use Rattle.indicatif_term.specs.Inside.Remembering.{CanMove, HasRoom}
 use Rattle.indicatif_term.specs.declared.engine.beside.Room.{Room}
 use Rattle.indicatif_term.specs.declared.engine.counts.Counts.{Counts}
 use Rattle.indicatif_term.specs.declared.engine.counts.Fresh.{Fresh}
-use Rattle.indicatif_term.specs.declared.engine.remembered.Remembered.{Remembered}
 use Rattle.indicatif_term.specs.declared.engine.remembered.StandingLine.{StandingLine}
 use Rattle.indicatif_term.specs.declared.engine.writing.Manner.{Manner}
 use Rattle.indicatif_term.specs.declared.engine.writing.Manner.TheVariants.{Among, Over}
@@ -65,11 +64,18 @@ CanWrite (Over rows) ls = Unit {0}
 
 -- ---- settings
 
--- only what changes of so many lines, in their rows
-pub record IsSkipping (n w : ℕ) (p : Writing) : Type 0 where
-  pub fresh : Fresh
-  pub none : fresh.rows ≡ 0
-  pub is : p ≡ record { anew = false; fresh = fresh; below = false; taken = 0; manner = Among n; width = w; ends_below = false; fill = 0 }
+-- all lines of a draw, whole
+abbrev pub whole_writing : Counts → Bool → Fresh → Counts → ℕ → List StandingLine → Writing
+whole_writing counts failed fresh next w ls = record {
+  anew = failed;
+  fresh = fresh;
+  below = counts.below;
+  taken = counts.live;
+  manner = Among 0;
+  width = w;
+  ends_below = next.below;
+  fill = fill_columns next.below w (option_map (λ (p : PlacedLine). p.last) (last_of (placed ls)));
+}
 
 -- all lines over the rows that were to be taken back
 pub record IsOver (p q : Writing) : Type 0 where
@@ -84,7 +90,7 @@ pub record IsAmong (room : Room) (ls : List StandingLine) (p q : Writing) : Type
   pub is : q ≡ record p { fresh = fresh; taken = room.free; manner = Among room.lines; fill = free_behind p.width (last_of (placed (drop room.lines ls))) }
 
 -- how lines are written that may be written whole: over the live rows, among the lines that stay, or whole
-abbrev pub IsChosen : Counts → Bool → Remembered → Counts → List StandingLine → Writing → Writing → Type 0
-IsChosen counts failed shown next ls p q =
-    (CanMove counts failed shown next p.width ls × IsOver p q)
-    ⊎ (((room : Room) × HasRoom counts failed shown next p.width ls × IsWithin ls counts.live room × IsAmong room ls p q) ⊎ (q ≡ p))
+abbrev pub IsChosen : Counts → Bool → ℕ → Counts → List StandingLine → Writing → Writing → Type 0
+IsChosen counts failed stood next ls p q =
+    (CanMove counts failed stood next p.width ls × IsOver p q)
+    ⊎ (((room : Room) × HasRoom counts failed stood next p.width ls × IsWithin ls counts.live room × IsAmong room ls p q) ⊎ (q ≡ p))

@@ -1,48 +1,53 @@
 //! A line that stands beside the one that is to stand there.
-ghost use Rattle.std.specs.Prelude.{◌≡◌, ◌≤◌, length, chars, IfSome, IsTrue, IsFalse, string_bytes};
-ghost use Rattle.indicatif_text.specs.Columns.{has_wide, rows_of, last_columns};
+ghost use Rattle.std.specs.Prelude.{◌≡◌, ◌≤◌, ◌∷◌, [], length, chars, IfOk, IfErr, IfSome, MatchResult, string_bytes};
+ghost use Rattle.indicatif_text.specs.Columns.{rows_of};
 ghost use Rattle.indicatif_term.specs.Standing.{IsLine};
-ghost use Rattle.indicatif_term.specs.Inside.Edits.{AreSingle};
 ghost use Rattle.indicatif_term.specs.Inside.Parting.{Parted, IsTurned};
+ghost use Rattle.indicatif_term.specs.Inside.Plans.{IsWithheld};
+ghost use Rattle.indicatif_term.specs.Inside.Layouts.{IsSized};
 
 use crate::engine::layout::metrics_of;
 use crate::engine::parting::{Part, Row, Step, is_narrow_text, parting};
 use crate::engine::remembered::StandingLine;
 use crate::engine::window::Window;
+use indicatif_text::columns::Refusal;
 
 /// How often a line is edited at most before it is written as a whole, so that nothing that somebody else wrote into its row stays there.
 const MOST_EDITS: usize = 99;
 
-/// What becomes of a line where another comes in its place: how many columns that takes of its last row, whether each of its
-/// characters takes one, and how often the line in that place was edited since it was written as a whole.
+/// What becomes of a row or some where a line comes: the line's rows, how many columns it takes of the last one, whether each of its
+/// characters takes one, and how often what stands there was edited since it was written as a whole.
 #[derive(Clone, Copy, Drop)]
 pub struct Turn {
     pub step: Step,
+    pub rows: usize,
     pub last: usize,
     pub narrow: bool,
     pub edits: usize,
 }
 
-/// What becomes of a line that stands where another text comes in its place, if that has as many rows. Only lines of one row whose
-/// visible characters take one column each are edited, and aren't measured; so a terminal that takes a character for wider or narrower
-/// shows its lines whole. Each hundredth of the changes of a line writes it as a whole, too. Where the cursor is to wait, edits leave it
-/// behind the end of the row.
-pub fn compare(line: &StandingLine, text: &str, window: Window, waits: bool) -> Option<Turn>
+/// What becomes of a line that stands where another text comes. Only lines of one row whose visible characters take one column each are
+/// edited, and aren't measured; so a terminal that takes a character for wider or narrower shows its lines whole. Each hundredth of the
+/// changes of a line writes it as a whole, too. Where the cursor is to wait, edits leave it behind the end of the row.
+pub fn compare(
+    line: &StandingLine,
+    text: &str,
+    window: Window,
+    waits: bool,
+) -> Result<Turn, Refusal>
     requires line { IsLine window.columns line.now }
-    ensures rows { IfSome result (λ t. line.now.rows ≡ length (rows_of window.columns (chars text.now))) }
-    ensures last { IfSome result (λ t. t.last ≡ last_columns window.columns (chars text.now)) }
-    ensures narrow { IfSome result (λ t. IsFalse (has_wide window.columns (chars text.now))) }
-    ensures single { IfSome result (λ t. IsTrue t.narrow → AreSingle (chars text.now)) }
-    ensures turned { IfSome result (λ t. IsTurned window.columns t.step (string_bytes line.now.text) text.now) }
+    ensures sized { MatchResult result (λ t. IsSized window.columns (chars text.now) t) (λ e. IsWithheld window.columns (chars text.now ∷ []) e) }
+    ensures turned { IfOk result (λ t. IsTurned window.columns t.step (string_bytes line.now.text) text.now) }
 {
     match part_of(line, text, window, waits) {
-        Some(part) => Some(Turn {
+        Some(part) => Ok(Turn {
             step: Step::Within(part),
+            rows: 1,
             last: part.last,
             narrow: line.narrow,
             edits: line.edits.saturating_add(1),
         }),
-        None => measure(line, text, window),
+        None => measure(text, window),
     }
 }
 
@@ -83,20 +88,15 @@ fn begin_or_end_alike(a: &[u8], b: &[u8]) -> bool {
     a[0] == b[0] || a[own - 1] == b[other - 1]
 }
 
-/// What becomes of a line that is written as a whole: its text is measured.
-fn measure(line: &StandingLine, text: &str, window: Window) -> Option<Turn>
-    ensures rows { IfSome result (λ t. line.now.rows ≡ length (rows_of window.columns (chars text.now))) }
-    ensures last { IfSome result (λ t. t.last ≡ last_columns window.columns (chars text.now)) }
-    ensures narrow { IfSome result (λ t. IsFalse (has_wide window.columns (chars text.now))) }
-    ensures single { IfSome result (λ t. IsTrue t.narrow → AreSingle (chars text.now)) }
-    ensures whole { IfSome result (λ t. t.step ≡ Step.Whole) }
+/// What becomes of the rows of a line that is written as a whole: its text is measured.
+pub fn measure(text: &str, window: Window) -> Result<Turn, Refusal>
+    ensures sized { MatchResult result (λ t. IsSized window.columns (chars text.now) t) (λ e. IsWithheld window.columns (chars text.now ∷ []) e) }
+    ensures whole { IfOk result (λ t. t.step ≡ Step.Whole) }
 {
-    let metrics = metrics_of(text, window).ok()?;
-    if metrics.height != line.rows {
-        return None;
-    }
-    Some(Turn {
+    let metrics = metrics_of(text, window)?;
+    Ok(Turn {
         step: Step::Whole,
+        rows: metrics.height,
         last: metrics.last_line_width,
         narrow: is_narrow_text(text),
         edits: 0,

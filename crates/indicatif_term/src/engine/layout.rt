@@ -1,18 +1,23 @@
-//! Which lines of a frame are shown, and how many rows they take.
-ghost use Rattle.std.specs.Prelude.{◌≡◌, ◌≢◌, Err, ◌==◌, ◌<◌, ◌≤◌, ◌+◌, ◌-◌, ◌^◌, ◌++◌, ◌∷◌, [], ℕ, map, length, chars, List, IfOk, IfErr, None, false, if◌then◌else◌};
-ghost use Rattle.indicatif_term.specs.Lists.{BarRows};
-ghost use Rattle.indicatif_term.specs.Frames.{bar_lines, line_text, all_lines, logged_lines};
-ghost use Rattle.indicatif_term.specs.Standing.{AreLines};
-ghost use Rattle.indicatif_term.specs.Inside.Plans.{IsSummed, IsLaidOut, IsPlaced, Measured, MeasuredLine, MeasuredText, PlannedFor, text_above, frame_lines};
+//! A frame laid out beside the lines that stand: which of these stay, which new ones come in their place, and which are written below them.
+ghost use Rattle.std.specs.Prelude.{◌≡◌, ◌≢◌, ◌⊎◌, Err, ◌==◌, ◌<◌, ◌≤◌, ◌+◌, ◌-◌, ◌^◌, ◌++◌, ◌∷◌, [], ℕ, min, map, length, take, drop, chars, get_or, string_bytes, List, IfOk, IfErr, IfSome, IsFalse, MatchResult, false, if◌then◌else◌};
+ghost use Rattle.indicatif_text.specs.Columns.{has_wide, rows_of};
+ghost use Rattle.indicatif_term.specs.Lists.{BarRows, lines_of, blanks_for};
+ghost use Rattle.indicatif_term.specs.Frames.{bar_lines, line_text, all_lines, some_wide, logged_lines, text_lines};
+ghost use Rattle.indicatif_term.specs.Standing.{placed, IsLine, AreLines};
+ghost use Rattle.indicatif_term.specs.Inside.Changes.{placed_height};
+ghost use Rattle.indicatif_term.specs.Inside.Plans.{IsSummed, IsWithheld, MeasuredLine, MeasuredText, text_above};
+ghost use Rattle.indicatif_term.specs.Inside.Layouts.{IsSized, IsBeside, AreBlank, own_lines, IsLaid, IsFrameLaid, FrameLaid, PlannedFor};
 ghost use Rattle.indicatif_term.specs.Remembered.{live_lines};
-ghost use Rattle.indicatif_term.specs.Inside.Layouts.{IsSized, IsLike, HasLines};
-ghost use Rattle.indicatif_term.specs.Inside.Fills.{PlanEndsAt, member_ends, frame_ends};
 ghost use Rattle.indicatif_term.specs.Counts.{line_counts};
 ghost use Rattle.indicatif_term.specs.Inside.Owned.{run_length, through, kept_below, no_plan};
 
-use crate::engine::beside::{Beside, SizedLine, height_of};
+use crate::engine::beside::{Beside, below_blanks};
+use crate::engine::comparing::{Turn, compare, measure};
+use crate::engine::counts::blanks_of;
 use crate::engine::lines::Segment;
+use crate::engine::parting::Step;
 use crate::engine::remembered::{Remembered, StandingLine};
+use crate::engine::renewed::NewLine;
 use crate::engine::spare::Spare;
 use crate::engine::window::Window;
 use crate::target::term_like::TermLike;
@@ -25,8 +30,6 @@ pub struct Plan {
     /// The rows and the lines.
     pub rows: usize,
     pub lines: usize,
-    /// How many columns the last of these lines takes of its last row.
-    pub last: Option<usize>,
     /// Whether a line did not fit, so that none after it is shown.
     pub full: bool,
     /// The lines of the members to be dropped, with those below them of the same bar as the last one, and their rows.
@@ -42,7 +45,6 @@ impl Plan {
         Plan {
             rows: 0,
             lines: 0,
-            last: None,
             full: false,
             passing: 0,
             passing_rows: 0,
@@ -62,75 +64,143 @@ impl Plan {
     }
 }
 
+/// A frame beside the lines that stand. The first `at` of these keep their rows, `blanks` of them as blank ones, with new lines in the place of
+/// some; the others are written below them.
+#[derive(Drop)]
+pub struct Laid {
+    pub plan: Plan,
+    pub blanks: usize,
+    pub at: usize,
+    pub changed: Vec<NewLine>,
+    pub more: Vec<StandingLine>,
+}
+
+/// What is asked of a drawing: a text that is logged, if any is, and bars below it, of which the first `pass` are dropped.
+#[derive(Clone, Copy)]
+pub struct Asked<'a> {
+    pub text: Option<&'a str>,
+    pub frame: &'a [Segment],
+    pub pass: usize,
+    /// Whether blank rows above the bars fill the rows that are taken back.
+    pub bottom: bool,
+}
+
+/// The lines that are remembered of a terminal, how many blank ones are the first live ones, and how many rows are taken back.
+#[derive(Clone, Copy)]
+pub struct Last<'a> {
+    pub shown: &'a Remembered,
+    pub blanks: usize,
+    pub taken: usize,
+}
+
 /// A text and a frame, measured for a terminal's window.
 #[derive(Drop)]
 pub struct Planned {
     pub window: Window,
     /// The rows of the text, and how many columns its last line takes of its last row; both 0 where there is no text.
     pub text: Metrics,
-    pub plan: Plan,
-    /// The lines that the plan shows.
-    pub lines: Vec<StandingLine>,
+    pub laid: Laid,
 }
 
-/// A plan and the lines that it shows.
-#[derive(Drop)]
-pub struct Layout {
-    pub plan: Plan,
-    pub lines: Vec<StandingLine>,
-}
-
-/// Measures what is to be written on a terminal, beside the lines that are remembered of it; the first `pass` members of the frame
-/// are to be dropped. Its lines stand in spare room.
+/// Measures what is to be written on a terminal, a frame beside the lines that are remembered of it, unless a text comes above them. New
+/// texts stand in spare room.
 pub fn plan_drawing<T: TermLike>(
     term: &T,
-    shown: &Remembered,
     spare: &mut Spare,
-    text: Option<&str>,
-    frame: &[Segment],
-    pass: usize,
+    last: Last<'_>,
+    asked: Asked<'_>,
 ) -> Result<Planned, Refusal>
-    ensures planned { PlannedFor (T.view term.now) pass (text_above text.entry) frame.now result }
-    ensures lines { IfOk result (λ p. HasLines p.window.columns (if shown.now.width == p.window.columns then live_lines shown.now else [])
-        (frame_lines frame.now) p.plan p.lines.items) }
+    ensures planned { PlannedFor (T.view term.now) asked.entry.pass asked.entry.bottom (text_above asked.entry.text) asked.entry.frame.now last.entry.taken last.entry.shown.now result }
     ensures memory { result ≡ Err Refusal.Memory →
-        (0 < (T.view term.now).columns) × (0 < length (all_lines (map bar_lines frame.now))) }
+        (0 < (T.view term.now).columns) × (0 < length (all_lines (map bar_lines asked.entry.frame.now))) }
 {
     let window = Window::of(term)?;
-    let text = metrics_above(text, window)?;
-    let beside = Beside::of(shown, window);
-    let laid = plan_frame(spare, beside, frame, pass, window)?;
-    Ok(Planned {
-        window,
-        text,
-        plan: laid.plan,
-        lines: laid.lines,
-    })
+    let text = metrics_above(asked.text, window)?;
+    let beside = beside_of(last, asked, window);
+    let laid = lay_frame(spare, beside, asked, window)?;
+    let free = last.taken.saturating_sub(text.height);
+    let blanks = blanks_of(asked.bottom, free, laid.plan.rows);
+    let laid = with_blanks(spare, laid, blanks, asked, window)?;
+    Ok(Planned { window, text, laid })
 }
 
-/// The plan of a frame of which the first `pass` members are dropped, and its lines. They stand in spare room, which is kept where
-/// the frame is refused.
-fn plan_frame(
+/// What stands beside a frame; nothing where a text comes above it.
+fn beside_of<'a>(last: Last<'a>, asked: Asked<'_>, window: Window) -> Beside<'a>
+    ensures right { AreLines window.columns result.lines.now }
+    ensures blank { AreBlank result.blanks result.lines.now }
+    ensures live { (result.lines.now ≡ []) ⊎ ((last.entry.shown.now.width ≡ window.columns) × (result.lines.now ≡ live_lines last.entry.shown.now)) }
+    ensures nothing { 0 < length (text_above asked.entry.text) → result.lines.now ≡ [] }
+{
+    match asked.text {
+        Some(_) => Beside::nothing(),
+        None => last.shown.beside(window.columns, last.blanks),
+    }
+}
+
+/// A frame that was laid out, below so many blank lines. Where others stand, it is laid out anew, with nothing beside it.
+fn with_blanks(
+    spare: &mut Spare,
+    laid: Laid,
+    blanks: usize,
+    asked: Asked<'_>,
+    window: Window,
+) -> Result<Laid, Refusal>
+    ensures laid { (on : List StandingLine) → IsFrameLaid window.columns window.rows asked.entry.pass on asked.entry.frame.now laid →
+        FrameLaid window.columns window.rows asked.entry.pass on asked.entry.frame.now result }
+    ensures blanks { IfOk result (λ l. l.blanks ≡ blanks) }
+    ensures memory { result ≡ Err Refusal.Memory → (0 < length (all_lines (map bar_lines asked.entry.frame.now))) ⊎ (0 < blanks) }
+{
+    if laid.blanks == blanks {
+        return Ok(laid);
+    }
+    let laid = beside_nothing(spare, laid, asked, window)?;
+    below_blanks(spare, laid, blanks)
+}
+
+/// A frame of which no line keeps its rows, as it was laid out, or else laid out anew.
+fn beside_nothing(
+    spare: &mut Spare,
+    laid: Laid,
+    asked: Asked<'_>,
+    window: Window,
+) -> Result<Laid, Refusal>
+    ensures laid { (on : List StandingLine) → IsFrameLaid window.columns window.rows asked.entry.pass on asked.entry.frame.now laid →
+        FrameLaid window.columns window.rows asked.entry.pass [] asked.entry.frame.now result }
+    ensures blanks { IfOk result (λ l. l.blanks ≡ 0) }
+    ensures memory { result ≡ Err Refusal.Memory → 0 < length (all_lines (map bar_lines asked.entry.frame.now)) }
+{
+    if laid.at == 0 && laid.blanks == 0 {
+        return Ok(laid);
+    }
+    spare.store_laid(laid);
+    lay_frame(spare, Beside::nothing(), asked, window)
+}
+
+/// Lays a frame out beside some lines. Its new lines stand in spare room, which is kept where it is refused.
+fn lay_frame(
     spare: &mut Spare,
     beside: Beside<'_>,
-    frame: &[Segment],
-    pass: usize,
+    asked: Asked<'_>,
     window: Window,
-) -> Result<Layout, Refusal>
+) -> Result<Laid, Refusal>
     requires standing { AreLines window.columns beside.lines.now }
-    ensures plan { Measured window.columns window.rows pass (map bar_lines frame.now) result }
-    ensures ends { IfOk result (λ l. PlanEndsAt (frame_ends window.columns frame.now) l.plan) }
-    ensures lines { IfOk result (λ l. HasLines window.columns beside.entry.lines.now (frame_lines frame.now) l.plan l.lines.items) }
-    ensures memory { result ≡ Err Refusal.Memory → 0 < length (all_lines (map bar_lines frame.now)) }
+    requires blank { AreBlank beside.blanks beside.lines.now }
+    ensures laid { FrameLaid window.columns window.rows asked.entry.pass beside.entry.lines.now asked.entry.frame.now result }
+    ensures blanks { IfOk result (λ l. l.blanks ≡ beside.entry.blanks) }
+    ensures memory { result ≡ Err Refusal.Memory → 0 < length (all_lines (map bar_lines asked.entry.frame.now)) }
 {
-    let mut laid = Layout {
+    let standing = beside.lines;
+    let mut laid = Laid {
         plan: Plan::none(),
-        lines: spare.take_lines(),
+        blanks: beside.blanks,
+        at: beside.blanks,
+        changed: spare.take_new(),
+        more: spare.take_lines(),
     };
-    let mut left = pass;
-    for member in frame {
-        if let Err(e) = place_member(&mut laid, spare, beside, member, window) {
-            spare.store_lines(laid.lines);
+    let mut left = asked.pass;
+    for member in asked.frame {
+        if let Err(e) = lay_member(&mut laid, spare, standing, member, window) {
+            spare.store_laid(laid);
             return Err(e);
         }
         if left > 0 {
@@ -138,71 +208,239 @@ fn plan_frame(
             laid.plan.passing = laid.plan.lines;
         }
     }
-    let passing = through_run(&laid.lines, laid.plan.passing);
-    laid.plan.passing_rows = height_of(&laid.lines[..passing]);
+    let passing = through_run(&laid, standing);
+    laid.plan.passing_rows = height_passing(&laid, standing, passing);
     laid.plan.passing = passing;
     Ok(laid)
 }
 
-/// Adds the lines of one member of the frame to its plan.
-fn place_member(
-    laid: &mut Layout,
+/// Lays out the lines of one member of the frame.
+fn lay_member(
+    laid: &mut Laid,
     spare: &mut Spare,
-    beside: Beside<'_>,
+    standing: &[StandingLine],
     member: &Segment,
     window: Window,
 ) -> Result<(), Refusal>
     requires summed { IsSummed window.rows laid.old.plan }
-    requires standing { AreLines window.columns beside.lines.now }
+    requires standing { AreLines window.columns standing.now }
     ensures summed { IfOk result (λ _. IsSummed window.rows laid.new.plan) }
-    ensures passing { laid.new.plan.passing ≡ laid.old.plan.passing }
-    ensures placed { (before : List BarRows) → IsLaidOut window.rows before laid.old.plan (line_counts laid.old.lines.items) →
-        IsPlaced window.columns window.rows before (bar_lines member.now) laid.new.plan (line_counts laid.new.lines.items) result }
-    ensures ends { (before : List ℕ) → PlanEndsAt before laid.old.plan →
-        IfOk result (λ _. PlanEndsAt (before ++ member_ends window.columns member.now) laid.new.plan) }
-    ensures lines { (before : List (List ℕ)) → HasLines window.columns beside.entry.lines.now before laid.old.plan laid.old.lines.items →
-        IfOk result (λ _. HasLines window.columns beside.entry.lines.now (before ++ map line_text member.now.lines.items) laid.new.plan laid.new.lines.items) }
+    ensures same { (laid.new.plan.passing ≡ laid.old.plan.passing) × (laid.new.blanks ≡ laid.old.blanks) }
+    ensures refused { MatchResult result (λ _. IsFalse (some_wide window.columns (bar_lines member.now).lines)) (λ e. IsWithheld window.columns (bar_lines member.now).lines e) }
+    ensures laid { (before : List (List ℕ)) (bars : List BarRows) → IsLaid window.columns window.rows standing.now before bars laid.old →
+        IfOk result (λ _. IsLaid window.columns window.rows standing.now (before ++ map line_text member.now.lines.items) (bars ++ lines_of window.columns (bar_lines member.now ∷ [])) laid.new) }
     ensures memory { result ≡ Err Refusal.Memory → 0 < length (bar_lines member.now).lines }
 {
     for line in &member.lines {
-        let sized = beside.sized(laid.lines.len(), line.as_str(), window)?;
-        place(laid, spare, member.bar, sized, window)?;
+        let own = OwnLine {
+            bar: member.bar,
+            text: line.as_str(),
+        };
+        lay_line(laid, spare, standing, own, window)?;
     }
     Ok(())
 }
 
-/// Adds one more line to the plan, if its rows fit.
-fn place(
-    laid: &mut Layout,
-    spare: &mut Spare,
+/// A line with its bar.
+#[derive(Clone, Copy)]
+struct OwnLine<'a> {
     bar: u64,
-    line: SizedLine<'_>,
+    text: &'a str,
+}
+
+/// Lays out one more line of a bar: in the place of the one that stands there, or below.
+fn lay_line(
+    laid: &mut Laid,
+    spare: &mut Spare,
+    standing: &[StandingLine],
+    own: OwnLine<'_>,
     window: Window,
 ) -> Result<(), Refusal>
     requires summed { IsSummed window.rows laid.old.plan }
-    requires sized { IsSized window.columns (chars line.text.now) line }
+    requires standing { AreLines window.columns standing.now }
+    ensures summed { IfOk result (λ _. IsSummed window.rows laid.new.plan) }
+    ensures same { (laid.new.plan.passing ≡ laid.old.plan.passing) × (laid.new.blanks ≡ laid.old.blanks) }
+    ensures refused { MatchResult result (λ _. IsFalse (has_wide window.columns (chars own.entry.text.now))) (λ e. IsWithheld window.columns (chars own.entry.text.now ∷ []) e) }
+    ensures laid { (before : List (List ℕ)) (bars : List BarRows) → IsLaid window.columns window.rows standing.now before bars laid.old →
+        IfOk result (λ _. IsLaid window.columns window.rows standing.now (before ++ own.entry.text.now ∷ [])
+        (bars ++ record { bar = own.entry.bar; rows = rows_of window.columns (chars own.entry.text.now) } ∷ []) laid.new) }
+{
+    match next_beside(laid, standing, own.bar, window) {
+        Some(place) => lay_in_place(laid, spare, place, own, window),
+        None => {
+            let turn = measure(own.text, window)?;
+            lay_below(laid, spare, own, turn, window)
+        }
+    }
+}
+
+/// A line that stands, and whether it is the last one.
+#[derive(Clone, Copy)]
+pub struct Occupied<'a> {
+    pub line: &'a StandingLine,
+    pub is_last: bool,
+}
+
+/// The line that stands where the next one of this bar is to stand, if it is of the same bar, its rows fit, and all lines before it keep their
+/// rows.
+fn next_beside<'a>(
+    laid: &Laid,
+    standing: &'a [StandingLine],
+    bar: u64,
+    window: Window,
+) -> Option<Occupied<'a>>
+    requires { IsSummed window.rows laid.now.plan }
+    ensures { IfSome result (λ p. IsBeside window.rows standing.now laid.now bar p.line.now) }
+{
+    let at = laid.at;
+    if !laid.more.is_empty() || laid.plan.full || at >= standing.len() {
+        return None;
+    }
+    let line = &standing[at];
+    if line.bar != bar || window.rows - laid.plan.rows < line.rows {
+        return None;
+    }
+    Some(Occupied {
+        line,
+        is_last: at + 1 == standing.len(),
+    })
+}
+
+/// Lays out a line where one stands: in its place if it has as many rows, else below. Its text is looked at before it is measured.
+fn lay_in_place(
+    laid: &mut Laid,
+    spare: &mut Spare,
+    place: Occupied<'_>,
+    own: OwnLine<'_>,
+    window: Window,
+) -> Result<(), Refusal>
+    requires summed { IsSummed window.rows laid.old.plan }
+    requires line { IsLine window.columns place.line.now }
+    requires fits { place.line.now.rows ≤ window.rows - laid.old.plan.rows }
+    requires room { laid.old.at < 2 ^ 64 - 1 }
+    ensures summed { IfOk result (λ _. IsSummed window.rows laid.new.plan) }
+    ensures same { (laid.new.plan.passing ≡ laid.old.plan.passing) × (laid.new.blanks ≡ laid.old.blanks) }
+    ensures refused { MatchResult result (λ _. IsFalse (has_wide window.columns (chars own.entry.text.now))) (λ e. IsWithheld window.columns (chars own.entry.text.now ∷ []) e) }
+    ensures laid { (on : List StandingLine) (before : List (List ℕ)) (bars : List BarRows) → IsBeside window.rows on laid.old own.entry.bar place.entry.line.now →
+        IsLaid window.columns window.rows on before bars laid.old →
+        IfOk result (λ _. IsLaid window.columns window.rows on (before ++ own.entry.text.now ∷ [])
+        (bars ++ record { bar = own.entry.bar; rows = rows_of window.columns (chars own.entry.text.now) } ∷ []) laid.new) }
+{
+    let rows = place.line.rows;
+    if place.line.text.as_str() == own.text {
+        go_on(laid, rows);
+        return Ok(());
+    }
+    let turn = compare(place.line, own.text, window, place.is_last)?;
+    if turn.rows != rows {
+        return lay_below(laid, spare, own, turn, window);
+    }
+    let text = spare.copied(own.text)?;
+    let line = NewLine {
+        at: laid.at,
+        text,
+        turn,
+    };
+    laid.changed.push(line)?;
+    go_on(laid, rows);
+    Ok(())
+}
+
+/// Passes a line of so many rows that keeps them.
+fn go_on(laid: &mut Laid, rows: usize)
+    requires rows { laid.old.plan.rows + rows ≤ 65535 }
+    requires lines { laid.old.plan.lines ≤ 65535 }
+    requires room { laid.old.at < 2 ^ 64 - 1 }
+    ensures { laid.new ≡ record laid.old { plan = record laid.old.plan { rows = laid.old.plan.rows + rows; lines = laid.old.plan.lines + 1 }; at = laid.old.at + 1 } }
+{
+    laid.plan.rows += rows;
+    laid.plan.lines += 1;
+    laid.at += 1;
+}
+
+/// Lays out one more line that is written as a whole, if its rows fit.
+fn lay_below(
+    laid: &mut Laid,
+    spare: &mut Spare,
+    own: OwnLine<'_>,
+    turn: Turn,
+    window: Window,
+) -> Result<(), Refusal>
+    requires summed { IsSummed window.rows laid.old.plan }
+    requires sized { IsSized window.columns (chars own.text.now) turn }
     ensures memory { IfErr result (λ e. e ≡ Refusal.Memory) }
     ensures summed { IfOk result (λ _. IsSummed window.rows laid.new.plan) }
-    ensures passing { laid.new.plan.passing ≡ laid.old.plan.passing }
-    ensures placed { (before : List BarRows) (s : BarRows) → s.bar ≡ bar → length s.rows ≡ line.entry.rows →
-        IsLaidOut window.rows before laid.old.plan (line_counts laid.old.lines.items) →
-        IfOk result (λ _. IsLaidOut window.rows (before ++ s ∷ []) laid.new.plan (line_counts laid.new.lines.items)) }
-    ensures ends { (before : List ℕ) → PlanEndsAt before laid.old.plan →
-        IfOk result (λ _. PlanEndsAt (before ++ line.entry.last ∷ []) laid.new.plan) }
-    ensures lines { (on : List StandingLine) (before : List (List ℕ)) → IsLike on line.entry.text.now line.entry.like →
-        HasLines window.columns on before laid.old.plan laid.old.lines.items →
-        IfOk result (λ _. HasLines window.columns on (before ++ line.entry.text.now ∷ []) laid.new.plan laid.new.lines.items) }
+    ensures same { (laid.new.plan.passing ≡ laid.old.plan.passing) × (laid.new.blanks ≡ laid.old.blanks) }
+    ensures laid { (on : List StandingLine) (before : List (List ℕ)) (bars : List BarRows) → IsLaid window.columns window.rows on before bars laid.old →
+        IfOk result (λ _. IsLaid window.columns window.rows on (before ++ own.entry.text.now ∷ [])
+        (bars ++ record { bar = own.entry.bar; rows = rows_of window.columns (chars own.entry.text.now) } ∷ []) laid.new) }
 {
-    if laid.plan.full || window.rows - laid.plan.rows < line.rows {
+    if laid.plan.full || window.rows - laid.plan.rows < turn.rows {
         laid.plan.full = true;
         return Ok(());
     }
-    let stored = line.stored(spare, bar)?;
-    laid.lines.push(stored)?;
-    laid.plan.rows += line.rows;
+    let text = spare.copied(own.text)?;
+    laid.more.push(StandingLine {
+        bar: own.bar,
+        text,
+        before: spare.no_text(),
+        rows: turn.rows,
+        last: turn.last,
+        narrow: turn.narrow,
+        edits: 0,
+        step: Step::Whole,
+    })?;
+    laid.plan.rows += turn.rows;
     laid.plan.lines += 1;
-    laid.plan.last = Some(line.last);
     Ok(())
+}
+
+/// The line at this place of those of the frame.
+fn own_line<'a>(laid: &'a Laid, standing: &'a [StandingLine], place: usize) -> &'a StandingLine
+    requires in_lines { laid.now.at ≤ length standing.now }
+    requires within { laid.now.blanks + place < laid.now.at + length laid.now.more.items }
+    ensures { get_or (own_lines standing.now laid.now) place result.now ≡ result.now }
+{
+    let at = laid.blanks + place;
+    if at < laid.at {
+        &standing[at]
+    } else {
+        &laid.more[at - laid.at]
+    }
+}
+
+/// How many lines those of the members to be dropped are, with those below them of the same bar as the last one.
+fn through_run(laid: &Laid, standing: &[StandingLine]) -> usize
+    requires in_lines { laid.now.at ≤ length standing.now }
+    requires all { laid.now.blanks + laid.now.plan.lines ≡ laid.now.at + length laid.now.more.items }
+    requires within { laid.now.plan.passing ≤ laid.now.plan.lines }
+    ensures run { result ≡ through laid.now.plan.passing (line_counts (own_lines standing.now laid.now)) }
+    ensures within { result ≤ laid.now.plan.lines }
+{
+    let count = laid.plan.passing;
+    if count == 0 {
+        return 0;
+    }
+    let bar = own_line(laid, standing, count - 1).bar;
+    for at in count..laid.plan.lines {
+        if own_line(laid, standing, at).bar != bar {
+            return at;
+        }
+    }
+    laid.plan.lines
+}
+
+/// How many rows the first `count` lines take, or 2^64 - 1 where there are more.
+fn height_passing(laid: &Laid, standing: &[StandingLine], count: usize) -> usize
+    requires in_lines { laid.now.at ≤ length standing.now }
+    requires within { laid.now.blanks + count ≤ laid.now.at + length laid.now.more.items }
+    ensures { result ≡ min (placed_height (placed (take count (own_lines standing.now laid.now)))) (2 ^ 64 - 1) }
+{
+    let mut rows = 0_usize;
+    for at in 0..count {
+        rows = rows.saturating_add(own_line(laid, standing, at).rows);
+    }
+    rows
 }
 
 /// How many of these lines are of this bar, from the first one on.
@@ -216,18 +454,6 @@ pub fn run_of(lines: &[StandingLine], bar: u64) -> usize
         }
     }
     lines.len()
-}
-
-/// How many lines the first so many are, with those below them of the same bar as the last one.
-fn through_run(lines: &[StandingLine], count: usize) -> usize
-    requires { count ≤ length lines.now }
-    ensures run { result ≡ through count (line_counts lines.now) }
-    ensures within { result ≤ length lines.now }
-{
-    if count == 0 {
-        return 0;
-    }
-    count + run_of(&lines[count..], lines[count - 1].bar)
 }
 
 /// The rows of a line, and how many columns it takes of the last one.

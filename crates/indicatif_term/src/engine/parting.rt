@@ -3,7 +3,7 @@ ghost use Rattle.std.specs.Prelude.{◌≡◌, ◌+◌, ◌-◌, ◌≤◌, ◌+
 ghost use Rattle.std.specs.List.{list_any};
 ghost use Rattle.indicatif_term.specs.Inside.Edits.{AreSingle};
 ghost use Rattle.indicatif_text.specs.Columns.{width_of, rows_of, last_columns};
-ghost use Rattle.indicatif_term.specs.Inside.Parting.{Parted, IsCut, tail, whole_or_left};
+ghost use Rattle.indicatif_term.specs.Inside.Parting.{Parted, IsCut, tail};
 ghost use Rattle.indicatif_term.specs.Inside.Rests.{ArePlain};
 
 use crate::engine::inks::inked_count;
@@ -26,15 +26,6 @@ pub enum Step {
     Leave,
     Within(Part),
     Whole,
-}
-
-impl Step {
-    /// The step of a line that stays, or else is written as a whole.
-    pub fn of(stays: bool) -> Step
-        ensures { result ≡ whole_or_left stays }
-    {
-        if stays { Step::Leave } else { Step::Whole }
-    }
 }
 
 /// A line that stands in one row, how many of its columns it takes, and whether each of its characters takes one.

@@ -205,7 +205,6 @@ fn line_of(
         narrow: false,
         edits: 0,
         step: Step::Whole,
-        like: None,
     })
 }
 

@@ -1,9 +1,11 @@
 //! The lines that an engine remembers, so that it writes only those that change.
-ghost use Rattle.std.specs.Prelude.{◌≡◌, ◌+◌, ◌-◌, ◌<◌, ◌≤◌, ◌==◌, ◌++◌, [], ℕ, List, take, drop, length, if◌then◌else◌, IfOk, IfErr};
+ghost use Rattle.std.specs.Prelude.{◌≡◌, ◌⊎◌, ◌+◌, ◌-◌, ◌^◌, ◌<◌, ◌≤◌, ◌==◌, ◌++◌, [], ℕ, List, take, drop, length, if◌then◌else◌, IfOk, IfErr};
 ghost use Rattle.indicatif_term.specs.Standing.{AreLines};
 
+use crate::engine::beside::Beside;
+use crate::engine::layout::Laid;
 use crate::engine::parting::Step;
-use crate::engine::renewed::{NewLine, put_new};
+use crate::engine::renewed::put_new;
 use crate::engine::spare::Spare;
 use indicatif_text::columns::Refusal;
 use std::alloc::Global;
@@ -26,8 +28,6 @@ pub struct StandingLine {
     pub edits: usize,
     /// What becomes of it in that drawing.
     pub step: Step,
-    /// The index of the same line among those that stood before, where that was found.
-    pub like: Option<usize>,
 }
 
 /// Some lines, from one on and up to another.
@@ -38,12 +38,12 @@ pub struct Span {
     pub ghost some: { from ≤ to },
 }
 
-/// The lines of a drawing, and how many of them, from the front, become kept ones.
+/// A frame that is to stand beside the live lines, and how many of its lines, from the front, become kept ones.
 #[derive(Drop)]
 pub struct NextLines {
-    pub lines: Vec<StandingLine>,
+    pub laid: Laid,
     pub kept: usize,
-    pub ghost within: { kept ≤ length lines.items },
+    pub ghost within: { kept ≤ laid.at + length laid.more.items },
 }
 
 /// Lines that stand on a terminal one below another. Contracts see nothing of their room.
@@ -80,43 +80,45 @@ impl StandingLines {
         &self.lines
     }
 
-    /// Puts new lines in the place of some that stand behind the first ones, whose room becomes spare; the others stay.
-    pub fn put_new(&mut self, first: usize, spare: &mut Spare, changed: Vec<NewLine>)
-        requires first { first ≤ length self.old }
-        requires within { (w : ℕ) × AreFitting w (drop first self.old) (length (drop first self.old)) changed.items }
-        ensures above { take first self.new ≡ take first self.old }
-        ensures count { length self.new ≡ length self.old }
-        ensures counts { line_counts (drop first self.new) ≡ line_counts (drop first self.old) }
-        ensures texts { texts (drop first self.new) ≡ renewed (texts (drop first self.old)) changed.items }
-        ensures in_place { (w : ℕ) → AreLines w (drop first self.old) → AreFitting w (drop first self.old) (length (drop first self.old)) changed.items →
-            AreInPlace w (drop first self.old) (drop first self.new) }
-        ensures over { (w : ℕ) → AreFitting w (drop first self.old) (length (drop first self.old)) changed.items →
-            AreOver w (drop first self.old) (drop first self.new) }
-    {
-        put_new(&mut self.lines[first..], spare, changed);
-    }
-
-    /// Puts these lines below some that stay; all others become spare. Refused: `Memory`, where there is a line among these. All is
-    /// unchanged then.
-    pub fn put_below(
+    /// Leaves some lines, puts new ones in the place of some of these behind the first ones, and more below them; all others become spare.
+    /// Refused: `Memory`, where there is a line below. All is unchanged then.
+    pub fn put(
         &mut self,
         spare: &mut Spare,
         stays: Span,
-        lines: Vec<StandingLine>,
+        first: usize,
+        laid: Laid,
     ) -> Result<(), Refusal>
         requires within { stays.to ≤ length self.old }
-        ensures refused { IfErr result (λ e. (e ≡ Refusal.Memory) × (0 < length lines.items) × (self.new ≡ self.old)) }
-        ensures lines { IfOk result (λ _. self.new ≡ drop stays.from (take stays.to self.old) ++ lines.items) }
+        requires first { first ≤ stays.to - stays.from }
+        requires fit { (w : ℕ) × (let on = drop first (drop stays.from (take stays.to self.old)) in AreFitting w on (length on) laid.changed.items) }
+        ensures refused { IfErr result (λ e. (e ≡ Refusal.Memory) × (0 < length laid.more.items) × (self.new ≡ self.old)) }
+        ensures small { length self.new ≤ 2 ^ 64 - 1 }
+        ensures lines { let all = drop stays.from (take stays.to self.old) in
+            let on = drop first all in
+            IfOk result (λ _. (front : List StandingLine) × (self.new ≡ (take first all ++ front) ++ laid.more.items)
+            × (texts front ≡ renewed (texts on) laid.changed.items)
+            × (line_counts front ≡ line_counts on)
+            × ((w : ℕ) → AreLines w on → AreFitting w on (length on) laid.changed.items → AreInPlace w on front)
+            × ((w : ℕ) → AreFitting w on (length on) laid.changed.items → AreOver w on front)) }
     {
-        let mut lines = lines;
-        if self.lines.reserve(lines.len()).is_err() {
+        let Laid {
+            plan: _,
+            blanks: _,
+            at: _,
+            changed,
+            more,
+        } = laid;
+        let mut more = more;
+        if self.lines.reserve(more.len()).is_err() {
             return Err(Refusal::Memory);
         }
         spare.store_behind(&mut self.lines, stays.to);
         self.lines.rotate_left(stays.from);
         spare.store_behind(&mut self.lines, stays.to - stays.from);
-        let _ = self.lines.append(&mut lines);
-        spare.store_lines(lines);
+        put_new(&mut self.lines[first..], spare, changed);
+        let _ = self.lines.append(&mut more);
+        spare.store_lines(more);
         Ok(())
     }
 }
@@ -131,6 +133,7 @@ pub struct Remembered {
     /// How many of the lines, from the front, stand in kept rows.
     pub kept: usize,
     pub ghost within: { kept ≤ length lines },
+    pub ghost small: { length lines ≤ 2 ^ 64 - 1 },
     pub ghost right: { ∥ (0 < width → AreLines width lines) ∥₁ },
 }
 
@@ -138,7 +141,8 @@ impl Remembered {
     ghost use Rattle.indicatif_term.specs.Lists.{Lists};
     ghost use Rattle.indicatif_term.specs.Remembered.{AreRemembered, live_lines};
     ghost use Rattle.indicatif_term.specs.Inside.Remembering.{StandAbove, IsNext, IsNothing};
-    ghost use Rattle.indicatif_term.specs.Inside.Renewed.{AreFitting, AreOver, Renews};
+    ghost use Rattle.indicatif_term.specs.Inside.Renewed.{AreFitting};
+    ghost use Rattle.indicatif_term.specs.Inside.Layouts.{AreBlank, AreWhole, ArePut};
 
     /// No line is remembered.
     pub fn nothing(alloc: Global) -> Remembered
@@ -202,21 +206,24 @@ impl Remembered {
         &self.live()[blanks..]
     }
 
-    /// The remembered lines of the live rows, if they are those of a terminal of `width` columns.
-    pub fn on(&self, width: usize) -> &[StandingLine]
-        ensures lines { result.now ≡ (if self.now.width == width then live_lines self.now else []) }
-        ensures right { 0 < width → AreLines width result.now }
+    /// The remembered lines of the live rows of a terminal of `width` columns, of which the first so many are blank ones; none if they aren't
+    /// known.
+    pub fn beside(&self, width: usize, blanks: usize) -> Beside<'_>
+        ensures right { 0 < width → AreLines width result.lines.now }
+        ensures blank { AreBlank result.blanks result.lines.now }
+        ensures live { (result.lines.now ≡ []) ⊎ ((self.now.width ≡ width) × (result.lines.now ≡ live_lines self.now)) }
     {
         if self.width == width {
-            self.live()
+            Beside::of(self.live(), blanks)
         } else {
-            &[]
+            Beside::nothing()
         }
     }
 
     /// The remembered lines in the last `rows` kept rows of a terminal of `width` columns.
     pub fn above(&self, width: usize, rows: usize) -> Span
         ensures within { result.to ≤ length self.now.lines }
+        ensures known { self.now.width ≡ width → result.to ≡ self.now.kept }
         ensures right { 0 < width → AreLines width (drop result.from (take result.to self.now.lines)) }
         ensures above { (l : Lists) → 0 < width → AreRemembered self.now l →
             StandAbove width (drop result.from (take result.to self.now.lines)) l }
@@ -231,35 +238,34 @@ impl Remembered {
         }
     }
 
-    /// Puts new lines in the place of remembered live ones, whose room becomes spare; the others stay.
-    pub fn put_new(&mut self, spare: &mut Spare, changed: Vec<NewLine>)
-        requires known { 0 < self.old.width }
-        requires fit { AreFitting self.old.width (live_lines self.old) (length (live_lines self.old)) changed.items }
-        ensures renews { Renews self.old changed.items self.new }
-        ensures over { AreOver self.old.width (live_lines self.old) (live_lines self.new) }
-    {
-        self.lines.put_new(self.kept, spare, changed);
-    }
-
-    /// Puts these lines below some remembered ones that stay, on a terminal of `width` columns; all others become spare. Refused: `Memory`,
-    /// where there is a line among these. All is unchanged then.
-    pub fn put_below(
+    /// Puts a frame that was laid out in the place of the live lines, below some remembered ones that stay, on a terminal of `width` columns;
+    /// all others become spare. Refused: `Memory`, where there is a line below. All is unchanged then.
+    pub fn put(
         &mut self,
         spare: &mut Spare,
-        stays: Span,
+        above: Span,
         next: NextLines,
         width: usize,
     ) -> Result<(), Refusal>
-        requires within { stays.to ≤ length self.old.lines }
-        requires right { 0 < width → AreLines width (drop stays.from (take stays.to self.old.lines) ++ next.lines.items) }
-        ensures refused { IfErr result (λ e. (e ≡ Refusal.Memory) × (0 < length next.lines.items) × (self.new ≡ self.old)) }
-        ensures next { IfOk result (λ _. IsNext width next.kept (drop stays.from (take stays.to self.old.lines)) next.lines.items self.new) }
+        requires some { 0 < width }
+        requires within { above.to + next.laid.at ≤ length self.old.lines }
+        requires known { 0 < next.laid.at → (self.old.width ≡ width) × (above.to ≡ self.old.kept) }
+        requires fit { AreFitting width (live_lines self.old) next.laid.at next.laid.changed.items }
+        requires right { AreLines width (drop above.from (take above.to self.old.lines)) }
+        requires more { AreLines width next.laid.more.items × AreWhole next.laid.more.items }
+        ensures refused { IfErr result (λ e. (e ≡ Refusal.Memory) × (0 < length next.laid.more.items) × (self.new ≡ self.old)) }
+        ensures next { IfOk result (λ _. (ls : List StandingLine) × ArePut width (live_lines self.old) next.laid ls
+            × IsNext width next.kept (drop above.from (take above.to self.old.lines)) ls self.new) }
     {
-        let NextLines { lines, kept } = next;
-        let left = lines.len() - kept;
-        self.lines.put_below(spare, stays, lines)?;
+        let NextLines { laid, kept } = next;
+        let stays = Span {
+            from: above.from,
+            to: above.to + laid.at,
+        };
+        let first = above.to - above.from;
+        self.lines.put(spare, stays, first, laid)?;
         self.width = width;
-        self.kept = self.lines.as_slice().len() - left;
+        self.kept = first + kept;
         Ok(())
     }
 }

@@ -1,8 +1,10 @@
 //! Room that was taken before.
-ghost use Rattle.std.specs.Prelude.{◌≡◌, [], take, vec_capacity, string_bytes};
+ghost use Rattle.std.specs.Prelude.{◌≡◌, [], take, vec_capacity, string_bytes, IfOk, IfErr};
 
+use crate::engine::layout::Laid;
 use crate::engine::remembered::StandingLine;
 use crate::engine::renewed::NewLine;
+use indicatif_text::columns::Refusal;
 use std::alloc::Global;
 use std::marker::Model;
 use std::mem::replace;
@@ -74,6 +76,16 @@ impl Spare {
         }
     }
 
+    /// A text in spare room. Refused: `Memory`.
+    pub fn copied(&mut self, text: &str) -> Result<String, Refusal>
+        ensures text { IfOk result (λ own. string_bytes own ≡ text.now) }
+        ensures memory { IfErr result (λ e. e ≡ Refusal.Memory) }
+    {
+        let mut own = self.take_text();
+        own.push_str(text)?;
+        Ok(own)
+    }
+
     /// An empty text that takes no room.
     pub fn no_text(&self) -> String
         ensures { string_bytes result ≡ [] }
@@ -88,6 +100,19 @@ impl Spare {
         if lines.capacity() > self.lines.capacity() {
             self.lines = lines;
         }
+    }
+
+    /// Keeps as spare the room of a frame that was laid out.
+    pub fn store_laid(&mut self, laid: Laid) {
+        let Laid {
+            plan: _,
+            blanks: _,
+            at: _,
+            changed,
+            more,
+        } = laid;
+        self.store_new(changed);
+        self.store_lines(more);
     }
 
     /// Keeps as spare the room of new lines that are no more, and of their texts.
@@ -115,7 +140,6 @@ impl Spare {
             narrow: _,
             edits: _,
             step: _,
-            like: _,
         } = line;
         if before.capacity() > 0 {
             self.store_text(before);

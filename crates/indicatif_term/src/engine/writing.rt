@@ -2,7 +2,7 @@
 ghost use Rattle.std.specs.Prelude.{◌≡◌, ◌<◌, ◌≤◌, ◌+◌, ◌-◌, [], ◌∷◌, ◌++◌, length, replicate, true, false, if◌then◌else◌, not, ◌&&◌, ◌||◌, ◌==◌, nat_lt, is_some};
 ghost use Rattle.indicatif_term.specs.Calls.{Writes, UP, DOWN, move_bytes, clear_bytes, anew_bytes};
 ghost use Rattle.indicatif_term.specs.Inside.Bytes.{rows_down, reach_bytes, back_bytes, lines_bytes, next_row};
-ghost use Rattle.indicatif_term.specs.Inside.Writings.{IsSkipping, CanWrite, is_inside, is_at_end, lower_lines, begin_bytes, inside_bytes, rest_bytes, writing_bytes};
+ghost use Rattle.indicatif_term.specs.Inside.Writings.{CanWrite, is_inside, is_at_end, lower_lines, begin_bytes, inside_bytes, rest_bytes, writing_bytes};
 ghost use Rattle.indicatif_term.specs.Standing.{texts};
 ghost use Rattle.indicatif_term.specs.Frames.{logged_lines};
 ghost use Rattle.indicatif_term.specs.Inside.Plans.{text_above};
@@ -52,22 +52,6 @@ pub struct Writing {
 }
 
 impl Writing {
-    /// Only what changes of this many lines, in their rows; no other row changes.
-    pub fn skipping(count: usize, width: usize) -> Writing
-        ensures { IsSkipping count width result }
-    {
-        Writing {
-            anew: false,
-            fresh: Fresh::none(),
-            below: false,
-            taken: 0,
-            manner: Manner::Among(count),
-            width,
-            ends_below: false,
-            fill: 0,
-        }
-    }
-
     /// Whether the cursor is at the end of a row before the text and the lower lines are written.
     fn is_at_end(&self) -> bool
         ensures { result ≡ is_at_end self.now }

@@ -1,146 +1,216 @@
-use Rattle.std.proofs.Common.{arith, ◌≡◌, ◌+◌, ◌<◌, map, length, ◌∙◌, sym, ap, subst, []}
+use Rattle.std.proofs.Common.{map, arith, ◌∙◌, ◌≡◌, ◌≤◌, ◌+◌, refl, [], ◌++◌, replicate, take, drop, sym, ap, subst}
 use Rattle.std.proofs.Math.Logic.{∥∥₁_map}
 use Rattle.indicatif_term.specs.Inside.Remembering.{Draws}
-use Rattle.indicatif_term.specs.Lists.{drawn}
+use Rattle.indicatif_term.specs.Lists.{Lists, drawn, blanks_for}
 use Rattle.indicatif_term.specs.Counts.{CountsOf}
-use Rattle.indicatif_term.specs.Inside.Writings.{ArePlaceable, CanWrite}
-use Rattle.indicatif_term.specs.declared.engine.writing.Writing.{Writing}
-use Rattle.indicatif_term.proofs.AmongLemmas.{change_bytes}
-use Rattle.indicatif_term.proofs.WritingLemmas.{all_placeable, skipping_written}
-use Rattle.indicatif_term.specs.Inside.Renewed.{IsRenewed}
-use Rattle.indicatif_term.specs.Standing.{placed}
+use Rattle.indicatif_term.specs.Standing.{texts, AreLines}
 use Rattle.indicatif_term.specs.Remembered.{live_lines}
-use Rattle.indicatif_term.specs.Frames.{bar_lines, all_lines}
-use Rattle.indicatif_term.specs.Engines.{engine_term, Fits}
+use Rattle.indicatif_term.specs.Inside.Writings.{CanWrite, writing_bytes, whole_writing}
+use Rattle.indicatif_term.specs.Inside.Plans.{frame_lines}
+use Rattle.indicatif_term.specs.Inside.Renewed.{AreFitting}
+use Rattle.indicatif_term.specs.Frames.{bar_lines, is_fault}
+use Rattle.indicatif_term.specs.Engines.{engine_term, Fits, Paints, is_failure, lists_after}
 use Rattle.indicatif_term.specs.DrawTargets.{is_bottom}
+use Rattle.indicatif_term.proofs.OwnedLemmas.{passing_within, kept_in}
+use Rattle.indicatif_term.proofs.LastLineLemmas.{fill_bytes}
 use Rattle.indicatif_term.proofs.DrawingLemmas.{drawn-adds, drawn-known, drawn-sound}
-use Rattle.indicatif_term.proofs.RememberedLemmas.{IsShown}
-use Rattle.indicatif_term.proofs.EngineLemmas.{live_known, paints_by, led, fits_counts, fits_failed, fits_forgets, fits_by, fits_shown, answer_made, Redraws}
-use Rattle.indicatif_term.proofs.SkippingLemmas.{counted_by}
-use Rattle.indicatif_term.proofs.RenewedLemmas.{fit_there, some_width, low_height, new_suits, counts_stay, shown_next, redraws_new, split_last, stands_again, over_ready}
+use Rattle.indicatif_term.proofs.LineEndLemmas.{draw_fill}
+use Rattle.indicatif_term.proofs.LaidLemmas.{own_count, stays_within, put_sits}
+use Rattle.indicatif_term.proofs.EngineLemmas.{paints_refused, paints_by, fits_counts, fits_failed, fits_forgets, fits_by, fits_shown}
+use Rattle.indicatif_term.proofs.SkippingLemmas.{drawn_shown, drawn_suits, counted_by, some_lines, counted_refused, fits_refused}
+use Rattle.indicatif_term.proofs.ChosenLemmas.{chosen_can, chosen_draws}
 use Rattle.indicatif_term.proofs.engine.Engine.draw.Goals as goal
 
-pub returns-in_default-clause-lists : goal.returns-in_default-clause-lists
-unfolding Fits
-returns-in_default-clause-lists g c = λ l fits. c.draw_anew.ensures.lists l fits
+pub returns-in_err-planned-clause-paints : goal.returns-in_err-planned-clause-paints
+returns-in_err-planned-clause-paints g c = λ l fits plain. paints_refused _ c.from_residual.result c.in_err-planned.field-0.0 l _ c.from_residual.ensures.1 c.in_err-planned.ensures.planned.0
 
-pub put_new-requires : goal.put_new-requires
-put_new-requires g c =
+pub kept_below-kept-requires : goal.kept_below-kept-requires
+kept_below-kept-requires g c =
     let s = g.T.TermLike.view (engine_term c.args.self.now) in
+    let p = c.in_ok-planned.ensures.planned in
+    let f = p.frame_is in
     let counts = c.args.self.now.counts in
-    let shown = c.args.self.now.shown in
-    let some = c.in-Some.ensures.some in
-    let q : IsRenewed s.columns s.rows c.args.frame.now counts shown c.in-Some.changed.items = rw (c.of-before.ensures.counts, c.of-before.ensures.shown) at c.in-Some.ensures.renewed in
-    let k = live_known c.args.self.now in
+    let fits : counts.kept + counts.live ≤ counts.reached = counts.fits in
+    let small : counts.reached ≤ 65535 = counts.small in
+    let high : c.in_ok-planned.planned.window.rows ≤ 65535 = c.in_ok-planned.planned.window.small in
+    omega (
+      arith,
+      p.blank_room,
+      passing_within s.columns s.rows c.args.pass (map bar_lines c.args.frame.now) c.in_ok-planned.planned.laid.plan f.plan_is,
+      f.is_summed.lines_fit,
+      f.is_summed.fit,
+      p.rows_are,
+      high,
+      fits,
+      small,
+    )
+
+pub invariant_of-next : goal.invariant_of-next
+invariant_of-next g c =
+    let s = g.T.TermLike.view (engine_term c.args.self.now) in
+    let f = c.in_ok-planned.ensures.planned.frame_is in
+    let l = c.in_ok-planned.planned.laid in
     record {
-      known = some_width s.columns s.rows c.args.frame.now counts shown c.in-Some.changed.items some q k;
-      fit = fit_there s.columns s.rows c.args.frame.now counts shown c.in-Some.changed.items some q k;
+      within = omega (
+        arith,
+        c.kept_below-kept.ensures,
+        kept_in l.plan l.blanks,
+        passing_within s.columns s.rows c.args.pass (map bar_lines c.args.frame.now) l.plan f.plan_is,
+        own_count s.columns s.rows (live_lines c.args.self.now.shown) _ _ l f.is_laid,
+      );
     }
 
-pub write-requires-clause-sound : goal.write-requires-clause-sound
-write-requires-clause-sound g c = (c.may_stay-may_stay.ensures (sym c.of-before.ensures.may_stay ∙ c.in-Some.ensures.may_stay)).0
+pub store-requires-clause-within : goal.store-requires-clause-within
+store-requires-clause-within g c =
+    let p = c.in_ok-planned.ensures.planned in
+    let l = c.in_ok-planned.planned.laid in
+    stays_within l.at c.above-above.result.to c.args.self.now.shown c.above-above.ensures.within (λ some. c.above-above.ensures.known (p.known some ∙ sym p.columns_are)) p.frame_is.is_laid.at_in
+
+pub store-requires-clause-known : goal.store-requires-clause-known
+store-requires-clause-known g c = λ some.
+    let p = c.in_ok-planned.ensures.planned in
+    let known = p.known some ∙ sym p.columns_are in
+    (known, c.above-above.ensures.known known)
+
+pub store-requires-clause-fit : goal.store-requires-clause-fit
+store-requires-clause-fit g c =
+    let p = c.in_ok-planned.ensures.planned in
+    let l = c.in_ok-planned.planned.laid in
+    subst (λ n. AreFitting n (live_lines c.args.self.now.shown) l.at l.changed.items) (sym p.columns_are) p.frame_is.is_laid.fit
+
+pub store-requires-clause-right : goal.store-requires-clause-right
+store-requires-clause-right g c = c.above-above.ensures.right c.in_ok-planned.planned.window.some
+
+pub store-requires-clause-more : goal.store-requires-clause-more
+store-requires-clause-more g c =
+    let p = c.in_ok-planned.ensures.planned in
+    let o = p.frame_is.is_laid in
+    (subst (λ n. AreLines n c.in_ok-planned.planned.laid.more.items) (sym p.columns_are) o.measured, o.whole)
+
+pub returns-in_err-from-clause-memory : goal.returns-in_err-from-clause-memory
+returns-in_err-from-clause-memory g c = λ e.
+    let s = g.T.TermLike.view (engine_term c.args.self.now) in
+    let p = c.in_ok-planned.ensures.planned in
+    let f = p.frame_is in
+    let l = c.in_ok-planned.planned.laid in (
+      rw p.columns_are at c.in_ok-planned.planned.window.some,
+      some_lines s.columns s.rows c.args.pass l.blanks c.args.self.now.counts.live c.in_ok-planned.planned.text.height _ c.args.frame.now l.plan f.plan_is p.blanks_are
+          (omega (arith, own_count s.columns s.rows (live_lines c.args.self.now.shown) _ _ l f.is_laid, c.in_err-from.ensures.refused.1)),
+    )
+
+pub returns-in_err-from-clause-counted : goal.returns-in_err-from-clause-counted
+returns-in_err-from-clause-counted g c =
+    counted_refused _ _ c.from_residual-in_err-from.result c.in_err-from.field-0.0 (ap (λ t. g.T.TermLike.view t) c.store.ensures.terminal) c.from_residual-in_err-from.ensures.1
+    (ap is_fault c.in_err-from.ensures.refused.0)
+
+pub returns-in_err-from-clause-lists : goal.returns-in_err-from-clause-lists
+unfolding Fits
+returns-in_err-from-clause-lists g c = λ l fits.
+    fits_refused _ _ c.from_residual-in_err-from.result c.in_err-from.field-0.0 l _ c.in_err-from.ensures.refused.2 c.from_residual-in_err-from.ensures.1
+    (ap is_fault c.in_err-from.ensures.refused.0) fits
+
+pub returns-in_err-from-clause-paints : goal.returns-in_err-from-clause-paints
+returns-in_err-from-clause-paints g c = λ l fits plain.
+    let s = g.T.TermLike.view (engine_term c.args.self.now) in
+    let r = c.from_residual-in_err-from.result in
+    let l' = drawn s.columns s.rows (is_bottom c.args.alignment) c.args.pass (map bar_lines c.args.frame.now) l in
+    subst (λ t. Paints s (g.T.TermLike.view t) (is_failure r) l (lists_after r l l')) (sym c.store.ensures.terminal)
+    (paints_refused s r c.in_err-from.field-0.0 l l' c.from_residual-in_err-from.ensures.1 (ap is_fault c.in_err-from.ensures.refused.0))
+
+pub store-requires-clause-suits : goal.store-requires-clause-suits
+store-requires-clause-suits g c = λ r ls put is.
+    let s = g.T.TermLike.view (engine_term c.args.self.now) in
+    let frame = map bar_lines c.args.frame.now in
+    let bottom = is_bottom c.args.alignment in
+    let p = c.in_ok-planned.ensures.planned in
+    let f = p.frame_is in
+    let o = f.is_laid in
+    let win = c.in_ok-planned.planned.window in
+    let l = c.in_ok-planned.planned.laid in
+    let old = c.args.self.now.counts in
+    let none : c.in_ok-planned.planned.text.height ≡ 0 = omega (arith, p.height_is) in
+    let blanks : l.blanks ≡ blanks_for bottom old.live 0 l.plan.rows = (rw c.is_bottom.ensures at p.blanks_are) ∙ ap (λ n. blanks_for bottom old.live n l.plan.rows) none in
+    let kept = drop c.above-above.result.from (take c.above-above.result.to c.args.self.now.shown.lines) in
+    let next = λ (x : Lists) (q : CountsOf old x). rw p.rows_are at (c.drawn-counts.ensures s.columns c.args.pass bottom frame x q (rw (← p.rows_are) at f.plan_is) blanks) in
+    ∥∥₁_map c.args.self.now.some (λ x. (
+      drawn s.columns s.rows bottom c.args.pass frame x.0,
+      drawn_suits win.columns s.columns s.rows c.args.pass l.blanks bottom c.args.frame.now x.0 old c.drawn-counts.result l.plan kept ls o.counts r p.columns_are (rw c.kept_below-kept.ensures at is)
+          x.1.counted f.plan_is blanks (put.texts_are ∙ o.texts_are) (put.counts_are ∙ o.counts_are) o.laid.counts_are put.right
+          (c.above-above.ensures.above x.0 win.some x.1.remembered) (next x.0 x.1.counted),
+    ))
 
 pub write-requires-clause-can : goal.write-requires-clause-can
 write-requires-clause-can g c =
-    let s = g.T.TermLike.view (engine_term c.args.self.now) in
-    let counts = c.args.self.now.counts in
-    let shown = c.args.self.now.shown in
-    let frame = c.args.frame.now in
-    let new = c.in-Some.changed.items in
-    let some = c.in-Some.ensures.some in
-    let q : IsRenewed s.columns s.rows frame counts shown new = rw (c.of-before.ensures.counts, c.of-before.ensures.shown) at c.in-Some.ensures.renewed in
-    let k = live_known c.args.self.now in
-    let r = c.put_new.new.self in
-    let renews = c.put_new.ensures.renews in
-    let ls = live_lines r in
-    subst (λ (p : Writing). CanWrite p.manner ls) (sym c.skipping-writing.ensures.is)
-    (subst (λ n. ArePlaceable n ls) (ap length (sym c.live-lines.ensures)) (all_placeable ls (low_height s.columns s.rows frame counts shown new some q k r renews)
-    (over_ready shown.width (live_lines shown) ls c.put_new.ensures.over)))
-
-pub invariant_of-self-2 : goal.invariant_of-self-2
-invariant_of-self-2 g c =
-    let s = g.T.TermLike.view (engine_term c.args.self.now) in
-    let counts = c.args.self.now.counts in
-    let shown = c.args.self.now.shown in
-    let frame = c.args.frame.now in
-    let bottom = is_bottom c.args.alignment in
-    let new = c.in-Some.changed.items in
-    let some = c.in-Some.ensures.some in
-    let q : IsRenewed s.columns s.rows frame counts shown new = rw (c.of-before.ensures.counts, c.of-before.ensures.shown) at c.in-Some.ensures.renewed in
-    let k = live_known c.args.self.now in
-    let r = c.put_new.new.self in
-    let renews = c.put_new.ensures.renews in
-    let ls = live_lines r in
-    let may = c.may_stay-may_stay.ensures (sym c.of-before.ensures.may_stay ∙ c.in-Some.ensures.may_stay) in
-    record {
-      some = rw may.0 (∥∥₁_map c.args.self.now.some (λ x. (
-        drawn s.columns s.rows bottom 0 (map bar_lines frame) x.0,
-        new_suits s.columns s.rows frame counts shown new some q k bottom x.0 r x.1.counted x.1.remembered renews,
-      )));
-    }
-
-pub returns-clause-answer : goal.returns-clause-answer
-returns-clause-answer g c =
-    let s = g.T.TermLike.view (engine_term c.args.self.now) in
-    let q : IsRenewed s.columns s.rows c.args.frame.now c.args.self.now.counts c.args.self.now.shown c.in-Some.changed.items =
-    rw (c.of-before.ensures.counts, c.of-before.ensures.shown) at c.in-Some.ensures.renewed in
-    let k = live_known c.args.self.now in
-    answer_made s.columns (all_lines (map bar_lines c.args.frame.now)) _ _ c.write.result c.write.new.self c.write.ensures.remembers c.in-Some.ensures.some q.narrow
+    let e = c.args.self.now in
+    let x = c.in_ok-from.ensures.next in
+    let ls = x.0 in
+    let lines = c.behind.ensures ∙ x.4 in
+    let whole = whole_writing e.counts e.failed c.fresh-fresh.result c.drawn-counts.result c.in_ok-planned.planned.window.columns ls in
+    subst (λ xs. CanWrite c.writing-writing.result.manner xs) (sym x.4)
+    (chosen_can e.counts e.failed e.shown.width c.drawn-counts.result ls whole c.writing-writing.result refl x.1.ready (rw lines at c.writing-writing.ensures))
 
 pub returns-clause-counted : goal.returns-clause-counted
 returns-clause-counted g c =
-    let s = g.T.TermLike.view (engine_term c.args.self.now) in
+    let v = g.T.TermLike.view (engine_term c.args.self.now) in
     let v' = g.T.TermLike.view (engine_term c.write.new.self) in
-    counted_by _ s v' c.args.self.now.counts c.put_new.new.self c.write.result c.write.new.self c.write.ensures.remembers c.write.ensures.draws
+    counted_by _ v v' _ _ c.write.result c.write.new.self c.write.ensures.remembers (rw c.store.ensures.terminal at c.write.ensures.draws)
 
 pub returns-clause-lists : goal.returns-clause-lists
-returns-clause-lists g c = λ l fits.
+returns-clause-lists g c = λ x fits.
     let s = g.T.TermLike.view (engine_term c.args.self.now) in
-    let counts = c.args.self.now.counts in
-    let shown = c.args.self.now.shown in
-    let frame = c.args.frame.now in
+    let frame = map bar_lines c.args.frame.now in
     let bottom = is_bottom c.args.alignment in
-    let new = c.in-Some.changed.items in
-    let some = c.in-Some.ensures.some in
-    let q : IsRenewed s.columns s.rows frame counts shown new = rw (c.of-before.ensures.counts, c.of-before.ensures.shown) at c.in-Some.ensures.renewed in
-    let k = live_known c.args.self.now in
-    let r = c.put_new.new.self in
-    let renews = c.put_new.ensures.renews in
-    let ls = live_lines r in
-    let may = c.may_stay-may_stay.ensures (sym c.of-before.ensures.may_stay ∙ c.in-Some.ensures.may_stay) in
-    let o = fits_counts c.args.self.now l fits in
-    let known = fits_shown c.args.self.now l fits in
-    let same = ap (λ n. drawn s.columns s.rows bottom n (map bar_lines frame) l) (sym may.1) in
-    fits_by counts r c.write.result c.write.new.self l (drawn s.columns s.rows bottom c.args.pass (map bar_lines frame) l) c.write.ensures.remembers
-    (subst (CountsOf counts) same (counts_stay s.columns s.rows frame counts shown new some q k bottom l o)) (drawn-sound s.columns s.rows bottom c.args.pass (map bar_lines frame) l)
-    (subst (IsShown r) same (shown_next s.columns s.rows frame counts shown new some q k l r o known renews bottom))
+    let p = c.in_ok-planned.ensures.planned in
+    let f = p.frame_is in
+    let o = f.is_laid in
+    let win = c.in_ok-planned.planned.window in
+    let l = c.in_ok-planned.planned.laid in
+    let old = c.args.self.now.counts in
+    let none : c.in_ok-planned.planned.text.height ≡ 0 = omega (arith, p.height_is) in
+    let blanks : l.blanks ≡ blanks_for bottom old.live 0 l.plan.rows = (rw c.is_bottom.ensures at p.blanks_are) ∙ ap (λ n. blanks_for bottom old.live n l.plan.rows) none in
+    let kept = drop c.above-above.result.from (take c.above-above.result.to c.args.self.now.shown.lines) in
+    let next = λ (x : Lists) (q : CountsOf old x). rw p.rows_are at (c.drawn-counts.ensures s.columns c.args.pass bottom frame x q (rw (← p.rows_are) at f.plan_is) blanks) in
+    let q = fits_counts c.args.self.now x fits in
+    let x' = drawn s.columns s.rows bottom c.args.pass frame x in
+    let put = c.in_ok-from.ensures.next.1 in
+    let is = c.in_ok-from.ensures.next.2 in
+    fits_by _ c.store.new.self.shown c.write.result c.write.new.self x x' c.write.ensures.remembers (subst (λ k. CountsOf k x') (sym c.in_ok-from.ensures.made.0) (next x q))
+    (drawn-sound s.columns s.rows bottom c.args.pass frame x)
+    (drawn_shown win.columns s.columns s.rows c.args.pass l.blanks bottom c.args.frame.now x old l.plan kept c.in_ok-from.ensures.next.0 o.counts c.store.new.self.shown p.columns_are
+    (rw c.kept_below-kept.ensures at is) q f.plan_is blanks (put.texts_are ∙ o.texts_are) (put.counts_are ∙ o.counts_are) o.laid.counts_are put.right
+    (c.above-above.ensures.above x win.some (fits_shown c.args.self.now x fits)))
 
 pub returns-clause-paints : goal.returns-clause-paints
-returns-clause-paints g c = λ l fits plain.
-    let s = g.T.TermLike.view (engine_term c.args.self.now) in
-    let counts = c.args.self.now.counts in
-    let shown = c.args.self.now.shown in
-    let frame = c.args.frame.now in
+returns-clause-paints g c = λ x fits plain.
+    let e = c.args.self.now in
+    let s = g.T.TermLike.view (engine_term e) in
+    let frame = map bar_lines c.args.frame.now in
     let bottom = is_bottom c.args.alignment in
-    let new = c.in-Some.changed.items in
-    let some = c.in-Some.ensures.some in
-    let q : IsRenewed s.columns s.rows frame counts shown new = rw (c.of-before.ensures.counts, c.of-before.ensures.shown) at c.in-Some.ensures.renewed in
-    let k = live_known c.args.self.now in
-    let r = c.put_new.new.self in
-    let renews = c.put_new.ensures.renews in
-    let ls = live_lines r in
-    let may = c.may_stay-may_stay.ensures (sym c.of-before.ensures.may_stay ∙ c.in-Some.ensures.may_stay) in
+    let p = c.in_ok-planned.ensures.planned in
+    let f = p.frame_is in
+    let o = f.is_laid in
+    let win = c.in_ok-planned.planned.window in
+    let l = c.in_ok-planned.planned.laid in
+    let old = e.counts in
+    let none : c.in_ok-planned.planned.text.height ≡ 0 = omega (arith, p.height_is) in
+    let blanks : l.blanks ≡ blanks_for bottom old.live 0 l.plan.rows = (rw c.is_bottom.ensures at p.blanks_are) ∙ ap (λ n. blanks_for bottom old.live n l.plan.rows) none in
+    let next = λ (x : Lists) (q : CountsOf old x). rw p.rows_are at (c.drawn-counts.ensures s.columns c.args.pass bottom frame x q (rw (← p.rows_are) at f.plan_is) blanks) in
+    let y = c.in_ok-from.ensures.next in
+    let ls = y.0 in
+    let put = y.1 in
+    let lines = c.behind.ensures ∙ y.4 in
+    let t : texts ls ≡ replicate l.blanks [] ++ take l.plan.lines (frame_lines c.args.frame.now) = put.texts_are ∙ o.texts_are in
+    let known = fits_shown e x fits in
+    let q = c.writing-writing.result in
     let v' = g.T.TermLike.view (engine_term c.write.new.self) in
-    let parts = split_last (placed ls) (stands_again s.columns s.rows frame counts shown new some q k ls renews.in_place) in
-    let bytes = change_bytes s.columns 0 parts.0 parts.1 [] in
-    let writes : Draws bytes s v' c.write.result = subst (λ b. Draws b s v' c.write.result) (skipping_written _ r.width c.skipping-writing.result ls parts.0 parts.1 c.skipping-writing.ensures
-    (ap length c.live-lines.ensures) parts.2 ∙ ap (λ n. change_bytes n 0 parts.0 parts.1 []) (renews.width_is ∙ q.settled.same_width)) c.write.ensures.draws in
-    let o = fits_counts c.args.self.now l fits in
-    let known = fits_shown c.args.self.now l fits in
-    let over = c.put_new.ensures.over in
-    paints_by s v' counts counts r c.write.result c.write.new.self c.args.self.now.failed l (drawn s.columns s.rows bottom c.args.pass (map bar_lines frame)) bytes c.write.ensures.remembers
-    (fits_failed c.args.self.now l fits) (subst (λ f. Draws (led f bytes) s v' c.write.result) (sym may.0) writes)
-    (λ x is. subst (λ n. Redraws s.columns s.rows x (drawn s.columns s.rows bottom n (map bar_lines frame) x) bytes) (sym may.1)
-    (redraws_new s.columns s.rows frame counts shown new some q k ls renews.texts_are renews.in_place bottom l x parts.0 parts.1 over o known plain is.counts is.live parts.2)) o
-    (fits_forgets c.args.self.now l fits) (drawn-sound s.columns s.rows bottom c.args.pass (map bar_lines frame) l) (drawn-adds s.columns s.rows bottom c.args.pass (map bar_lines frame) l)
-    (drawn-known s.columns s.rows bottom c.args.pass (map bar_lines frame) l)
+    let right = subst (λ k. AreLines k ls) p.columns_are put.right in
+    let below = c.drawn-counts.result.below in
+    let fill = draw_fill s.columns ls below _ _ right refl (ap (λ k. (whole_writing old e.failed c.fresh-fresh.result c.drawn-counts.result k ls).fill) p.columns_are)
+    ∙ ap (fill_bytes below s.columns) t in
+    let d = chosen_draws old e.failed e.shown win.columns s.columns s.rows c.args.pass l.blanks _ bottom c.drawn-counts.result c.args.frame.now l.plan ls c.fresh-fresh.result q x p.columns_are
+    (rw p.columns_are at win.some) plain f.narrow f.plan_is next blanks t right (put_sits win.columns s.columns e.shown l x ls p.columns_are win.some put known)
+    (rw p.rows_are at c.fresh-fresh.ensures) fill (fits_counts e x fits) known (rw lines at c.writing-writing.ensures) in
+    let writes : Draws (writing_bytes q [] ls) s v' c.write.result = rw (c.store.ensures.terminal, y.4) at c.write.ensures.draws in
+    paints_by s v' old _ _ c.write.result c.write.new.self e.failed x (drawn s.columns s.rows bottom c.args.pass frame) d.0 c.write.ensures.remembers (fits_failed e x fits)
+    (subst (λ b. Draws b s v' c.write.result) d.1 writes) d.2 (fits_counts e x fits) (fits_forgets e x fits) (drawn-sound s.columns s.rows bottom c.args.pass frame x)
+    (drawn-adds s.columns s.rows bottom c.args.pass frame x) (drawn-known s.columns s.rows bottom c.args.pass frame x)

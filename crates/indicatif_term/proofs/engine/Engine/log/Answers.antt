@@ -1,21 +1,21 @@
-use Rattle.std.proofs.Common.{map, ◌≡◌, ◌≤◌, ◌+◌, ℕ, List, [], ◌++◌, ◌∙◌, ap, arith, false, replicate, take, length, length-append, length-take, append_assoc, subst, sym}
-use Rattle.std.specs.Prelude.{string_bytes}
-use Rattle.std.proofs.lemmas.List.{length-map, length-replicate}
+use Rattle.std.proofs.Common.{map, false, ◌≡◌, ◌≤◌, ◌+◌, [], ◌++◌, ◌∙◌, ap, arith, replicate, take, append_assoc, subst, sym}
 use Rattle.std.proofs.Math.Logic.{∥∥₁_map}
 use Rattle.indicatif_term.specs.Lists.{Lists, logged}
-use Rattle.indicatif_term.specs.Counts.{CountsOf, line_counts}
+use Rattle.indicatif_term.specs.Counts.{CountsOf}
 use Rattle.indicatif_term.specs.Inside.Bytes.{reach_bytes}
 use Rattle.indicatif_term.proofs.PaintingLemmas.{paint_bytes}
 use Rattle.indicatif_term.proofs.LastLineLemmas.{fill_bytes}
 use Rattle.indicatif_term.specs.Inside.Plans.{frame_lines, text_height}
-use Rattle.indicatif_term.specs.Standing.{texts}
+use Rattle.indicatif_term.specs.Standing.{texts, AreLines}
 use Rattle.indicatif_term.specs.Frames.{bar_lines, logged_lines, text_lines, all_lines, is_fault}
-use Rattle.indicatif_term.specs.declared.engine.remembered.StandingLine.{StandingLine}
+use Rattle.indicatif_term.specs.Remembered.{live_lines}
+use Rattle.indicatif_term.specs.Inside.Renewed.{AreFitting}
 use Rattle.indicatif_term.specs.Engines.{engine_term, Fits, Paints, is_failure, lists_after}
 use Rattle.indicatif_term.specs.DrawTargets.{is_bottom}
 use Rattle.indicatif_term.proofs.SkippingLemmas.{logged_shown, some_lines, counted_refused, fits_refused}
 use Rattle.indicatif_term.proofs.DrawingLemmas.{logged-adds, logged-known, logged-sound}
 use Rattle.indicatif_term.proofs.LineEndLemmas.{log_fill}
+use Rattle.indicatif_term.proofs.LaidLemmas.{own_count}
 use Rattle.indicatif_term.proofs.EngineLemmas.{all_or_many, paints_refused, paints_by, led, fits_counts, fits_failed, fits_forgets, fits_by, suits_made, log_paints, narrow_both, answer_made}
 use Rattle.indicatif_term.specs.Inside.Remembering.{Draws}
 use Rattle.indicatif_term.proofs.WritingLemmas.{whole_bytes}
@@ -25,43 +25,34 @@ use Rattle.indicatif_term.proofs.engine.Engine.log.Goals as goal
 pub returns-in_err-planned-clause-paints : goal.returns-in_err-planned-clause-paints
 returns-in_err-planned-clause-paints g c = λ l fits plain. paints_refused _ c.from_residual.result c.in_err-planned.field-0.0 l _ c.from_residual.ensures.1 c.in_err-planned.ensures.planned.0
 
-pub returns-in_err-lines-clause-memory : goal.returns-in_err-lines-clause-memory
-returns-in_err-lines-clause-memory g c = λ e.
-    let s = g.T.TermLike.view (engine_term c.args.self.now) in
+pub store-requires-clause-within : goal.store-requires-clause-within
+store-requires-clause-within g c = omega (arith, c.in_ok-planned.ensures.planned.below_text (logged_length c.args.text.now))
+
+pub store-requires-clause-known : goal.store-requires-clause-known
+store-requires-clause-known g c = λ some. absurd (omega (arith, some, c.in_ok-planned.ensures.planned.below_text (logged_length c.args.text.now)))
+
+pub store-requires-clause-fit : goal.store-requires-clause-fit
+store-requires-clause-fit g c =
     let p = c.in_ok-planned.ensures.planned in
-    let old = c.args.self.now.counts in
-    let rows = c.in_ok-planned.planned.text.height in
-    let blanks = rw c.is_bottom.ensures at (c.blanks_of-blanks.ensures.blanks (old.kept + old.live) rows c.saturating_sub-free.ensures) in (
-      rw p.columns_are at c.in_ok-planned.planned.window.some,
-      some_lines s.columns s.rows 0 c.blanks_of-blanks.result (old.kept + old.live) rows (is_bottom c.args.alignment) c.args.frame.now c.in_ok-planned.planned.plan p.plan_is blanks
-          (omega (arith, c.in_err-lines.ensures.memory.1)),
-    )
+    let l = c.in_ok-planned.planned.laid in
+    subst (λ n. AreFitting n (live_lines c.args.self.now.shown) l.at l.changed.items) (sym p.columns_are) p.frame_is.is_laid.fit
 
-pub returns-in_err-lines-clause-paints : goal.returns-in_err-lines-clause-paints
-returns-in_err-lines-clause-paints g c = λ l fits plain.
-    paints_refused _ c.from_residual-in_err-lines.result c.in_err-lines.field-0.0 l _ c.from_residual-in_err-lines.ensures.1 (ap is_fault c.in_err-lines.ensures.memory.0)
-
-pub store-requires-clause-right : goal.store-requires-clause-right
-store-requires-clause-right g c = λ some. c.in_ok-lines.ensures.right c.in_ok-planned.planned.window.columns c.in_ok-planned.ensures.lines.measured
+pub store-requires-clause-more : goal.store-requires-clause-more
+store-requires-clause-more g c =
+    let p = c.in_ok-planned.ensures.planned in
+    let o = p.frame_is.is_laid in
+    (subst (λ n. AreLines n c.in_ok-planned.planned.laid.more.items) (sym p.columns_are) o.measured, o.whole)
 
 pub returns-in_err-from-clause-memory : goal.returns-in_err-from-clause-memory
 returns-in_err-from-clause-memory g c = λ e.
     let s = g.T.TermLike.view (engine_term c.args.self.now) in
     let p = c.in_ok-planned.ensures.planned in
-    let plan = c.in_ok-planned.planned.plan in
+    let f = p.frame_is in
     let old = c.args.self.now.counts in
-    let rows = c.in_ok-planned.planned.text.height in
-    let ls = c.in_ok-lines.lines.items in
-    let bytes = λ (l : StandingLine). string_bytes l.text in
-    let k = c.blanks_of-blanks.result in
-    let blanks = rw c.is_bottom.ensures at (c.blanks_of-blanks.ensures.blanks (old.kept + old.live) rows c.saturating_sub-free.ensures) in
-    let front : List (List ℕ) = replicate k [] in
-    let size : length ls ≡ k + length (take plan.lines (frame_lines c.args.frame.now)) =
-    sym (length-map ls bytes) ∙ ap length (c.in_ok-lines.ensures.texts ∙ ap (λ xs. front ++ xs) c.in_ok-planned.ensures.lines.texts_are)
-    ∙ length-append front (take plan.lines (frame_lines c.args.frame.now)) ∙ ap (λ n. n + length (take plan.lines (frame_lines c.args.frame.now))) (length-replicate k []) in (
+    let l = c.in_ok-planned.planned.laid in (
       rw p.columns_are at c.in_ok-planned.planned.window.some,
-      some_lines s.columns s.rows 0 k (old.kept + old.live) rows (is_bottom c.args.alignment) c.args.frame.now plan p.plan_is blanks
-          (omega (arith, size, length-take plan.lines (frame_lines c.args.frame.now), c.in_err-from.ensures.refused.1)),
+      some_lines s.columns s.rows 0 l.blanks (old.kept + old.live) c.in_ok-planned.planned.text.height _ c.args.frame.now l.plan f.plan_is p.blanks_are
+          (omega (arith, own_count s.columns s.rows (live_lines c.args.self.now.shown) _ _ l f.is_laid, c.in_err-from.ensures.refused.1)),
     )
 
 pub returns-in_err-from-clause-counted : goal.returns-in_err-from-clause-counted
@@ -84,25 +75,26 @@ returns-in_err-from-clause-paints g c = λ l fits plain.
     (paints_refused s r c.in_err-from.field-0.0 l l' c.from_residual-in_err-from.ensures.1 (ap is_fault c.in_err-from.ensures.refused.0))
 
 pub store-requires-clause-suits : goal.store-requires-clause-suits
-store-requires-clause-suits g c = λ r is.
+store-requires-clause-suits g c = λ r ls put is.
     let s = g.T.TermLike.view (engine_term c.args.self.now) in
     let frame = map bar_lines c.args.frame.now in
     let bottom = is_bottom c.args.alignment in
     let p = c.in_ok-planned.ensures.planned in
+    let f = p.frame_is in
+    let o = f.is_laid in
     let win = c.in_ok-planned.planned.window in
+    let l = c.in_ok-planned.planned.laid in
     let old = c.args.self.now.counts in
+    let rows = c.in_ok-planned.planned.text.height in
     let text = text_lines (logged_lines c.args.text.now) in
-    let blanks = rw c.is_bottom.ensures at (c.blanks_of-blanks.ensures.blanks (old.kept + old.live) c.in_ok-planned.planned.text.height c.saturating_sub-free.ensures) in
-    let t = c.in_ok-lines.ensures.texts ∙ ap (λ xs. replicate c.blanks_of-blanks.result [] ++ xs) c.in_ok-planned.ensures.lines.texts_are in
+    let blanks = rw c.is_bottom.ensures at p.blanks_are in
     ∥∥₁_map c.args.self.now.some (λ x.
-    let l = x.0 in
-    let l' = logged s.columns s.rows bottom text frame l in
-    let next = rw p.rows_are at (c.logged-counts.ensures s.columns bottom text frame l x.1.counted (rw (← p.rows_are) at p.plan_is) p.height_is blanks) in (
-      l',
-      suits_made c.logged-counts.result r l' next (logged-sound s.columns s.rows bottom text frame l)
-          (logged_shown win.columns s.columns s.rows c.in_ok-planned.planned.text.height c.blanks_of-blanks.result bottom text c.args.frame.now l old
-          c.in_ok-planned.planned.plan c.in_ok-lines.lines.items (line_counts c.in_ok-planned.planned.lines.items) r p.columns_are is x.1.counted p.plan_is p.height_is blanks t
-          c.in_ok-lines.ensures.counts p.counts_are (c.in_ok-lines.ensures.right win.columns c.in_ok-planned.ensures.lines.measured)),
+    let x' = logged s.columns s.rows bottom text frame x.0 in
+    let next = rw p.rows_are at (c.logged-counts.ensures s.columns bottom text frame x.0 x.1.counted (rw (← p.rows_are) at f.plan_is) p.height_is blanks) in (
+      x',
+      suits_made c.logged-counts.result r x' next (logged-sound s.columns s.rows bottom text frame x.0)
+          (logged_shown win.columns s.columns s.rows rows l.blanks bottom text c.args.frame.now x.0 old l.plan ls o.counts r p.columns_are is x.1.counted f.plan_is p.height_is blanks
+          (put.texts_are ∙ o.texts_are) (put.counts_are ∙ o.counts_are) o.laid.counts_are put.right),
     ))
 
 pub returns-clause-answer : goal.returns-clause-answer
@@ -113,68 +105,70 @@ returns-clause-answer g c =
     let w = c.in_ok-planned.planned.window.columns in
     rw (← p.columns_are) (answer_made w (text ++ frame) _ _ c.write.result c.write.new.self
     c.write.ensures.remembers c.in_ok-planned.planned.window.some
-    (rw (← p.columns_are) at (narrow_both (g.T.TermLike.view (engine_term c.args.self.now)).columns text frame p.narrow_text p.narrow_frame)))
+    (rw (← p.columns_are) at (narrow_both (g.T.TermLike.view (engine_term c.args.self.now)).columns text frame p.narrow_text p.frame_is.narrow)))
 
 pub returns-clause-lists : goal.returns-clause-lists
-returns-clause-lists g c = λ l fits.
+returns-clause-lists g c = λ x fits.
     let s = g.T.TermLike.view (engine_term c.args.self.now) in
     let frame = map bar_lines c.args.frame.now in
     let bottom = is_bottom c.args.alignment in
     let p = c.in_ok-planned.ensures.planned in
+    let f = p.frame_is in
+    let o = f.is_laid in
     let win = c.in_ok-planned.planned.window in
+    let l = c.in_ok-planned.planned.laid in
     let old = c.args.self.now.counts in
+    let rows = c.in_ok-planned.planned.text.height in
     let text = text_lines (logged_lines c.args.text.now) in
-    let blanks = rw c.is_bottom.ensures at (c.blanks_of-blanks.ensures.blanks (old.kept + old.live) c.in_ok-planned.planned.text.height c.saturating_sub-free.ensures) in
-    let t = c.in_ok-lines.ensures.texts ∙ ap (λ xs. replicate c.blanks_of-blanks.result [] ++ xs) c.in_ok-planned.ensures.lines.texts_are in
-    let is = c.in_ok-from.ensures.next.0 in
-    let o = fits_counts c.args.self.now l fits in
-    let l' = logged s.columns s.rows bottom text frame l in
-    let next = rw p.rows_are at (c.logged-counts.ensures s.columns bottom text frame l o (rw (← p.rows_are) at p.plan_is) p.height_is blanks) in
-    fits_by _ c.store.new.self.shown c.write.result c.write.new.self l l' c.write.ensures.remembers (subst (λ k. CountsOf k l') (sym c.in_ok-from.ensures.made.0) next)
-    (logged-sound s.columns s.rows bottom text frame l)
-    (logged_shown win.columns s.columns s.rows c.in_ok-planned.planned.text.height c.blanks_of-blanks.result bottom text c.args.frame.now l old c.in_ok-planned.planned.plan
-    c.in_ok-lines.lines.items (line_counts c.in_ok-planned.planned.lines.items) c.store.new.self.shown p.columns_are is o p.plan_is p.height_is blanks t
-    c.in_ok-lines.ensures.counts p.counts_are (c.in_ok-lines.ensures.right win.columns c.in_ok-planned.ensures.lines.measured))
+    let blanks = rw c.is_bottom.ensures at p.blanks_are in
+    let y = c.in_ok-from.ensures.next in
+    let put = y.1 in
+    let q = fits_counts c.args.self.now x fits in
+    let x' = logged s.columns s.rows bottom text frame x in
+    let next = rw p.rows_are at (c.logged-counts.ensures s.columns bottom text frame x q (rw (← p.rows_are) at f.plan_is) p.height_is blanks) in
+    fits_by _ c.store.new.self.shown c.write.result c.write.new.self x x' c.write.ensures.remembers (subst (λ k. CountsOf k x') (sym c.in_ok-from.ensures.made.0) next)
+    (logged-sound s.columns s.rows bottom text frame x)
+    (logged_shown win.columns s.columns s.rows rows l.blanks bottom text c.args.frame.now x old l.plan y.0 o.counts c.store.new.self.shown p.columns_are y.2 q f.plan_is p.height_is blanks
+    (put.texts_are ∙ o.texts_are) (put.counts_are ∙ o.counts_are) o.laid.counts_are put.right)
 
 pub returns-clause-paints : goal.returns-clause-paints
-returns-clause-paints g c = λ l fits plain.
-    let s = g.T.TermLike.view (engine_term c.args.self.now) in
+returns-clause-paints g c = λ x fits plain.
+    let e = c.args.self.now in
+    let s = g.T.TermLike.view (engine_term e) in
     let frame = map bar_lines c.args.frame.now in
     let bottom = is_bottom c.args.alignment in
-    let old = c.args.self.now.counts in
-    let o = fits_counts c.args.self.now l fits in
+    let old = e.counts in
+    let taken = old.kept + old.live in
     let p = c.in_ok-planned.ensures.planned in
-    let plan = c.in_ok-planned.planned.plan in
+    let f = p.frame_is in
+    let l = c.in_ok-planned.planned.laid in
+    let plan = l.plan in
+    let win = c.in_ok-planned.planned.window in
     let rows = c.in_ok-planned.planned.text.height in
     let text = logged_lines c.args.text.now in
-    let f = c.fresh-fresh.result in
+    let fresh = c.fresh-fresh.result in
     let end = c.saturating_add-end.result in
-    let ends : end ≤ text_height s.columns (text_lines text) + (c.blanks_of-blanks.result + plan.rows) = omega (arith, c.saturating_add-end.ensures, p.height_is) in
-    let lasts = all_or_many (text_height s.columns (text_lines text)) (c.blanks_of-blanks.result + plan.rows) rows end p.height_is c.saturating_add-end.ensures in
-    let blanks = rw c.is_bottom.ensures at (c.blanks_of-blanks.ensures.blanks (old.kept + old.live) rows c.saturating_sub-free.ensures) in
-    let next = λ (x : Lists) (is : CountsOf old x). rw p.rows_are at (c.logged-counts.ensures s.columns bottom (text_lines text) frame x is (rw (← p.rows_are) at p.plan_is) p.height_is blanks) in
-    let lines = text ++ replicate c.blanks_of-blanks.result [] ++ take plan.lines (frame_lines c.args.frame.now) in
-    let fill = log_fill s.columns s.rows 0 c.blanks_of-blanks.result (old.kept + old.live) rows bottom c.args.frame.now plan p.plan_is p.plan_ends blanks
-    c.logged-counts.result.below c.fill.result c.unwrap_or-last.result text (logged_length c.args.text.now) (rw p.text_ends at c.unwrap_or-last.ensures)
-    (rw p.columns_are at c.fill.ensures) in
-    let t = c.in_ok-lines.ensures.texts ∙ ap (λ xs. replicate c.blanks_of-blanks.result [] ++ xs) c.in_ok-planned.ensures.lines.texts_are in
-    let ls = c.in_ok-lines.lines.items in
-    let all : text ++ texts ls ≡ lines = ap (λ xs. text ++ xs) t ∙ sym (append_assoc text (replicate c.blanks_of-blanks.result []) (take plan.lines (frame_lines c.args.frame.now))) in
+    let below = c.logged-counts.result.below in
+    let ends : end ≤ text_height s.columns (text_lines text) + (l.blanks + plan.rows) = omega (arith, c.saturating_add-end.ensures, p.height_is) in
+    let lasts = all_or_many (text_height s.columns (text_lines text)) (l.blanks + plan.rows) rows end p.height_is c.saturating_add-end.ensures in
+    let blanks = rw c.is_bottom.ensures at p.blanks_are in
+    let next = λ (x : Lists) (is : CountsOf old x). rw p.rows_are at (c.logged-counts.ensures s.columns bottom (text_lines text) frame x is (rw (← p.rows_are) at f.plan_is) p.height_is blanks) in
+    let lines = text ++ replicate l.blanks [] ++ take plan.lines (frame_lines c.args.frame.now) in
+    let y = c.in_ok-from.ensures.next in
+    let ls = y.0 in
+    let put = y.1 in
+    let all : text ++ texts ls ≡ lines = ap (λ xs. text ++ xs) (put.texts_are ∙ f.is_laid.texts_are)
+    ∙ sym (append_assoc text (replicate l.blanks []) (take plan.lines (frame_lines c.args.frame.now))) in
+    let right = subst (λ k. AreLines k ls) p.columns_are put.right in
+    let fill = log_fill s.columns text ls below c.last_column.result c.unwrap_or-last.result c.fill.result (logged_length c.args.text.now) right
+    (rw (c.behind.ensures ∙ y.4) at c.last_column.ensures) (rw p.text_ends at c.unwrap_or-last.ensures) (rw p.columns_are at c.fill.ensures) ∙ ap (fill_bytes below s.columns) all in
     let v' = g.T.TermLike.view (engine_term c.write.new.self) in
-    let bytes = reach_bytes f.down f.rows ++ (paint_bytes old.below (old.kept + old.live) lines c.logged-counts.result.below ++ fill_bytes c.logged-counts.result.below s.columns lines) in
-    let written = whole_bytes c.args.self.now.failed old.below c.logged-counts.result.below f (old.kept + old.live) c.in_ok-planned.planned.window.columns c.fill.result text ls in
-    let writes : Draws (led c.args.self.now.failed bytes) s v' c.write.result = rw (
-      c.store.ensures.terminal,
-      c.in_ok-from.ensures.next.2,
-      written,
-      all,
-      fill,
-    ) at c.write.ensures.draws in
-    paints_by s (g.T.TermLike.view (engine_term c.write.new.self)) old _ _ c.write.result c.write.new.self c.args.self.now.failed l
-    (logged s.columns s.rows bottom (text_lines text) frame)
-    bytes c.write.ensures.remembers (fits_failed c.args.self.now l fits) writes
-    (λ x is. log_paints s.columns s.rows x old c.logged-counts.result rows c.blanks_of-blanks.result bottom text c.args.frame.now plan end f
-    (rw p.columns_are at c.in_ok-planned.planned.window.some) (logged_utf8 c.args.text.now c.utf8.text) plain p.narrow_text p.narrow_frame is.counts p.plan_is (next x is.counts) p.height_is blanks
-    (rw p.rows_are at c.fresh-fresh.ensures) ends lasts) o
-    (fits_forgets c.args.self.now l fits) (logged-sound s.columns s.rows bottom (text_lines text) frame l) (logged-adds s.columns s.rows bottom (text_lines text) frame l)
-    (logged-known s.columns s.rows bottom (text_lines text) frame l)
+    let bytes = reach_bytes fresh.down fresh.rows ++ (paint_bytes old.below taken lines below ++ fill_bytes below s.columns lines) in
+    let written = whole_bytes e.failed old.below below fresh taken win.columns c.fill.result text ls in
+    let writes : Draws (led e.failed bytes) s v' c.write.result = rw (c.store.ensures.terminal, y.4, written, all, fill) at c.write.ensures.draws in
+    paints_by s v' old _ _ c.write.result c.write.new.self e.failed x (logged s.columns s.rows bottom (text_lines text) frame) bytes c.write.ensures.remembers (fits_failed e x fits) writes
+    (λ z is. log_paints s.columns s.rows z old c.logged-counts.result rows l.blanks bottom text c.args.frame.now plan end fresh
+    (rw p.columns_are at win.some) (logged_utf8 c.args.text.now c.utf8.text) plain p.narrow_text f.narrow is.counts f.plan_is (next z is.counts) p.height_is blanks
+    (rw p.rows_are at c.fresh-fresh.ensures) ends lasts) (fits_counts e x fits)
+    (fits_forgets e x fits) (logged-sound s.columns s.rows bottom (text_lines text) frame x) (logged-adds s.columns s.rows bottom (text_lines text) frame x)
+    (logged-known s.columns s.rows bottom (text_lines text) frame x)

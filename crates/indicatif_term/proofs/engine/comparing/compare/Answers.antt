@@ -6,27 +6,20 @@ use Rattle.indicatif_term.proofs.ComeLemmas.{parted_becomes, parted_turned}
 use Rattle.indicatif_term.proofs.PartingLemmas.{parted_last, parted_narrow}
 use Rattle.indicatif_term.proofs.engine.comparing.compare.Goals as goal
 
-pub returns-in-Some-clause-rows : goal.returns-in-Some-clause-rows
-returns-in-Some-clause-rows c =
+pub returns-in-Some-clause-sized : goal.returns-in-Some-clause-sized
+returns-in-Some-clause-sized c =
     let w = c.args.window.columns in
     let old = string_bytes c.args.line.now.text in
-    c.in-Some.ensures.parted.0 ∙ sym (parted_becomes w c.args.waits c.args.line.now.narrow old c.args.text.now c.in-Some.part c.in-Some.ensures.parted.1 (looks_of (rows_of w (chars old))) refl).1
-
-pub returns-in-Some-clause-last : goal.returns-in-Some-clause-last
-returns-in-Some-clause-last c =
-    let w = c.args.window.columns in
     let p = c.in-Some.part in
+    let row = c.in-Some.ensures.parted.0 in
     let d = c.in-Some.ensures.parted.1 in
-    d.last_is ∙ ap (λ cs. p.gap + length cs) (sym d.news_are) ∙ sym (parted_last w p.gap p.left (chars (string_bytes c.args.line.now.text)) (chars c.args.text.now) d.tails)
-
-pub returns-in-Some-clause-narrow : goal.returns-in-Some-clause-narrow
-returns-in-Some-clause-narrow c =
-    let p = c.in-Some.part in
-    parted_narrow c.args.window.columns p.gap p.left (chars (string_bytes c.args.line.now.text)) (chars c.args.text.now) c.in-Some.ensures.parted.1.tails c.requires.line.narrow
+    record {
+      rows_are = sym (parted_becomes w c.args.waits c.args.line.now.narrow old c.args.text.now p d (looks_of (rows_of w (chars old))) refl).1;
+      last_is = d.last_is ∙ ap (λ cs. p.gap + length cs) (sym d.news_are) ∙ sym (parted_last w p.gap p.left (chars old) (chars c.args.text.now) d.tails);
+      narrow = parted_narrow w p.gap p.left (chars old) (chars c.args.text.now) d.tails c.requires.line.narrow;
+      single = d.single;
+    }
 
 pub returns-in-Some-clause-turned : goal.returns-in-Some-clause-turned
 returns-in-Some-clause-turned c =
     parted_turned c.args.window.columns c.args.waits c.args.line.now.narrow (string_bytes c.args.line.now.text) c.args.text.now c.in-Some.part c.in-Some.ensures.small c.in-Some.ensures.parted.1
-
-pub returns-in-Some-clause-single : goal.returns-in-Some-clause-single
-returns-in-Some-clause-single c = c.in-Some.ensures.parted.1.single

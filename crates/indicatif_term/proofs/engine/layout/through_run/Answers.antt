@@ -1,19 +1,24 @@
-use Rattle.std.proofs.Common.{◌≡◌, ◌+◌, ◌-◌, ◌<◌, take, drop, take_all, length, length-drop, arith, sym, ap, ◌∙◌}
-use Rattle.indicatif_term.specs.Counts.{line_counts}
-use Rattle.indicatif_term.specs.Inside.Owned.{run_length}
-use Rattle.indicatif_term.specs.declared.engine.remembered.StandingLine.{StandingLine}
-use Rattle.indicatif_term.proofs.GroupLemmas.{through_at}
+use Rattle.std.proofs.Common.{◌≡◌, ◌+◌, ◌-◌, arith, length}
+use Rattle.indicatif_term.proofs.GroupLemmas.{run_stop, run_end}
+use Rattle.indicatif_term.specs.Inside.Layouts.{own_lines}
+use Rattle.indicatif_term.proofs.LaidLemmas.{own_length, through_last}
 use Rattle.indicatif_term.proofs.engine.layout.through_run.Goals as goal
+
+pub returns-then-own_line-bar-clause-run : goal.returns-then-own_line-bar-clause-run
+returns-then-own_line-bar-clause-run c =
+    let l = c.args.laid.now in
+    let ls = own_lines c.args.standing.now l in
+    let size : length ls ≡ l.at + length l.more.items - l.blanks = own_length c.args.standing.now l c.requires.in_lines in
+    let x = c.own_line.result.now in
+    let stop = run_stop x.bar c.loop-at.at ls c.own_line-in-loop-at.result.now (omega (arith, size, c.requires.all, c.loop-at-test.true)) c.own_line-in-loop-at.ensures c.if-own_line-bar.true in
+    omega (arith, c.loop-at.invariant.1, stop, through_last l.plan.passing ls x (omega (arith, c.if-count-eq0.false)) (omega (arith, size, c.requires.all, c.requires.within)) c.own_line.ensures)
 
 pub returns-clause-run : goal.returns-clause-run
 returns-clause-run c =
-    let ls = c.args.lines.now in
-    let n = c.args.count in
-    let x = c.index-lines-count.result in
-    let some : 0 < n = omega (arith, c.if-count-eq0.false) in
-    let back : n - 1 + 1 ≡ n = omega arith in
-    let rest : take (length ls - n) (drop n ls) ≡ drop n ls = take_all (length ls - n) (drop n ls) (omega (arith, length-drop n ls)) in
-    let run : c.run_of.result ≡ run_length x.bar (line_counts (drop n ls)) =
-    (rw rest at c.run_of.ensures.run) ∙ ap (λ (y : StandingLine). run_length y.bar (line_counts (drop n ls))) (sym c.index-lines-count.is) in
-    let at = rw back at (through_at (n - 1) ls x (omega (arith, some, c.requires)) (sym c.index-lines-count.is)) in
-    ap (λ k. n + k) run ∙ at
+    let l = c.args.laid.now in
+    let ls = own_lines c.args.standing.now l in
+    let size : length ls ≡ l.at + length l.more.items - l.blanks = own_length c.args.standing.now l c.requires.in_lines in
+    let x = c.own_line.result.now in
+    let stop = run_end x.bar c.loop-at.at ls (omega (arith, size, c.requires.all, c.loop-at-test.false)) in
+    let here : c.loop-at.at ≡ l.plan.lines = omega (arith, c.loop-at-test.false, c.loop-at.auto.at-end, c.loop-at.invariant.0, c.requires.within) in
+    omega (arith, here, c.loop-at.invariant.1, stop, through_last l.plan.passing ls x (omega (arith, c.if-count-eq0.false)) (omega (arith, size, c.requires.all, c.requires.within)) c.own_line.ensures)

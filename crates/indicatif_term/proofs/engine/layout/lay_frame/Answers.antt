@@ -1,0 +1,131 @@
+use Rattle.std.proofs.Common.{arith, ◌+◌, ◌≡◌, ◌∙◌, refl, sym, ap, Err, map, take, length, []}
+use Rattle.std.proofs.lemmas.List.{take_all}
+use Rattle.indicatif_text.specs.declared.refusal.Refusal.TheVariants.{Memory}
+use Rattle.indicatif_term.specs.Lists.{fitting, lines_of}
+use Rattle.indicatif_term.specs.Counts.{line_counts}
+use Rattle.indicatif_term.specs.Frames.{bar_lines}
+use Rattle.indicatif_term.specs.Standing.{placed}
+use Rattle.indicatif_term.specs.Inside.Changes.{placed_height}
+use Rattle.indicatif_term.specs.Inside.Owned.{through}
+use Rattle.indicatif_term.specs.Inside.Plans.{frame_lines}
+use Rattle.indicatif_term.specs.Inside.Layouts.{own_lines, IsLaid}
+use Rattle.indicatif_term.specs.declared.engine.layout.Plan.{Plan}
+use Rattle.indicatif_term.proofs.OwnedLemmas.{first_within}
+use Rattle.indicatif_term.proofs.ShownRowLemmas.{frame_step}
+use Rattle.indicatif_term.proofs.LayoutLemmas.{nothing_laid, no_bars, nothing_passes, still_summed, lines_step, narrow_step, frame_refused, some_line, passing_now, passing_same, passing_all, passing_height, planned, still_laid}
+use Rattle.indicatif_term.proofs.LaidLemmas.{laid_none, laid_as, laid_still, own_laid, own_count}
+use Rattle.indicatif_term.proofs.engine.layout.lay_frame.Goals as goal
+use Rattle.indicatif_term.proofs.engine.layout.lay_frame.Goals.{then-left-gt0, else-left-gt0}
+
+pub loop-member-init : goal.loop-member-init
+loop-member-init c =
+    let w = c.args.window.columns in
+    let h = c.args.window.rows in
+    let empty = nothing_laid h c.none.result c.none.ensures in
+    record {
+      left_is = omega arith;
+      summed = empty.0;
+      blanks_are = refl;
+      narrow = refl;
+      passing = ap (λ (p : Plan). p.passing) c.none.ensures ∙ nothing_passes w h c.args.asked.pass c.args.asked.frame.now;
+      laid = laid_as w h c.args.beside.lines.now [] [] [] _ _ refl (sym (no_bars w))
+          (laid_none w h c.args.beside.lines.now _ c.requires.blank refl c.none.ensures c.take_new.ensures c.take_lines.ensures);
+    }
+
+pub lay_member-requires-clause-summed : goal.lay_member-requires-clause-summed
+lay_member-requires-clause-summed c = c.loop-member.invariant.summed
+
+pub returns-in-Err-clause-laid : goal.returns-in-Err-clause-laid
+returns-in-Err-clause-laid c =
+    frame_refused c.args.window.columns c.args.asked.frame.now c.loop-member.member-index c.member-item.result (omega arith) (sym c.member-item.is) c.in-Err.e c.in-Err.ensures.refused
+
+pub returns-in-Err-clause-memory : goal.returns-in-Err-clause-memory
+returns-in-Err-clause-memory c = λ e.
+    let same : c.in-Err.e ≡ Memory = cc e in
+    some_line c.args.asked.frame.now c.loop-member.member-index c.member-item.result (omega arith) (sym c.member-item.is) (c.in-Err.ensures.memory (ap Err same))
+
+pub loop-member-preserved : goal.loop-member-preserved
+loop-member-preserved c =
+    let w = c.args.window.columns in
+    let h = c.args.window.rows in
+    let frame = c.args.asked.frame.now in
+    let i = c.loop-member.member-index in
+    let s = c.member-item.result in
+    let l = c.lay_member.new.laid in
+    let p = l.plan in
+    let on = c.args.beside.lines.now in
+    let old = c.loop-member.invariant in
+    let narrow = narrow_step w frame i s (omega arith) (sym c.member-item.is) old.narrow c.in_default.ensures.refused in
+    let laid : IsLaid w h on (frame_lines (take (i + 1) frame)) (lines_of w (map bar_lines (take (i + 1) frame))) l =
+    laid_as w h on _ _ _ _ l (sym (frame_step frame i s (omega arith) (sym c.member-item.is))) (lines_step w frame i s (omega arith) (sym c.member-item.is)) (c.in_default.ensures.laid _ _ old.laid) in
+    let blanks = c.lay_member.ensures.same.1 ∙ old.blanks_are in
+    elim c.if-left-gt0.branch [
+      | then-left-gt0 q ↦ rw (q.laid-is, q.left-is) (record {
+        left_is = omega (arith, old.left_is, q.if-left-gt0.true);
+        summed = still_summed h p.lines p c.in_default.ensures.summed;
+        blanks_are = blanks;
+        narrow = narrow;
+        passing = passing_now w h c.args.asked.pass i p.lines frame p _ laid.laid (omega (arith, old.left_is, q.if-left-gt0.true)) refl;
+        laid = laid_still w h p.lines p.passing_rows on _ _ l laid;
+      })
+      | else-left-gt0 q ↦ rw (q.laid-is, q.left-is) (record {
+        left_is = omega (arith, old.left_is, q.if-left-gt0.false);
+        summed = c.in_default.ensures.summed;
+        blanks_are = blanks;
+        narrow = narrow;
+        passing = passing_same w h c.args.asked.pass i _ frame (omega (arith, old.left_is, q.if-left-gt0.false)) (c.lay_member.ensures.same.0 ∙ old.passing);
+        laid = laid;
+      })
+    ]
+
+pub through_run-passing-requires-clause-all : goal.through_run-passing-requires-clause-all
+through_run-passing-requires-clause-all c = own_count c.args.window.columns c.args.window.rows c.args.beside.lines.now _ _ c.loop-member.laid c.loop-member.invariant.laid
+
+pub through_run-passing-requires-clause-within : goal.through_run-passing-requires-clause-within
+through_run-passing-requires-clause-within c =
+    let w = c.args.window.columns in
+    let h = c.args.window.rows in
+    let frame = c.args.asked.frame.now in
+    let i = c.loop-member.member-index in
+    let old = c.loop-member.invariant in
+    let all : take i frame ≡ frame = take_all i frame (omega arith) in
+    let laid = rw all at old.laid.laid in
+    omega (arith, passing_all w h c.args.asked.pass i _ frame (omega arith) old.passing, first_within w h c.args.asked.pass (map bar_lines frame), laid.lines_are)
+
+pub height_passing-laid-requires-clause-within : goal.height_passing-laid-requires-clause-within
+height_passing-laid-requires-clause-within c =
+    let l = c.loop-member.laid in
+    let k : l.blanks + l.plan.lines ≡ l.at + length l.more.items = own_count c.args.window.columns c.args.window.rows c.args.beside.lines.now _ _ l c.loop-member.invariant.laid in
+    omega (arith, k, c.through_run-passing.ensures.within)
+
+pub returns-clause-laid : goal.returns-clause-laid
+returns-clause-laid c =
+    let w = c.args.window.columns in
+    let h = c.args.window.rows in
+    let pass = c.args.asked.pass in
+    let frame = c.args.asked.frame.now in
+    let on = c.args.beside.lines.now in
+    let i = c.loop-member.member-index in
+    let old = c.loop-member.invariant in
+    let l = c.loop-member.laid in
+    let p = l.plan in
+    let n = c.through_run-passing.result in
+    let r = c.height_passing-laid.result in
+    let all : take i frame ≡ frame = take_all i frame (omega arith) in
+    let laid : IsLaid w h on (frame_lines frame) (lines_of w (map bar_lines frame)) l = rw all at old.laid in
+    let own = own_lines on l in
+    let out = own_laid w h on (frame_lines frame) (lines_of w (map bar_lines frame)) l laid in
+    let passing = passing_all w h pass i _ frame (omega arith) old.passing in
+    let front = passing_height w h n (map bar_lines frame) p own out in
+    let s = old.summed in
+    let p' : Plan = record p { passing = n; passing_rows = r } in
+    let rows : r ≡ placed_height (placed (take n own)) = omega (arith, c.height_passing-laid.ensures, front.1, s.fit, c.args.window.small) in
+    record {
+      narrow = rw all at old.narrow;
+      plan_is = planned w h pass (map bar_lines frame) p' (line_counts own) (still_laid h n r _ p _ out)
+          (c.through_run-passing.ensures.run ∙ ap (λ k. through k (line_counts own)) passing
+          ∙ ap (through (length (fitting h (lines_of w (take pass (map bar_lines frame)))))) out.counts_are)
+          (rows ∙ front.0);
+      is_summed = record { fit = s.fit; lines_fit = s.lines_fit; passing_in = omega (arith, rows, front.1) };
+      is_laid = laid_still w h n r on (frame_lines frame) (lines_of w (map bar_lines frame)) l laid;
+    }
