@@ -1,5 +1,5 @@
 //! A frame laid out beside the lines that stand: which of these stay, which new ones come in their place, and which are written below them.
-ghost use Rattle.std.specs.Prelude.{◌≡◌, ◌≢◌, ◌⊎◌, Err, ◌==◌, ◌<◌, ◌≤◌, ◌+◌, ◌-◌, ◌^◌, ◌++◌, ◌∷◌, [], ℕ, min, map, length, take, drop, chars, get_or, string_bytes, List, IfOk, IfErr, IfSome, IsFalse, MatchResult, false, if◌then◌else◌};
+ghost use Rattle.std.specs.Prelude.{◌≡◌, ◌≢◌, ◌⊎◌, IsTrue, Err, ◌==◌, ◌<◌, ◌≤◌, ◌+◌, ◌-◌, ◌^◌, ◌++◌, ◌∷◌, [], ℕ, min, map, length, take, drop, chars, get_or, string_bytes, List, IfOk, IfErr, IfSome, IsFalse, MatchResult, false, if◌then◌else◌};
 ghost use Rattle.indicatif_text.specs.Columns.{has_wide, rows_of};
 ghost use Rattle.indicatif_term.specs.Lists.{BarRows, lines_of, blanks_for};
 ghost use Rattle.indicatif_term.specs.Frames.{bar_lines, line_text, all_lines, some_wide, logged_lines, text_lines};
@@ -265,6 +265,9 @@ fn lay_line(
         IfOk result (λ _. IsLaid window.columns window.rows standing.now (before ++ own.entry.text.now ∷ [])
         (bars ++ record { bar = own.entry.bar; rows = rows_of window.columns (chars own.entry.text.now) } ∷ []) laid.new) }
 {
+    if stays(laid, standing, own, window) {
+        return Ok(());
+    }
     match next_beside(laid, standing, own.bar, window) {
         Some(place) => lay_in_place(laid, spare, place, own, window),
         None => {
@@ -272,6 +275,29 @@ fn lay_line(
             lay_below(laid, spare, own, turn, window)
         }
     }
+}
+
+/// Whether a line stands already where it is to stand; then it is laid out there.
+fn stays(laid: &mut Laid, standing: &[StandingLine], own: OwnLine<'_>, window: Window) -> bool
+    requires summed { IsSummed window.rows laid.old.plan }
+    requires standing { AreLines window.columns standing.now }
+    ensures summed { IsSummed window.rows laid.new.plan }
+    ensures same { (laid.new.plan.passing ≡ laid.old.plan.passing) × (laid.new.blanks ≡ laid.old.blanks) }
+    ensures none { IsFalse result → laid.new ≡ laid.old }
+    ensures narrow { IsTrue result → IsFalse (has_wide window.columns (chars own.entry.text.now)) }
+    ensures laid { IsTrue result → (before : List (List ℕ)) (bars : List BarRows) → IsLaid window.columns window.rows standing.now before bars laid.old →
+        IsLaid window.columns window.rows standing.now (before ++ own.entry.text.now ∷ [])
+        (bars ++ record { bar = own.entry.bar; rows = rows_of window.columns (chars own.entry.text.now) } ∷ []) laid.new }
+{
+    let Some(place) = next_beside(laid, standing, own.bar, window) else {
+        return false;
+    };
+    let line = place.line;
+    if line.text.as_str() == own.text {
+        go_on(laid, line.rows);
+        return true;
+    }
+    false
 }
 
 /// A line that stands, and whether it is the last one.
@@ -306,7 +332,7 @@ fn next_beside<'a>(
     })
 }
 
-/// Lays out a line where one stands: in its place if it has as many rows, else below. Its text is looked at before it is measured.
+/// Lays out a line where another stands: in its place if it has as many rows, else below.
 fn lay_in_place(
     laid: &mut Laid,
     spare: &mut Spare,
@@ -327,10 +353,6 @@ fn lay_in_place(
         (bars ++ record { bar = own.entry.bar; rows = rows_of window.columns (chars own.entry.text.now) } ∷ []) laid.new) }
 {
     let rows = place.line.rows;
-    if place.line.text.as_str() == own.text {
-        go_on(laid, rows);
-        return Ok(());
-    }
     let turn = compare(place.line, own.text, window, place.is_last)?;
     if turn.rows != rows {
         return lay_below(laid, spare, own, turn, window);
