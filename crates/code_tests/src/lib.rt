@@ -6,7 +6,7 @@
 //! - `absorb`: what counts for a bar. `into_inner`: bars and boards that leave their locks. `log_bridge`: lines of a log above a board's bars.
 //!   `machine`: what is asked of the machine. `map_collect`: lists, block by block. `owners`: what the last owner of a bar leaves, and what
 //!   crosses threads. `println_or`: lines above bars, or beside hidden ones. `progress`: what gets a bar when it is wrapped. `receipts`: what
-//!   boards with a history hand out for logged texts. `recorded`: such boards. `run_workers`: pieces that threads work on. `shared_keys`:
+//!   boards with a history hand out for texts and records. `recorded`: such boards. `run_workers`: pieces that threads work on. `shared_keys`:
 //!   shared bars with keys of the tests' own. `suspend`: pauses. `tickers`: steady tickers, and calls that find no memory for another owner.
 //!   `update`: updates by closures. `wrappers`: what is said of a wrapper's bar, and two readers of one.
 //! - `documented`: the examples of the documentation comments. `readme`: the README's program. `rows`: which lines of a file are rows, and which of them

@@ -12,3 +12,4 @@ mod PlacedLemmas
 mod SharedLemmas
 mod AnswerLemmas
 mod FrontLemmas
+mod LineLemmas

@@ -1,3 +1,4 @@
+pub mod Bridge
 pub mod Fronts
 pub mod Machine
 pub mod Moves

@@ -1,10 +1,16 @@
 //! Lines of a log above the bars of a board: a sink of the crate `log`.
-ghost use Rattle.std.specs.Prelude.{◌≡◌, ℕ, true, Some, []};
+ghost use Rattle.std.specs.Prelude.{◌≡◌, ◌++◌, ℕ, List, [], true, false, Ok, IfOk, IfErr, IfSome, IsNone, OnOk, string_bytes};
+ghost use Rattle.log.specs.Level.{allows};
+ghost use Rattle.log.specs.Line.{header_text};
+ghost use Rattle.indicatif.specs.Bridge.{AreLinesOf, record_level, record_text};
+ghost use Rattle.indicatif.specs.Fronts.{CanDraw};
+ghost use Rattle.indicatif.specs.Receipts.{IsReceipt};
 
 use crate::machine::{MachineClock, Shares, StderrBoard, StderrTerm};
 use crate::shared::MultiProgress;
 use indicatif_bar::style::{NoTracker, Tracks};
-pub use indicatif_board::bridge::{bridge_line, emit};
+pub use indicatif_board::bridge::{bridge_line, emit, emit_with_receipt};
+use indicatif_board::multi::Receipt;
 use indicatif_term::target::TermLike;
 use indicatif_text::columns::{Clock, Drawn, Refusal};
 use log::kv::Source;
@@ -17,7 +23,7 @@ use std::sync::Wait;
 use std::sync::atomic::{AtomicU64, Ordering};
 
 /// How a record is laid out as lines. Its text is the message, with the spans before it and the key-value pairs after it: `request{id=7}:
-/// started rows=3`.
+/// started rows=3`. A form may state its lines (`lays`); then it is proved which lines a record's receipt is of.
 ///
 /// ```
 /// struct TextAlone;
@@ -28,10 +34,17 @@ use std::sync::atomic::{AtomicU64, Ordering};
 /// }
 /// ```
 pub trait LineForm {
+    ghost use Rattle.std.specs.Prelude.{◌≡◌, ◌++◌, ℕ, List, Option, None, IfSome, OnOk, string_bytes};
+    ghost use Rattle.log.specs.declared.level.Level.{Level as LogLevel};
+
+    /// The lines that it appends for a level and a text; `None`, the default, where it doesn't say.
+    ghost lays: { Self → LogLevel → List ℕ → Option (List ℕ) } = { λ _ _ _. None };
+
     /// Appends the lines of a record with this level and text to `out`.
     ///
     /// Refused: `Memory`; the record then counts as missed.
-    fn push_line(&self, level: Level, text: &str, out: &mut String) -> Result<(), Refusal>;
+    fn push_line(&self, level: Level, text: &str, out: &mut String) -> Result<(), Refusal>
+        ensures { OnOk result (IfSome (lays self.now level text.now) (λ lines. string_bytes out.new ≡ string_bytes out.old ++ lines)) };
 }
 
 /// The level once, before the text (`bridge_line`): further lines of the text stand as they are. `LogBridge::new` takes this form.
@@ -43,6 +56,11 @@ pub trait LineForm {
 pub struct LevelOnce;
 
 impl LineForm for LevelOnce {
+    ghost use Rattle.std.specs.Prelude.{Some};
+    ghost use Rattle.indicatif_board.specs.Bridge.{bridge_bytes};
+
+    ghost lays = { λ _ level text. Some (bridge_bytes level text) };
+
     fn push_line(&self, level: Level, text: &str, out: &mut String) -> Result<(), Refusal> {
         bridge_line(level, text, out)
     }
@@ -57,14 +75,19 @@ impl LineForm for LevelOnce {
 pub struct LevelOnEachLine;
 
 impl LineForm for LevelOnEachLine {
+    ghost use Rattle.std.specs.Prelude.{Some};
+    ghost use Rattle.indicatif.specs.Bridge.{each_line};
+
+    ghost lays = { λ _ level text. Some (each_line level text) };
+
     fn push_line(&self, level: Level, text: &str, out: &mut String) -> Result<(), Refusal> {
-        let mut is_first = true;
+        let mut started = false;
         for line in text.split('\n') {
-            if !is_first {
+            if started {
                 out.push('\n')?;
             }
             bridge_line(level, line, out)?;
-            is_first = false;
+            started = true;
         }
         Ok(())
     }
@@ -196,17 +219,54 @@ impl<
         self.missed.load(Ordering::SeqCst)
     }
 
+    /// Logs a record, as `log` does, for a caller that wants to know whether it stands: it returns what `MultiProgress::println_with_receipt`
+    /// returns for the record's lines. There is no receipt where the board keeps no history, or memory is refused.
+    ///
+    /// A record that the filter drops is answered with `Limited`, without a receipt. One that meets a hidden board is answered with
+    /// `Hidden`, and goes to the other sink; so says its receipt, if there is a history. A refused one is counted as missed.
+    ///
+    /// ```
+    /// let record = Record::builder().level(Level::Warn).args("low disk").build();
+    /// let (drawn, receipt) = bridge.log_with_receipt(&record); // the receipt's text is `WARN  low disk`
+    /// ```
+    ///
+    /// Refused: as `MultiProgress::println_with_receipt`; `Memory` also for the lines.
+    pub fn log_with_receipt<D: Display, V: Source, S: Spans>(
+        &self,
+        record: &Record<'_, D, V, S>,
+    ) -> (Result<Drawn, Refusal>, Option<Receipt>)
+        ensures receipt { IfSome result.1 (λ receipt. IsReceipt T K.means (string_bytes receipt.text) result.0 receipt) }
+        ensures lines { IfSome result.1 (λ receipt. AreLinesOf (F.lays self.now.form) (record_level record.now) (record_text D.output V.pairs S.scopes record.now) (string_bytes receipt.text)) }
+        ensures filtered { allows self.now.most (record_level record.now) ≡ false → (result.0 ≡ Ok Drawn.Limited) × IsNone result.1 }
+        ensures drawn { allows self.now.most (record_level record.now) ≡ true → CanDraw result.0 }
+    {
+        if !self.most.allows(record.level()) {
+            return (Ok(Drawn::Limited), None);
+        }
+        let (drawn, receipt) = self.print(record);
+        match drawn {
+            Ok(Drawn::Hidden) => self.inner.log(record),
+            Ok(_) => {}
+            Err(_) => {
+                self.missed.fetch_add(1, Ordering::SeqCst);
+            }
+        }
+        (drawn, receipt)
+    }
+
     /// Writes a record's lines above the bars.
     fn print<D: Display, V: Source, S: Spans>(
         &self,
         record: &Record<'_, D, V, S>,
-    ) -> Result<Drawn, Refusal> {
-        let alloc = self.board.alloc();
-        let line = plain_line(alloc, record)?;
-        let mut lines = String::new(alloc);
-        let text = behind_level(line.as_str());
-        self.form.push_line(record.level(), text, &mut lines)?;
-        self.board.println(lines.as_str())
+    ) -> (Result<Drawn, Refusal>, Option<Receipt>)
+        ensures receipt { IfSome result.1 (λ receipt. IsReceipt T K.means (string_bytes receipt.text) result.0 receipt) }
+        ensures lines { IfSome result.1 (λ receipt. AreLinesOf (F.lays self.now.form) (record_level record.now) (record_text D.output V.pairs S.scopes record.now) (string_bytes receipt.text)) }
+        ensures drawn { CanDraw result.0 }
+    {
+        match lines_of(self.board.alloc(), &self.form, record) {
+            Ok(lines) => self.board.println_with_receipt(lines.as_str()),
+            Err(refusal) => (Err(refusal), None),
+        }
     }
 }
 
@@ -240,21 +300,57 @@ pub fn logger_above<R: Shares, K: Tracks>(
     Ok(Logged::new(rt, level, bridge))
 }
 
+/// A record's lines in a form.
+fn lines_of<F: LineForm, D: Display, V: Source, S: Spans>(
+    alloc: Global,
+    form: &F,
+    record: &Record<'_, D, V, S>,
+) -> Result<String, Refusal>
+    ensures lines { IfOk result (λ lines. AreLinesOf (F.lays form.now) (record_level record.now) (record_text D.output V.pairs S.scopes record.now) (string_bytes lines)) }
+    ensures memory { IfErr result (λ e. e ≡ Refusal.Memory) }
+{
+    let line = plain_line(alloc, record)?;
+    let text = behind_level(record.level(), line.as_str());
+    let mut lines = String::new(alloc);
+    match form.push_line(record.level(), text, &mut lines) {
+        Ok(()) => Ok(lines),
+        Err(_) => Err(Refusal::Memory),
+    }
+}
+
 /// A record's line as the kit's console writes it, without its target: `[INFO ] request{id=7}: started rows=3`.
 fn plain_line<D: Display, V: Source, S: Spans>(
     alloc: Global,
     record: &Record<'_, D, V, S>,
-) -> Result<String, Refusal> {
+) -> Result<String, Refusal>
+    ensures line { IfOk result (λ line. IfSome (record_text D.output V.pairs S.scopes record.now) (λ text. string_bytes line ≡ header_text (record_level record.now) [] ++ text)) }
+    ensures memory { IfErr result (λ e. e ≡ Refusal.Memory) }
+{
     let metadata = Metadata::new(record.level(), "");
     let plain = Record::new(metadata, record.args(), record.key_values(), record.spans());
     Ok(String::format(alloc, Line::new(&plain))?)
 }
 
-/// What follows the level in a log line.
-fn behind_level(line: &str) -> &str {
-    match line.split_once("] ") {
-        Some((_, text)) => text,
+/// What follows the level in a record's line.
+fn behind_level(level: Level, line: &str) -> &str
+    ensures { (text : List ℕ) → line.now ≡ header_text level [] ++ text → result.now ≡ text }
+{
+    match line.strip_prefix(header_of(level)) {
+        Some(text) => text,
         None => line,
+    }
+}
+
+/// What a record's line begins with.
+fn header_of(level: Level) -> &'static str
+    ensures { result.now ≡ header_text level [] }
+{
+    match level {
+        Level::Error => "[ERROR] ",
+        Level::Warn => "[WARN ] ",
+        Level::Info => "[INFO ] ",
+        Level::Debug => "[DEBUG] ",
+        Level::Trace => "[TRACE] ",
     }
 }
 
@@ -278,16 +374,7 @@ impl<
     }
 
     fn log<D: Display, V: Source, S: Spans>(&self, record: &Record<'_, D, V, S>) {
-        if !self.most.allows(record.level()) {
-            return;
-        }
-        match self.print(record) {
-            Ok(Drawn::Hidden) => self.inner.log(record),
-            Ok(_) => {}
-            Err(_) => {
-                self.missed.fetch_add(1, Ordering::SeqCst);
-            }
-        }
+        let _ = self.log_with_receipt(record);
     }
 
     fn flush(&self) {

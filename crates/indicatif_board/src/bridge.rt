@@ -1,11 +1,15 @@
 //! Log lines above the bars of a board.
-ghost use Rattle.std.specs.Prelude.{◌≡◌, ◌⊎◌, ◌++◌, ◌+◌, ◌<◌, ◌≤◌, ◌∷◌, [], IfErr, OnOk, OnErr, Err, IsFalse, length, string_bytes, string_len, string_capacity};
+ghost use Rattle.std.specs.Prelude.{◌≡◌, ◌⊎◌, ◌++◌, ◌+◌, ◌<◌, ◌≤◌, ◌∷◌, [], Option, IfErr, IfSome, IfNone, OnOk, OnErr, Err, IsFalse, length, string_bytes, string_len, string_capacity};
+ghost use Rattle.indicatif_term.specs.Calls.{TermView};
 ghost use Rattle.indicatif_bar.specs.Runs.{wrote};
 ghost use Rattle.indicatif_board.specs.Boards.{Log, says};
 ghost use Rattle.indicatif_board.specs.Bridge.{bridge_bytes, level_column};
-ghost use Rattle.indicatif_board.specs.Multi.{LeadsBy, RecordsStay, IsNowhere, mark_of, terminal_of};
+ghost use Rattle.indicatif_board.specs.Calls.{answer_of};
+ghost use Rattle.indicatif_board.specs.Multi.{LeadsBy, RecordsStay, IsNowhere, known, mark_of, terminal_of};
+ghost use Rattle.indicatif_board.specs.Receipts.{Holds};
+ghost use Rattle.indicatif_board.specs.Recorded.{AddsCall, IsRun};
 
-use crate::multi::Board;
+use crate::multi::{Answer, Board, Receipt, Recorded};
 use indicatif_bar::style::Tracks;
 use indicatif_term::target::TermLike;
 use indicatif_text::columns::{Drawn, Moment, Refusal};
@@ -59,6 +63,37 @@ pub fn emit<K: Tracks, T: TermLike + Drop>(
     let mut line = String::new(alloc);
     bridge_line(level, text, &mut line)?;
     board.println(line.as_str(), now)
+}
+
+/// Writes a log line above the bars of a board that keeps its history, as `emit`, and hands out a receipt for its entry, whatever was
+/// answered.
+///
+/// Refused: as `Recorded::println_with_receipt`; `Memory` also for the line. There is no receipt only after `Memory`; then nothing has
+/// changed.
+///
+/// ```
+/// let (answer, receipt) = emit_with_receipt(alloc, &mut history, Level::Warn, "low disk", now);
+/// let receipt = receipt.ok_or(Refusal::Memory)?; // of the text `WARN  low disk`
+/// ```
+pub fn emit_with_receipt<K: Tracks, T: TermLike + Drop>(
+    alloc: Global,
+    history: &mut Recorded<K, T>,
+    level: Level,
+    text: &str,
+    now: Moment,
+) -> (Answer, Option<Receipt>)
+    ensures made { IfSome result.1 (λ _. AddsCall K.means T.view history.old (Log (bridge_bytes level text.now)) now (answer_of result.0) history.new) }
+    ensures receipt { IfSome result.1 (λ receipt. (string_bytes receipt.text ≡ bridge_bytes level text.now)
+        × (receipt ≡ record { mark = history.old.mark; number = length history.old.steps; text = receipt.text; moment = now; answer = result.0 })) }
+    ensures held { IfSome result.1 (Holds history.new) }
+    ensures refused { IfNone result.1 ((history.new ≡ history.old) × (result.0 ≡ Answer.Refused Refusal.Memory)) }
+    ensures goes_on { (opened : Option TermView) → IsRun K.means opened history.old (known T.view history.old.board) → IsRun K.means opened history.new (known T.view history.new.board) }
+{
+    let mut line = String::new(alloc);
+    if bridge_line(level, text, &mut line).is_err() {
+        return (Answer::Refused(Refusal::Memory), None);
+    }
+    history.println_with_receipt(line, now)
 }
 
 /// A level as the start of a log line.

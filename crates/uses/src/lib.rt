@@ -10,7 +10,7 @@
 //! - `engines`: what engines show of fixed lines, and how many draws a limiter allows at once.
 //! - `orders`: which bars stand in the order of a board.
 //! - `histories`: what a board's history holds of a call.
-//! - `receipts`: that texts stand if a history holds their receipts.
+//! - `receipts`: that texts and records stand if a history holds their receipts; which receipts are all that there is.
 //! - `trackers`: that keys with texts of the caller's own keep runs plain.
 //! - `unlocked`: what is proved about shared bars and boards once their only owner has taken them out of their locks.
 //! - `fronts`: what is proved about shared bars and boards, and about lists and pieces that threads work on.

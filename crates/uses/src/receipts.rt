@@ -1,5 +1,5 @@
 //! What receipts of a board's logs say, whichever threads logged.
-ghost use Rattle.std.specs.Prelude.{◌≡◌, ◌<◌, ◌++◌, ℕ, List, Some, IsTrue, IsFalse, IfSome, All, map, take, string_bytes};
+ghost use Rattle.std.specs.Prelude.{◌≡◌, ◌<◌, ◌++◌, ℕ, suc, List, Some, IsTrue, IsFalse, IfSome, All, codes, drop, map, take, string_bytes};
 ghost use Rattle.indicatif_text.specs.Columns.{Cell};
 ghost use Rattle.std.specs.List.{list_any};
 ghost use Rattle.indicatif_term.specs.Calls.{TermView};
@@ -13,18 +13,20 @@ ghost use Rattle.indicatif_board.specs.Calls.{answer_of};
 ghost use Rattle.indicatif_board.specs.HistoryLaws.{AreUnbroken};
 ghost use Rattle.indicatif_board.specs.Multi.{known};
 ghost use Rattle.indicatif_board.specs.PlainBoardLaws.{IsPlainCall};
-ghost use Rattle.indicatif_board.specs.Receipts.{Holds};
+ghost use Rattle.indicatif_board.specs.Receipts.{Holds, step_claimed};
 ghost use Rattle.indicatif_board.specs.Recorded.{IsOneRun, IsRun, Record, calls_of};
 ghost use Rattle.uses.specs.Readings.{AreTextsOf, StandAmong, StandInOrder, logged_rows};
 
 use crate::histories::picture_kept;
+use indicatif::bridge::{LevelOnce, LogBridge};
 use indicatif::style::Tracks;
-use indicatif::{Clock, MultiProgress, RecordReader, TermLike};
+use indicatif::{Clock, MultiProgress, RecordReader, TermLike, UnlockedBoard};
 use indicatif_bar::style::ProgressTracker;
 use indicatif_board::laws::what_a_receipt_says;
 use indicatif_board::multi::{Answer, Call, Entry, Receipt, Recorded};
 use indicatif_term::cells::InMemoryTerm;
 use indicatif_text::columns::{Drawn, Moment, Refusal};
+use log::{Level, Metadata};
 use std::sync::Wait;
 
 /// Asks a history for two receipts, and whether the terminal broke none of its calls off.
@@ -88,6 +90,62 @@ pub fn both_stand<T: TermLike + Drop, C: Clock + Drop, R: Wait + Clone + Drop, K
     board.with_record(Both { one, other })
 }
 
+/// Asks a history for a receipt.
+#[derive(Drop)]
+struct Held<'a> {
+    receipt: &'a Receipt,
+}
+
+impl<T: TermLike + Drop, K: Tracks> RecordReader<T, K> for Held<'_> {
+    ghost use Rattle.std.specs.Prelude.{◌≡◌, Some, IsTrue};
+    ghost use Rattle.indicatif_board.specs.Receipts.{Holds};
+    ghost use Rattle.indicatif_board.specs.Recorded.{Record};
+
+    type Found = bool;
+
+    ghost finds = { λ held history found. IsTrue found → (r : Record K T) × (history ≡ Some r) × Holds r held.receipt.now };
+
+    fn read(self, history: Option<&Recorded<K, T>>) -> bool {
+        match history {
+            Some(record) => record.holds(self.receipt),
+            None => false,
+        }
+    }
+}
+
+/// Logs a warning through a bridge: a receipt that comes back is of the level and the text.
+fn warned<T: TermLike + Drop, C: Clock + Drop, R: Wait + Clone + Drop, K: Tracks>(
+    bridge: &LogBridge<T, C, R, LevelOnce, K>,
+    text: &str,
+) -> Option<Receipt>
+    ensures { IfSome result (λ receipt. string_bytes receipt.text ≡ codes "WARN  " ++ text.now) }
+{
+    let record = log::Record::new(Metadata::new(Level::Warn, ""), text, (), ());
+    let (_, receipt) = bridge.log_with_receipt(&record);
+    receipt
+}
+
+/// Logs a warning through a bridge, and hands out its receipt if the board's history holds it. If it was answered `Yes`, and the terminal
+/// broke no later call off, the rows of the level and the text stand above.
+pub fn warned_above<T: TermLike + Drop, C: Clock + Drop, R: Wait + Clone + Drop, K: Tracks>(
+    bridge: &LogBridge<T, C, R, LevelOnce, K>,
+    board: &MultiProgress<T, C, R, K>,
+    text: &str,
+) -> Option<Receipt>
+    ensures { IfSome result (λ receipt. (r : Record K T) × (run : IsOneRun K.means r) × Holds r receipt
+        × (receipt.answer ≡ Answer.Drawn Drawn.Yes → AreUnbroken (drop (suc receipt.number) r.steps) →
+        StandAmong (logged_rows r.target.columns (codes "WARN  " ++ text.now)) run.2.state.lists.above)) }
+{
+    what_a_receipt_says::<K, T>();
+    let Some(receipt) = warned(bridge, text) else {
+        return None;
+    };
+    if !board.with_record(Held { receipt: &receipt }) {
+        return None;
+    }
+    Some(receipt)
+}
+
 /// The texts of the rows of a board's terminal, if its history holds a receipt. Where the terminal showed an opening when the history began,
 /// the history is a run on it, no call was broken off, all texts are plain, and the receipt's text was answered `Yes`, its rows stand in the
 /// picture below the untouched ones.
@@ -122,4 +180,40 @@ pub fn logged_on<K: ProgressTracker, T: TermLike + Drop>(
 {
     what_a_receipt_says::<K, T>();
     history.apply(Call::Log(text), now).0
+}
+
+/// Whether the receipts are those of all entries of a history, in their order.
+fn are_all<K: Tracks, T: TermLike + Drop>(history: &Recorded<K, T>, receipts: &[Receipt]) -> bool
+    ensures { IsTrue result → map step_claimed receipts.now ≡ history.now.steps }
+{
+    if history.entries().len() != receipts.len() {
+        return false;
+    }
+    for (number, receipt) in receipts.iter().enumerate() {
+        if receipt.number != number || !history.holds(receipt) {
+            return false;
+        }
+    }
+    true
+}
+
+/// The history of a board that was shared, where this is its only owner, if these receipts, which the threads got, are those of all its
+/// entries. Then exactly so many calls were made, each logged its receipt's text, and they are one run.
+pub fn exactly_these<
+    T: TermLike + Drop,
+    C: Clock + Drop,
+    R: Wait + Clone + Drop,
+    K: ProgressTracker,
+>(board: MultiProgress<T, C, R, K>, receipts: &[Receipt]) -> Option<Recorded<K, T>>
+    ensures { IfSome result (λ r. IsOneRun K.means r × (map step_claimed receipts.now ≡ r.steps)) }
+{
+    match board.into_inner() {
+        Ok(UnlockedBoard::Recorded(history)) => {
+            if !are_all(&history, receipts) {
+                return None;
+            }
+            Some(history)
+        }
+        Ok(UnlockedBoard::Open(_)) | Err(_) => None,
+    }
 }
