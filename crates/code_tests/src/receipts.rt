@@ -1,9 +1,9 @@
-//! Receipts of logged texts: which claims a history holds; texts that two threads log on one board, and the picture at the end.
+//! Receipts of logged texts: those that a history holds; texts that two threads log on one board, and the picture at the end.
 use crate::checks::Granted;
 use crate::fronts::{Shared, board_shows, recorded, setup};
 use indicatif::{
-    Answer, Drawn, InMemoryTerm, MultiProgress, NoTracker, ProgressDrawTarget, Receipt,
-    RecordReader, Recorded, Refusal,
+    Drawn, InMemoryTerm, MultiProgress, NoTracker, ProgressDrawTarget, Receipt, RecordReader,
+    Recorded, Refusal,
 };
 use std::alloc::Global;
 use std::process::Abort;
@@ -104,18 +104,7 @@ fn own(rt: &impl Abort, alloc: Global, text: &str) -> String {
     String::from_str(alloc, text).granted(rt)
 }
 
-/// Claims that the board of the mark 1 logged a text at the moment 5, and drew it.
-fn claim(rt: &impl Abort, alloc: Global, number: usize, text: &str) -> Receipt {
-    Receipt {
-        mark: 1,
-        number,
-        text: own(rt, alloc, text),
-        moment: 5,
-        answer: Answer::Drawn(Drawn::Yes),
-    }
-}
-
-/// A receipt is held, also after another call. It is the claim that names all of its entry.
+/// A receipt is held, also after another call. (Which other claims are held is proved.)
 #[test]
 fn receipt_of_a_text(rt: HostRuntime) {
     let rt = &rt;
@@ -128,30 +117,4 @@ fn receipt_of_a_text(rt: HostRuntime) {
     holds!(rt; record.holds(&receipt) && receipt.number == 0 && receipt.answer == answer);
     let (_, other) = record.println_with_receipt(own(rt, alloc, "b"), 5);
     holds!(rt; record.holds(&receipt) && record.holds(&other.granted(rt)));
-    holds!(rt; record.holds(&claim(rt, alloc, 0, "a")));
-    holds!(rt; record.holds(&claim(rt, alloc, 1, "b")));
-}
-
-/// A claim of another number, of a number that no entry has, of another text, mark, moment or answer.
-#[test]
-fn claims_that_no_entry_meets(rt: HostRuntime) {
-    let rt = &rt;
-    let alloc = rt.alloc();
-    let mut record: Recording = Recorded::new(alloc, ProgressDrawTarget::hidden(), 1);
-    let (_, receipt) = record.println_with_receipt(own(rt, alloc, "a"), 5);
-    let mut receipt = receipt.granted(rt);
-    holds!(rt; !record.holds(&claim(rt, alloc, 0, "a"))); // it was hidden
-    receipt.number = 1;
-    holds!(rt; !record.holds(&receipt));
-    receipt.number = 0;
-    receipt.mark = 2;
-    holds!(rt; !record.holds(&receipt));
-    receipt.mark = 1;
-    receipt.moment = 6;
-    holds!(rt; !record.holds(&receipt));
-    receipt.moment = 5;
-    receipt.text = own(rt, alloc, "b");
-    holds!(rt; !record.holds(&receipt));
-    receipt.text = own(rt, alloc, "a");
-    holds!(rt; record.holds(&receipt));
 }
