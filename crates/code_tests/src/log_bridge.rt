@@ -4,14 +4,17 @@ use crate::fronts::{self, Bar, Shared, bar_on, recorded, setup};
 use crate::replays::{Kind, counted, replays};
 use indicatif::bridge::{LevelOnEachLine, LineForm, LogBridge, emit};
 use indicatif::{
-    BarCommand, BarId, BarState, Board, Candidate, Cells, Drawn, InMemoryTerm, MultiProgress,
-    NoTracker, ProgressDrawTarget, ProgressStyle, Refusal, StepClock, Term,
+    Board, Drawn, InMemoryTerm, MultiProgress, NoTracker, ProgressDrawTarget, Refusal, StepClock,
+    Term,
 };
 use log::sink::Memory;
 use log::{Level, LevelFilter, Log, Logged, debug, error, info, trace, warn};
+use scripts::got::Got;
+use scripts::row::At;
+use scripts::screen::{Screen, Wire, look_at};
 use std::alloc::Global;
-use std::io::{self, ErrorKind, Write};
 use std::process::Abort;
+use std::rc::Rc;
 use std::sync::Wait;
 use std::thread::{Threads, join};
 
@@ -199,48 +202,23 @@ fn is_line<R: Abort>(rt: &R, line: Option<&String>, wanted: &str) {
 
 // ---- a terminal that fails
 
-/// The cells of a terminal, and how many writes succeed before one fails.
-#[derive(Drop)]
-struct Wire {
-    cells: Cells,
-    left: u32,
-}
-
-impl Write for Wire {
-    fn write(&mut self, buf: &[u8]) -> io::Result<usize> {
-        if self.left == 0 {
-            self.left = u32::MAX;
-            return Err(io::Error::from(ErrorKind::BrokenPipe));
-        }
-        self.left -= 1;
-        match self.cells.feed(buf) {
-            Ok(()) => Ok(buf.len()),
-            Err(_) => Err(io::Error::from(ErrorKind::OutOfMemory)),
-        }
-    }
-
-    fn flush(&mut self) -> io::Result<()> {
-        Ok(())
-    }
-}
-
 type Broken<R> = MultiProgress<Term<Wire>, StepClock, R>;
 
-fn breaking_after<R: Wait + Copy + Clone + Drop + Abort>(
+/// A board on a screen whose first write fails; and the screen.
+fn breaking<R: Wait + Copy + Clone + Drop + Abort>(
     rt: R,
     alloc: Global,
-    left: u32,
-) -> Broken<R> {
+) -> (Broken<R>, Rc<Screen>) {
     let rt = &rt;
-    let cells = Cells::new(alloc, 4, 20).granted(rt);
-    let target = ProgressDrawTarget::term_like(Term::new(Wire { cells, left }, 4, 20));
+    let screen = Screen::new(alloc, 4, 20).granted(rt);
+    let at = At { alloc, now: 0 };
+    let is_told = look_at(&screen, "fails_call 1", at, &mut Got::new(alloc));
+    holds!(rt; matches!(is_told, Ok(true)));
+    let wire = Wire(screen.clone().granted(rt));
+    let target = ProgressDrawTarget::term_like(Term::new(wire, 4, 20));
     let clock = StepClock { next: 0, step: 1 };
     let board = MultiProgress::with_draw_target(*rt, alloc, target, clock, 1);
-    board.expect(rt, "granted")
-}
-
-fn contents(term: Option<&Term<Wire>>) -> Option<String> {
-    term?.writer().cells.contents().ok()
+    (board.expect(rt, "granted"), screen)
 }
 
 fn warn_twice<L: Log>(rt: &L) {
@@ -252,60 +230,30 @@ fn warn_twice<L: Log>(rt: &L) {
 #[test]
 fn a_record_that_failed_is_missed(rt: HostRuntime) {
     let rt = &rt;
-    let board = breaking_after(*rt, rt.alloc(), 0);
+    let (board, screen) = breaking(*rt, rt.alloc());
     let bridge = LogBridge::new(board.clone().expect(rt, "granted"));
     let log = Logged::new(*rt, Level::Trace, bridge);
     warn!(log; "one");
     same!(rt; log.sink().missed(), 1);
     warn_twice(&log);
     same!(rt; log.sink().missed(), 1);
-    let text = board.with_term(contents).granted(rt);
+    let text = screen.contents().granted(rt);
     same!(rt; text.as_str(), "\nWARN  low disk\nERROR a\nb");
 }
 
-// ---- lines on a board of one's own
+// ---- a line on a board of one's own
 
-type Own = Board<NoTracker, InMemoryTerm>;
-
-/// A board that shows the bar `x`.
-fn showing_x<R: Abort>(rt: &R, alloc: Global) -> Box<Own> {
-    let style = ProgressStyle::with_template(alloc, "x").granted(rt);
-    let bar = BarState::styled(alloc, style, None, 0).expect(rt, "granted");
-    let board = Board::new(alloc, setup(rt, alloc, 20).target, 1);
-    let mut board = Box::new(alloc, board).expect(rt, "granted");
-    let _ = board.add(Candidate::New(bar));
-    holds!(rt; board.redraw(0).is_ok());
-    board
-}
-
-/// A tick of its bar.
-fn tick(board: &mut Own) -> Result<Drawn, Refusal> {
-    let number = 0;
-    board.command(BarId { mark: 1, number }, BarCommand::Tick, 0)
-}
-
-/// Ends the test if something else stands on the board's terminal.
-fn shows<R: Abort>(rt: &R, board: &Own, wanted: &str) {
-    let text = fronts::contents(board.term()).granted(rt);
-    same!(rt; text.as_str(), wanted);
-}
-
-/// On a hidden target a line is dropped: it doesn't show once there is a terminal again.
 #[test]
-fn lines_stand_above_the_bar(rt: HostRuntime) {
+fn a_line_on_a_board(rt: HostRuntime) {
     let rt = &rt;
     let (alloc, now) = (rt.alloc(), 0);
-    let mut board = showing_x(rt, alloc);
-    same!(rt; tick(&mut board), Ok(Drawn::Yes));
-    same!(rt; emit(alloc, &mut board, Level::Warn, "low disk", now), Ok(Drawn::Yes));
-    same!(rt; emit(alloc, &mut board, Level::Error, "a\nb", now), Ok(Drawn::Yes));
-    shows(rt, &board, "WARN  low disk\nERROR a\nb\nx");
-    drop(board.set_draw_target(ProgressDrawTarget::hidden()));
-    same!(rt; emit(alloc, &mut board, Level::Info, "i", now), Ok(Drawn::Hidden));
-    drop(board.set_draw_target(setup(rt, alloc, 20).target));
-    holds!(rt; board.redraw(now).is_ok());
-    shows(rt, &board, "x");
+    let mut board: Board<NoTracker, InMemoryTerm> = Board::new(
+        alloc,
+        setup(rt, alloc, 20).target,
+        1,
+    );
     let drawn = emit(alloc, &mut board, Level::Error, "no such file", now).granted(rt);
     same!(rt; drawn, Drawn::Yes);
-    shows(rt, &board, "ERROR no such file\nx");
+    let text = fronts::contents(board.term()).granted(rt);
+    same!(rt; text.as_str(), "ERROR no such file");
 }

@@ -6,8 +6,7 @@ use indicatif::machine::{
     style_on_stderr, told_setup, wants_colors,
 };
 use indicatif::{
-    BarState, Clock, Drawn, Facts, LoneBar, Moment, NoTracker, ProgressStyle, Refusal, Setup,
-    TermLike,
+    BarState, Clock, Drawn, Facts, LoneBar, NoTracker, ProgressStyle, Refusal, Setup, TermLike,
 };
 use std::alloc::Global;
 use std::cell::Cell;
@@ -17,28 +16,16 @@ use std::time::{self, Duration};
 
 // ---- terminals
 
-/// Facts of a terminal of 7 rows and 40 columns.
-fn facts(attended: bool, term: Option<String>) -> Facts {
-    Facts {
+/// The setup of a bar behind a writer, on a terminal of 7 rows and 40 columns with cursor moves.
+fn setup_of<W: Write + Drop>(rt: &HostRuntime, writer: W) -> Result<TerminalSetup<W>, Refusal> {
+    let term = Some(String::from_str(rt.alloc(), "xterm")?);
+    let facts = Facts {
         rows: 7,
         cols: 40,
-        attended,
+        attended: true,
         term,
-    }
-}
-
-/// The setup of a bar behind a writer, on a terminal of 7 rows and 40 columns with these facts.
-fn setup_of(
-    rt: &HostRuntime,
-    attended: bool,
-    term: Option<&str>,
-) -> Result<TerminalSetup<Vec<u8>>, Refusal> {
-    let alloc = rt.alloc();
-    let term = match term {
-        Some(kind) => Some(String::from_str(alloc, kind)?),
-        None => None,
     };
-    told_setup(rt, Vec::new(alloc), facts(attended, term))
+    told_setup(rt, writer, facts)
 }
 
 /// Whether a clock doesn't go back.
@@ -51,7 +38,8 @@ fn goes_on(clock: &mut impl Clock) -> bool {
 #[test]
 fn a_terminal_of_which_is_told(rt: HostRuntime) {
     let rt = &rt;
-    let Setup { target, mut clock } = setup_of(rt, true, Some("xterm")).granted(rt);
+    let writer: Vec<u8> = Vec::new(rt.alloc());
+    let Setup { target, mut clock } = setup_of(rt, writer).granted(rt);
     let now = clock.now();
     let state = BarState::<NoTracker>::new(rt.alloc(), None, now).granted(rt);
     let mut bar = LoneBar::new(state, target);
@@ -77,8 +65,7 @@ impl Write for Broken {
 
 /// The answers of two logs of a bar behind such a writer, and whether the terminal is gone afterwards.
 fn logged_twice(rt: &HostRuntime, number: i32) -> Result<(Drawn, Drawn, bool), Refusal> {
-    let term = String::from_str(rt.alloc(), "xterm")?;
-    let setup = told_setup(rt, Broken(number), facts(true, Some(term)))?;
+    let setup = setup_of(rt, Broken(number))?;
     let state = BarState::<NoTracker>::new(rt.alloc(), None, 0)?;
     let mut bar = LoneBar::new(state, setup.target);
     let first = bar.println("a", 0)?;
@@ -151,19 +138,19 @@ fn a_style_for_standard_error(rt: HostRuntime) {
 
 // ---- clocks
 
-/// A machine that gives these nanoseconds one after another, and then refuses.
+/// A machine that gives these times one after another, and then refuses.
 #[derive(Drop)]
-struct Telling {
-    nanos: &'static [u64],
+struct Telling<'a> {
+    times: &'a [Duration],
     readings: Cell<usize>,
 }
 
-impl time::Clock for Telling {
+impl time::Clock for Telling<'_> {
     fn monotonic(&self) -> io::Result<Duration> {
         let reading = self.readings.get();
         self.readings.set(reading.saturating_add(1));
-        match self.nanos.get(reading) {
-            Some(nanos) => Ok(Duration::from_nanos(*nanos)),
+        match self.times.get(reading) {
+            Some(time) => Ok(*time),
             None => Err(io::Error::from(ErrorKind::Unsupported)),
         }
     }
@@ -173,8 +160,10 @@ impl time::Clock for Telling {
     }
 }
 
-/// Whether the clock gives these moments, one after another.
-fn tells(clock: &mut MachineClock<Telling>, moments: &[u64]) -> bool {
+/// Whether the clock of a machine with these times gives these moments, one after another.
+fn tells(times: &[Duration], moments: &[u64]) -> bool {
+    let readings = Cell::new(0);
+    let mut clock = MachineClock::new(Telling { times, readings });
     for moment in moments {
         if clock.now() != *moment {
             return false;
@@ -183,52 +172,21 @@ fn tells(clock: &mut MachineClock<Telling>, moments: &[u64]) -> bool {
     true
 }
 
-/// It gives the machine's time, doesn't go back, and stands still if the machine refuses.
+/// It gives the machine's time, doesn't go back, and stands still if the machine refuses. After 584 years the nanoseconds exceed 64 bits:
+/// then it stands still at 2^64 - 1.
 #[test]
 fn a_clock_of_a_machine(rt: HostRuntime) {
     let rt = &rt;
-    let mut clock = MachineClock::new(Telling {
-        nanos: &[5_000_000_000, 5_000_000_007, 4_000_000_000, 6_000_000_000],
-        readings: Cell::new(0),
-    });
-    let moments = [
-        5_000_000_000,
-        5_000_000_007,
-        5_000_000_007,
-        6_000_000_000,
-        6_000_000_000,
+    let times = [
+        Duration::from_nanos(5_000_000_007),
+        Duration::from_nanos(4_000_000_000),
+        Duration::from_secs(18_446_744_072),
     ];
-    holds!(rt; tells(&mut clock, moments.as_slice()));
-}
-
-/// A machine that has run for the given number of seconds.
-#[derive(Drop)]
-struct Aged {
-    secs: u64,
-}
-
-impl time::Clock for Aged {
-    fn monotonic(&self) -> io::Result<Duration> {
-        Ok(Duration::from_secs(self.secs))
-    }
-
-    fn since_1970(&self) -> io::Result<Duration> {
-        self.monotonic()
-    }
-}
-
-/// The moment of the clock of a machine that has run for `secs` seconds.
-fn told_at(secs: u64) -> Moment {
-    MachineClock::new(Aged { secs }).now()
-}
-
-/// After 584 years the nanoseconds exceed 64 bits, and the clock stands still at 2^64 - 1.
-#[test]
-fn a_clock_of_an_old_machine(rt: HostRuntime) {
-    let rt = &rt;
-    same!(rt; told_at(18_446_744_072), 18_446_744_072_000_000_000);
-    same!(rt; told_at(18_446_744_074), u64::MAX);
-    same!(rt; told_at(u64::MAX), u64::MAX);
+    let last = 18_446_744_072_000_000_000;
+    let moments = [5_000_000_007, 5_000_000_007, last, last];
+    holds!(rt; tells(times.as_slice(), moments.as_slice()));
+    holds!(rt; tells(&[Duration::from_secs(18_446_744_074)], &[u64::MAX]));
+    holds!(rt; tells(&[Duration::from_secs(u64::MAX)], &[u64::MAX]));
 }
 
 /// Whether the clock advances within `readings` readings.

@@ -1,10 +1,10 @@
 //! Lists in threads: the blocks by which a bar advances, and what a shared bar shows within one.
 use crate::checks::Granted;
 use crate::fronts::{Bar, another_of};
-use crate::gates::counts;
+use crate::gates::{Meeting, counts};
 use crate::stepped::{bar_at, twice};
 use indicatif::{
-    Drawn, Moves, ParallelProgressIterator, ProgressBar, ProgressDrawTarget, Refusal, Setup,
+    Drawn, Gate, Moves, ParallelProgressIterator, ProgressBar, ProgressDrawTarget, Refusal, Setup,
     StepClock,
 };
 use std::alloc::Global;
@@ -46,36 +46,19 @@ fn blocks_and_tenths(rt: HostRuntime) {
     goes_by(rt, alloc, 1, &[1]);
 }
 
-/// How many milliseconds an item waits for the other one to begin.
-const PATIENCE: u32 = 10_000;
-
-/// Marks this one of two as begun; whether the other one begins within that time.
-fn meets<C: Clock>(clock: &C, begun: &[AtomicU64; 2], item: usize) -> bool {
-    let (mine, other) = if item == 0 { (0, 1) } else { (1, 0) };
-    begun[mine].store(1, Ordering::SeqCst);
-    for _ in 0..PATIENCE {
-        if begun[other].load(Ordering::SeqCst) == 1 {
-            return true;
-        }
-        sleep(clock, Duration::from_millis(1));
-    }
-    false
-}
-
 /// Two items are worked on at the same time: each sees that the other has begun. (With one processor, or if their number is unknown, they
 /// are worked on one after another.)
 #[test]
 fn pieces_of_a_list_run_at_the_same_time(rt: HostRuntime) {
     let rt = &rt;
     let alloc = rt.alloc();
-    let begun = [AtomicU64::new(0), AtomicU64::new(0)];
+    let gate = Meeting::of(*rt, 2);
     let items = [0usize, 1];
     let list = items.as_slice().progress_with(bar_at(alloc, 0));
-    let (made, bar) = list.map_collect(rt, alloc, |item: &usize| meets(rt, &begun, *item));
-    let made = made.granted(rt);
-    same!(rt; (made.len(), bar.position), (2, 2));
+    let (made, bar) = list.map_collect(rt, alloc, |item: &usize| gate.pass(*item));
+    same!(rt; (made.granted(rt).len(), bar.position), (2, 2));
     if has_processors(rt) {
-        same!(rt; made.as_slice(), [true, true].as_slice());
+        same!(rt; gate.saw_all.load(Ordering::SeqCst), 2);
         same!(rt; bar.steps.as_slice(), [2].as_slice());
     }
 }

@@ -35,12 +35,13 @@ impl Write for Gone {
     }
 }
 
-/// A shared bar: above it, nothing is written elsewhere; once it is hidden, each text is written as a whole, with a line end.
+/// Above a shared bar, and above a board, nothing is written elsewhere. Once it is hidden, each text is written as a whole, with a line end.
 #[test]
-fn lines_of_a_bar(rt: HostRuntime) {
+fn lines_above_or_elsewhere(rt: HostRuntime) {
     let rt = &rt;
     let alloc = rt.alloc();
     bar_lines(rt, &alone(*rt, alloc, "x"), alloc);
+    board_lines(rt, &recorded(*rt, alloc), alloc);
 }
 
 fn bar_lines<R: Wait + Copy + Clone + Drop + Abort>(rt: &R, bar: &Bar<R>, alloc: Global) {
@@ -57,20 +58,14 @@ fn bar_lines<R: Wait + Copy + Clone + Drop + Abort>(rt: &R, bar: &Bar<R>, alloc:
     same!(rt; bar.println_or("d", &mut Gone), refused);
 }
 
-/// A shared board: above it, nothing is written elsewhere; once it is hidden, each text is written as a whole, with a line end.
-#[test]
-fn lines_of_a_board(rt: HostRuntime) {
-    let rt = &rt;
-    let alloc = rt.alloc();
-    board_lines(rt, &recorded(*rt, alloc), alloc);
-    hidden_board_lines(rt, alloc);
-}
-
 fn board_lines<R: Wait + Copy + Clone + Drop + Abort>(rt: &R, board: &Shared<R>, alloc: Global) {
     let mut out = Vec::new(alloc);
     same!(rt; board.println_or("a.txt", &mut out), Ok(Drawn::Yes));
     is_written(rt, &out, "");
     board_shows(rt, board, "a.txt");
+    let board = hidden_board(rt, alloc);
+    same!(rt; board.println_or("a.txt is done", &mut out), Ok(Drawn::Hidden));
+    is_written(rt, &out, "a.txt is done\n");
 }
 
 /// A hidden board.
@@ -80,86 +75,63 @@ fn hidden_board<R: Wait + Copy + Clone + Drop + Abort>(rt: &R, alloc: Global) ->
     MultiProgress::new(*rt, alloc, setup, 1).expect(rt, "granted")
 }
 
-fn hidden_board_lines<R: Wait + Copy + Clone + Drop + Abort>(rt: &R, alloc: Global) {
-    let board = hidden_board(rt, alloc);
-    let mut out = Vec::new(alloc);
-    same!(rt; board.println_or("a.txt is done", &mut out), Ok(Drawn::Hidden));
-    is_written(rt, &out, "a.txt is done\n");
-}
-
 /// A board without a lock: what `println` returned decides.
 #[test]
 fn lines_without_a_lock(rt: HostRuntime) {
     let rt = &rt;
     let (alloc, now) = (rt.alloc(), 0);
     let mut out = Vec::new(alloc);
-    let mut board: Board<NoTracker, InMemoryTerm> = Board::new(
-        alloc,
-        ProgressDrawTarget::hidden(),
-        1,
-    );
+    let target: ProgressDrawTarget<InMemoryTerm> = ProgressDrawTarget::hidden();
+    let mut board: Board<NoTracker, InMemoryTerm> = Board::new(alloc, target, 1);
     let drawn = board.println("a.txt", now);
     let drawn = written_if_hidden(alloc, drawn, "a.txt", &mut out).granted(rt);
     same!(rt; drawn, Drawn::Hidden);
-    is_written(rt, &out, "a.txt\n");
-    drop(board.set_draw_target(setup(rt, alloc, 10).target));
-    let drawn = board.println("b.txt", now);
-    same!(rt; written_if_hidden(alloc, drawn, "b.txt", &mut out), Ok(Drawn::Yes));
-    let refused = Err(Refusal::NoColumns);
-    same!(rt; written_if_hidden(alloc, refused, "c.txt", &mut out), refused);
     is_written(rt, &out, "a.txt\n");
 }
 
 // ---- bars as plain lines
 
-/// A bar of nine that shows its position in red.
-fn nine<R: Abort>(rt: &R, alloc: Global) -> BarState<NoTracker> {
-    let style = ProgressStyle::with_template(alloc, "{pos:.red}").granted(rt);
-    let style = style.with_colors(true).granted(rt);
-    BarState::styled(alloc, style, Some(9), 0).granted(rt)
-}
-
-/// A shared bar on a terminal has no plain line; once it is hidden, each call reads its clock, which advances by one.
+/// A shared bar on a terminal has no plain line, and its looks don't count. Once it is hidden, each call reads its clock, which advances by
+/// one. A bar of a hidden board has plain lines, too.
 #[test]
-fn a_hidden_bar_is_told(rt: HostRuntime) {
+fn hidden_bars_are_told(rt: HostRuntime) {
     let rt = &rt;
     let alloc = rt.alloc();
-    bar_is_told(rt, &alone(*rt, alloc, "x"), alloc);
-}
-
-fn bar_is_told<R: Wait + Copy + Clone + Drop + Abort>(rt: &R, bar: &Bar<R>, alloc: Global) {
-    let (mut lines, mut out) = (PlainLines::every(0), Vec::new(alloc));
-    same!(rt; bar.tell_line(&mut lines, &mut out), Ok(false));
-    same!(rt; bar.tell_line(&mut lines, &mut out), Ok(false));
+    let bar = alone(*rt, alloc, "x");
+    let mut lines = PlainLines::every(0);
+    same!(rt; bar.tell_line(&mut lines, &mut Gone), Ok(false));
+    same!(rt; bar.tell_line(&mut lines, &mut Gone), Ok(false));
     bar.set_draw_target(ProgressDrawTarget::hidden())
         .granted(rt);
-    same!(rt; bar.tell_line(&mut lines, &mut out), Ok(false));
-    same!(rt; bar.tell_line(&mut lines, &mut out), Ok(true));
-    is_written(rt, &out, "x\n");
-    let refused = Err(Refusal::Terminal(ErrorKind::BrokenPipe));
-    same!(rt; bar.tell_line(&mut lines, &mut Gone), refused);
-}
-
-/// A bar on a hidden board has plain lines.
-#[test]
-fn a_bar_of_a_hidden_board_is_told(rt: HostRuntime) {
-    let rt = &rt;
-    let alloc = rt.alloc();
+    is_told(rt, &bar, (&mut lines, alloc));
     let board = hidden_board(rt, alloc);
     let bar = bar_on(&board, *rt, alloc, "x");
-    let (mut lines, mut out) = (PlainLines::every(0), Vec::new(alloc));
-    same!(rt; bar.tell_line(&mut lines, &mut out), Ok(false));
-    same!(rt; bar.tell_line(&mut lines, &mut out), Ok(true));
-    is_written(rt, &out, "x\n");
+    is_told(rt, &bar, (&mut PlainLines::every(0), alloc));
 }
 
-/// A bar that stands alone and is hidden, and its line, which has no colour sequences.
+/// A hidden bar that shows `x` has no line at the first look, and one at the next; a writer that has gone away refuses the one after.
+fn is_told<R: Wait + Copy + Clone + Drop + Abort>(
+    rt: &R,
+    bar: &Bar<R>,
+    (lines, alloc): (&mut PlainLines, Global),
+) {
+    let mut out = Vec::new(alloc);
+    same!(rt; bar.tell_line(lines, &mut out), Ok(false));
+    same!(rt; bar.tell_line(lines, &mut out), Ok(true));
+    is_written(rt, &out, "x\n");
+    let refused = Err(Refusal::Terminal(ErrorKind::BrokenPipe));
+    same!(rt; bar.tell_line(lines, &mut Gone), refused);
+}
+
+/// A bar that stands alone and is hidden, and its line.
 #[test]
 fn a_lone_bar_is_told(rt: HostRuntime) {
     let rt = &rt;
     let (alloc, now) = (rt.alloc(), 7);
     let target: ProgressDrawTarget<InMemoryTerm> = ProgressDrawTarget::hidden();
-    let mut bar = LoneBar::new(nine(rt, alloc), target);
+    let style = ProgressStyle::with_template(alloc, "{pos}").granted(rt);
+    let record: BarState<NoTracker> = BarState::styled(alloc, style, Some(9), 0).granted(rt);
+    let mut bar = LoneBar::new(record, target);
     let (mut lines, mut out) = (PlainLines::every(10), Vec::new(alloc));
     holds!(rt; bar.finish(now).is_ok());
     if let Some(line) = lines.line_of(bar.bar(), now).granted(rt) {

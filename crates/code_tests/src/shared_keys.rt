@@ -1,16 +1,15 @@
 //! Bars with a key of the tests' own that threads share, on their own target and on a board. What
-//! the key says follows from its documentation: how many steps of ten are left. Then keys that write what no line holds.
+//! the key says follows from its documentation: how many steps of ten are left.
 ghost use Rattle.std.specs.Prelude.{◌-◌, decimal};
 ghost use Rattle.indicatif_bar.specs.Trackers.{telling};
 
 use crate::checks::Granted;
-use crate::fronts::{self, bar_shows, board_shows, target};
+use crate::fronts::{bar_shows, board_shows, target};
 use crate::replays::replays;
-use crate::trackers::{Says, Telling};
 use indicatif::style::ProgressTracker;
 use indicatif::{
-    Drawn, FnTracker, InMemoryTerm, Moment, MultiProgress, ProgressBar, ProgressState,
-    ProgressStyle, Refusal, Setup, StepClock,
+    InMemoryTerm, Moment, MultiProgress, ProgressBar, ProgressState, ProgressStyle, Refusal, Setup,
+    StepClock,
 };
 use itoa::Buffer;
 use std::alloc::Global;
@@ -113,7 +112,17 @@ fn made_by<R: Wait + Copy + Clone + Drop + Abort>(
 }
 
 /// The second of a board's two bars moves by 2.
-fn shows_two<R: Wait + Copy + Clone + Drop + Abort>(rt: R, alloc: Global) {
+fn shows_two<R: Wait + Copy + Clone + Drop + Abort>(rt: R, alloc: Global, board: &Several<R>) {
+    let rt = &rt;
+    let first = made_by(board, *rt, alloc);
+    let second = board.add(files(*rt, alloc)).expect(rt, "granted");
+    holds!(rt; first.tick().is_ok());
+    holds!(rt; second.inc(2).is_ok());
+    board_shows(rt, board, "a 10\nfiles 8");
+}
+
+/// A board without a history; and one whose history has the keys.
+fn shows_both<R: Wait + Copy + Clone + Drop + Abort>(rt: R, alloc: Global) {
     let rt = &rt;
     let board: Several<R> = MultiProgress::keyed(
         *rt,
@@ -121,65 +130,15 @@ fn shows_two<R: Wait + Copy + Clone + Drop + Abort>(rt: R, alloc: Global) {
         setup(alloc).expect(rt, "granted"),
         1,
     ).expect(rt, "granted");
-    let first = made_by(&board, *rt, alloc);
-    let second = board.add(files(*rt, alloc)).expect(rt, "granted");
-    holds!(rt; first.tick().is_ok());
-    holds!(rt; second.inc(2).is_ok());
-    board_shows(rt, &board, "a 10\nfiles 8");
+    shows_two(*rt, alloc, &board);
+    let setup = setup(alloc).expect(rt, "granted");
+    let board = MultiProgress::keyed_recorded(*rt, alloc, setup, 1);
+    let board: Several<R> = board.expect(rt, "granted");
+    shows_two(*rt, alloc, &board);
+    replays(*rt, &board, alloc);
 }
 
 #[test]
 fn on_a_board(rt: HostRuntime) {
-    shows_two(rt, rt.alloc());
-}
-
-// ---- what no line holds
-
-/// A bar whose key tells a text.
-type Saying<R> = ProgressBar<InMemoryTerm, StepClock, R, Telling>;
-
-/// A board of such bars that keeps its history.
-type Sayings<R> = MultiProgress<InMemoryTerm, StepClock, R, Telling>;
-
-/// A bar whose key writes this text, with a tab width of two.
-fn saying<R: Wait + Copy + Clone + Drop + Abort>(
-    rt: R,
-    alloc: Global,
-    text: &'static str,
-) -> Saying<R> {
-    let rt = &rt;
-    let key = FnTracker::new(alloc, Says { alloc, text }).granted(rt);
-    let style = ProgressStyle::with_template(alloc, "{t}").granted(rt);
-    let style = style.with_key("t", key).expect(rt, "granted");
-    let bar = ProgressBar::styled(*rt, alloc, style, Some(4), fronts::setup(rt, alloc, 10));
-    let bar = bar.expect(rt, "granted");
-    holds!(rt; bar.set_tab_width(2).is_ok());
-    bar
-}
-
-/// Ends the test if a board that has drawn a bar whose key writes this text shows something else, or if a new board that makes the calls of
-/// its history does.
-fn sayings_show<R: Wait + Copy + Clone + Drop + Abort>(
-    rt: R,
-    alloc: Global,
-    text: &'static str,
-    wanted: &str,
-) {
-    let rt = &rt;
-    let board = MultiProgress::keyed_recorded(*rt, alloc, fronts::setup(rt, alloc, 10), 1);
-    let board: Sayings<R> = board.expect(rt, "granted");
-    let bar = board.add(saying(*rt, alloc, text)).expect(rt, "granted");
-    same!(rt; bar.tick(), Ok(Drawn::Yes));
-    board_shows(rt, &board, wanted);
-    replays(*rt, &board, alloc);
-}
-
-/// A tab is two spaces, and a newline separates two lines. Anything that isn't a colour sequence is drawn; its effect on a terminal isn't
-/// stated. One in memory ignores it.
-#[test]
-fn what_no_line_holds(rt: HostRuntime) {
-    let rt = &rt;
-    let alloc = rt.alloc();
-    sayings_show(*rt, alloc, "a\tb\nc", "a  b\nc");
-    sayings_show(*rt, alloc, "a\u{1B}[2Jb", "ab");
+    shows_both(rt, rt.alloc());
 }

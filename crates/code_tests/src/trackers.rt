@@ -1,15 +1,11 @@
 //! Your own keys of a template.
-ghost use Rattle.std.specs.Prelude.{false, true, List, [], ◌++◌, if◌then◌else◌, codes, decimal, unwrap_or};
+ghost use Rattle.std.specs.Prelude.{false, true, [], ◌++◌, if◌then◌else◌, codes, decimal, unwrap_or};
 
 use crate::checks::Granted;
 use crate::spare_lines::is_shown;
 use indicatif::style::ProgressTracker;
-use indicatif::{
-    BarCommand, BarState, FnTracker, Moment, ProgressFinish, ProgressState, ProgressStyle, Refusal,
-    TellsText,
-};
+use indicatif::{BarState, FnTracker, Moment, ProgressState, ProgressStyle, Refusal, TellsText};
 use std::alloc::Global;
-use std::convert::AsStr;
 use std::process::Abort;
 
 /// Gives this text.
@@ -55,58 +51,6 @@ pub fn saying(
     look.with_key(name, tracker).expect(rt, "granted")
 }
 
-/// A style with this template and a tracker named `t`, without colours.
-fn tracked(
-    rt: &impl Abort,
-    alloc: Global,
-    (template, text): (&str, &'static str),
-) -> ProgressStyle<Telling> {
-    let look = look(rt, alloc, (template, false));
-    let look = saying(rt, alloc, look, ("t", text));
-    look.progress_chars("=>-").expect(rt, "granted")
-}
-
-/// A template, the text of its tracker, a tab width, and the lines on 10 columns.
-type Said = (&'static str, &'static str, usize, &'static str);
-
-/// A tracker's text has its tabs expanded, its newlines separate lines, its NULs are fillers, and what isn't a colour sequence counts by
-/// its characters. (With colours it is in `test_expand_template_flags`.)
-const SAID: &[Said] = &[
-    ("{t}", "a\tb", 4, "a    b\n"),
-    ("{t}", "a\tb\nc", 2, "a  b\nc\n"),
-    ("{t:^5}|", "XXX", 8, " XXX |\n"),
-    ("{t:^5.red.on_blue}", "XXX", 8, " XXX \n"),
-    ("{t:5}|", "\u{1B}[2J", 8, "\u{1B}[2J  |\n"),
-    ("{t:5}|", "\u{1B}[1mx", 8, "\u{1B}[1mx    |\n"),
-    ("{t}{wide_bar}", "x\0y", 8, "x--------y--------\n"),
-    ("{t}", "x\0y", 8, "x\0y\n"),
-    ("{t:3!}|", "a\u{308}\u{7}国b", 8, "a\u{308}\u{7}国|\n"),
-    ("{t:>3!}|", "\n\n", 8, "   \n\n|\n"),
-    ("{t}", "", 8, ""),
-];
-
-/// Ends the test if the lines of a bar of 4 are others.
-fn is_told(rt: &impl Abort, alloc: Global, row: &Said) {
-    let (template, text, tab, wanted) = *row;
-    let look = tracked(rt, alloc, (template, text));
-    let mut bar = BarState::styled(alloc, look, Some(4), 0).expect(rt, "granted");
-    bar.set_tab_width(tab, 0).granted(rt);
-    let mut text = String::new(alloc);
-    for line in &bar.lines(0, 10).granted(rt) {
-        text.push_str(line.as_str()).granted(rt);
-        text.push('\n').granted(rt);
-    }
-    same!(rt; text.as_str(), wanted);
-}
-
-#[test]
-fn texts_of_trackers(rt: HostRuntime) {
-    let rt = &rt;
-    for row in SAID {
-        is_told(rt, rt.alloc(), row);
-    }
-}
-
 // ---- names of keys
 
 /// Trackers with the names of keys, and two with one name.
@@ -133,93 +77,6 @@ fn names_of_trackers(rt: HostRuntime) {
     let clone = look.try_clone().expect(rt, "granted");
     shows_line(rt, alloc, look, "pw2");
     shows_line(rt, alloc, clone, "pw2");
-}
-
-// ---- a text that changes
-
-/// Whether the bar has ticked since its last reset.
-#[derive(Clone, Copy, Drop)]
-struct Light {
-    on: bool,
-}
-
-impl ProgressTracker for Light {
-    ghost means = { record {
-      text = λ light p now. if light.on then codes "on" else codes "off";
-      ticked = λ light p now. record light { on = true };
-      was_reset = λ light p now. record light { on = false };
-    } };
-
-    fn tick(&mut self, _state: &ProgressState, _now: Moment) {
-        self.on = true;
-    }
-
-    fn reset(&mut self, _state: &ProgressState, _now: Moment) {
-        self.on = false;
-    }
-
-    fn write(&self, _state: &ProgressState, _now: Moment, out: &mut String) -> Result<(), Refusal> {
-        out.push_str(if self.on { "on" } else { "off" })?;
-        Ok(())
-    }
-
-    fn try_clone(&self) -> Result<Light, Refusal> {
-        Ok(*self)
-    }
-}
-
-/// A bar that shows whether it has ticked.
-fn lit(rt: &impl Abort, alloc: Global) -> BarState<Light> {
-    let look = look(rt, alloc, ("{light}", false));
-    let look = look.with_key("light", Light { on: false });
-    BarState::styled(alloc, look.expect(rt, "granted"), None, 0).expect(rt, "granted")
-}
-
-/// A message.
-fn said(rt: &impl Abort, alloc: Global) -> String {
-    String::from_str(alloc, "m").granted(rt)
-}
-
-/// Makes a command; ends the test if the bar then shows something else.
-fn lights(rt: &impl Abort, bar: &mut BarState<Light>, command: BarCommand<Light>, wanted: &str) {
-    bar.apply(command, 0).granted(rt);
-    is_shown(rt, &bar.lines(0, 80).granted(rt), wanted);
-}
-
-/// Each command that updates the bar ticks its trackers; a reset resets them, and nothing else changes them.
-#[test]
-fn ticks_and_resets_of_a_tracker(rt: HostRuntime) {
-    let rt = &rt;
-    let alloc = rt.alloc();
-    let mut bar = lit(rt, alloc);
-    lights(rt, &mut bar, BarCommand::WithPosition(1), "off");
-    lights(rt, &mut bar, BarCommand::ForceDraw, "off");
-    lights(
-        rt,
-        &mut bar,
-        BarCommand::WithMessage(said(rt, alloc)),
-        "off",
-    );
-    lights(rt, &mut bar, BarCommand::Tick, "on");
-    lights(rt, &mut bar, BarCommand::ResetEta, "on");
-    lights(rt, &mut bar, BarCommand::ResetElapsed, "on");
-    lights(rt, &mut bar, BarCommand::Reset, "off");
-    lights(rt, &mut bar, BarCommand::SetMessage(said(rt, alloc)), "on");
-    lights(rt, &mut bar, BarCommand::Reset, "off");
-    lights(rt, &mut bar, BarCommand::Inc(1), "on");
-    lights(rt, &mut bar, BarCommand::Reset, "off");
-    lights(rt, &mut bar, BarCommand::SetLength(3), "on");
-    lights(rt, &mut bar, BarCommand::Reset, "off");
-    lights(rt, &mut bar, BarCommand::SetTicker(true), "off");
-    lights(rt, &mut bar, BarCommand::Tick, "off");
-    lights(rt, &mut bar, BarCommand::TickerTick, "on");
-    lights(rt, &mut bar, BarCommand::Reset, "off");
-    lights(
-        rt,
-        &mut bar,
-        BarCommand::Finish(ProgressFinish::AndLeave),
-        "off",
-    );
 }
 
 // ---- tests of the crate `indicatif` 0.18.6, each under its own name and with its own values

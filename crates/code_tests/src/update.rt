@@ -41,18 +41,12 @@ fn shown_at(rt: &impl Abort, alloc: Global, place: u64) -> Box<Lone> {
     Box::new(alloc, LoneBar::new(Box::into_inner(bar), target)).granted(rt)
 }
 
-/// What stands on a bar's terminal.
-fn contents(rt: &impl Abort, bar: &Lone) -> String {
-    let term = bar.term().granted(rt);
-    term.contents().granted(rt)
-}
-
 #[test]
 fn an_update_of_a_lone_bar(rt: HostRuntime) {
     let rt = &rt;
     let mut bar = shown_at(rt, rt.alloc(), 23);
     same!(rt; update_next(&mut bar), Ok(Drawn::Yes));
-    same!(rt; contents(rt, &bar).as_str(), "24");
+    same!(rt; bar.bar().state().pos(), 24);
 }
 
 // ---- in two threads: the lock is held meanwhile, so that nobody else's call comes between

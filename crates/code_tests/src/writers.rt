@@ -38,11 +38,6 @@ impl<T: TermLike + Drop> OnTerm<T> {
         Ok(OnTerm { bar })
     }
 
-    /// The terminal.
-    fn term(&self) -> Option<&T> {
-        self.bar.term()
-    }
-
     /// Makes a call.
     fn makes(&mut self, step: Step) -> Result<Drawn, Refusal> {
         match step {
@@ -74,76 +69,25 @@ const SCRIPT: &[Step] = &[
 /// The place in the script of the tick that changes no line: the log before it wrote all of them. Such a draw writes nothing.
 const STILL: usize = 4;
 
-// ---- a writer that takes all
+// ---- a writer that takes all, behind a buffer and a terminal in a box
 
-/// Takes all bytes, and counts its calls.
+/// How often the writer was written to, and flushed.
+type Counts = (u64, u64);
+
+/// Takes all bytes, and counts its calls where its maker can read them.
 #[derive(Drop)]
-struct CallCount {
-    writes: u64,
-    flushes: u64,
-}
+struct Counted(Rc<Cell<Counts>>);
 
-impl Write for CallCount {
+impl Write for Counted {
     fn write(&mut self, buf: &[u8]) -> io::Result<usize> {
-        self.writes = self.writes.saturating_add(1);
+        let (writes, flushes) = self.0.get();
+        self.0.set((writes.saturating_add(1), flushes));
         Ok(buf.len())
     }
 
     fn flush(&mut self) -> io::Result<()> {
-        self.flushes = self.flushes.saturating_add(1);
-        Ok(())
-    }
-}
-
-/// A bar behind a buffer.
-type Buffered = OnTerm<Term<BufWriter<CallCount>>>;
-
-/// How often the writer behind the buffer was written to, and flushed.
-fn writes_and_flushes(bar: &Buffered) -> Option<(u64, u64)> {
-    let term = bar.term()?;
-    let count = term.writer().get_ref();
-    Some((count.writes, count.flushes))
-}
-
-/// Each call of the script is drawn with one more flush, and with one more write if it changes a line.
-fn each_is_one_write(rt: &impl Abort, mut bar: Buffered) {
-    let (mut writes, mut flushes): (u64, u64) = (0, 0);
-    for (place, step) in SCRIPT.iter().enumerate() {
-        writes = writes.saturating_add(u64::from(place != STILL));
-        flushes = flushes.saturating_add(1);
-        same!(rt; bar.makes(*step), Ok(Drawn::Yes));
-        same!(rt; writes_and_flushes(&bar), Some((writes, flushes)));
-    }
-}
-
-/// Behind a `BufWriter` each draw that changes a line is one write; one that changes none makes none, and neither does a call that is
-/// refused.
-#[test]
-fn a_drawing_is_one_write(rt: HostRuntime) {
-    let rt = &rt;
-    let alloc = rt.alloc();
-    let count = CallCount {
-        writes: 0,
-        flushes: 0,
-    };
-    let writer = BufWriter::new(alloc, count).granted(rt);
-    let bar = OnTerm::on(alloc, "ab", Term::new(writer, 6, 10)).granted(rt);
-    each_is_one_write(rt, bar);
-}
-
-// ---- a terminal in a box
-
-/// Counts its flushes where its maker can read them.
-#[derive(Drop)]
-struct SharedCount(Rc<Cell<u64>>);
-
-impl Write for SharedCount {
-    fn write(&mut self, buf: &[u8]) -> io::Result<usize> {
-        Ok(buf.len())
-    }
-
-    fn flush(&mut self) -> io::Result<()> {
-        self.0.set(self.0.get().saturating_add(1));
+        let (writes, flushes) = self.0.get();
+        self.0.set((writes, flushes.saturating_add(1)));
         Ok(())
     }
 }
@@ -151,35 +95,38 @@ impl Write for SharedCount {
 /// A terminal of a kind that only its maker knows.
 type Boxed = Box<dyn TermLike + Drop>;
 
-/// A terminal in a box that counts its flushes there.
-fn boxed(rt: &impl Abort, alloc: Global, count: &Rc<Cell<u64>>) -> Boxed {
+/// A terminal in a box, whose buffer writes to such a writer.
+fn boxed(rt: &impl Abort, alloc: Global, count: &Rc<Cell<Counts>>) -> Boxed {
     let count = count.clone().granted(rt);
-    Box::new(alloc, Term::new(SharedCount(count), 6, 10)).granted(rt)
+    let writer = BufWriter::new(alloc, Counted(count)).granted(rt);
+    Box::new(alloc, Term::new(writer, 6, 10)).granted(rt)
 }
 
-/// Each call of the script is drawn, and flushed once.
-fn each_is_flushed_once<T: TermLike + Drop>(
+/// Each call of the script is drawn with one more flush, and with one more write if it changes a line.
+fn each_is_one_write<T: TermLike + Drop>(
     rt: &impl Abort,
     mut bar: OnTerm<T>,
-    count: &Cell<u64>,
+    count: &Cell<Counts>,
 ) {
-    let mut flushes = count.get();
-    for step in SCRIPT {
+    let (mut writes, mut flushes) = count.get();
+    for (place, step) in SCRIPT.iter().enumerate() {
+        writes = writes.saturating_add(u64::from(place != STILL));
         flushes = flushes.saturating_add(1);
         same!(rt; bar.makes(*step), Ok(Drawn::Yes));
-        same!(rt; count.get(), flushes);
+        same!(rt; count.get(), (writes, flushes));
     }
 }
 
-/// A line isn't flushed, and a flush is counted once; so is each drawing.
+/// A line isn't flushed, and a flush is counted once. Behind a `BufWriter` each draw that changes a line is one write, and one that changes
+/// none makes none; each is flushed once.
 #[test]
-fn a_boxed_terminal_is_flushed_once_a_drawing(rt: HostRuntime) {
+fn a_drawing_is_one_write_and_one_flush(rt: HostRuntime) {
     let rt = &rt;
     let alloc = rt.alloc();
-    let count = Rc::new(alloc, Cell::new(0)).granted(rt);
+    let count = Rc::new(alloc, Cell::new((0, 0))).granted(rt);
     let mut boxed = boxed(rt, alloc, &count);
-    same!(rt; (boxed.write_line("ab").is_ok(), count.get()), (true, 0));
-    same!(rt; (boxed.flush().is_ok(), count.get()), (true, 1));
+    same!(rt; (boxed.write_line("ab").is_ok(), count.get()), (true, (0, 0)));
+    same!(rt; (boxed.flush().is_ok(), count.get()), (true, (1, 1)));
     let bar = OnTerm::on(alloc, "ab", boxed).granted(rt);
-    each_is_flushed_once(rt, bar, &count);
+    each_is_one_write(rt, bar, &count);
 }

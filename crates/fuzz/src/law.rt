@@ -1,5 +1,6 @@
 //! What must hold of each run.
 use indicatif_text::columns::Refusal;
+use scripts::from_refusals;
 use std::alloc::{AllocError, AllocFailed};
 
 /// A law that a run breaks.
@@ -17,23 +18,7 @@ pub enum Law {
     Refused(Refusal),
 }
 
-impl From<Refusal> for Law {
-    fn from(refusal: Refusal) -> Law {
-        Law::Refused(refusal)
-    }
-}
-
-impl From<AllocError> for Law {
-    fn from(_: AllocError) -> Law {
-        Law::Refused(Refusal::Memory)
-    }
-}
-
-impl<V: Drop> From<AllocFailed<V>> for Law {
-    fn from(_: AllocFailed<V>) -> Law {
-        Law::Refused(Refusal::Memory)
-    }
-}
+from_refusals!(Law, refusal => Law::Refused(refusal));
 
 /// Whether a law holds.
 pub type Held = Result<(), Law>;

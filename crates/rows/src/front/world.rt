@@ -3,13 +3,11 @@
 use crate::front::beside::Pair;
 use crate::front::bytes::{self, OverCounted};
 use crate::front::fronts::WithWrapped;
-use crate::front::lists::{self, List};
 use crate::front::loops::Looped;
 use crate::front::on_pane::OnPane;
 use crate::front::on_panes::OnPanes;
-use crate::front::places::Places;
 use crate::front::plain::Plain;
-use crate::front::{beside, environment, fronts, loops, on_pane, on_panes, places, plain};
+use crate::front::{beside, environment, fronts, loops, on_pane, on_panes, plain};
 use indicatif::machine::Shares;
 use scripts::got::{Bad, Got};
 use scripts::row::headed;
@@ -24,9 +22,7 @@ enum On<R: Wait + Copy + Clone + Drop> {
     Fronts(Box<WithWrapped<R>>),
     Beside(Box<Pair<R>>),
     Bytes(Box<OverCounted>),
-    List(Box<List>),
     Loop(Box<Looped>),
-    Places(Box<Places>),
     Pane(Box<OnPane>),
     Panes(Box<OnPanes>),
     Plain(Box<Plain>),
@@ -57,9 +53,7 @@ impl<R: AllocGlobal + RandomSource + Wait + Copy + Clone + Drop> World<R> {
             "fronts" => On::Fronts(fronts::begin(self.rt, alloc, rest)?),
             "beside" => On::Beside(beside::begin(self.rt, alloc)?),
             "bytes" => On::Bytes(bytes::begin(&self.rt, alloc, rest)?),
-            "list" => On::List(lists::begin(alloc, rest)?),
             "loop" => On::Loop(loops::begin(alloc, rest)?),
-            "places" => On::Places(places::begin(alloc, rest)?),
             "plain" => On::Plain(plain::begin(alloc, rest)?),
             "told" | "trusted" | "row" => On::Pane(on_pane::begin(alloc, name, rest)?),
             "widths" | "broken" => On::Panes(on_panes::begin(alloc, name, rest)?),
@@ -84,9 +78,7 @@ impl<R: Shares + RandomSource> World<R> {
             On::Fronts(world) => world.step(step, got)?,
             On::Beside(world) => world.step(step, got)?,
             On::Bytes(world) => bytes::step(world, step, got)?,
-            On::List(world) => lists::step(world, step, got)?,
             On::Loop(world) => world.step(step, got)?,
-            On::Places(world) => world.step(step, got)?,
             On::Pane(world) => world.step(step, got)?,
             On::Panes(world) => world.step(step, got),
             On::Plain(world) => world.step(step, got)?,
