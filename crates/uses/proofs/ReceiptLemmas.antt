@@ -41,7 +41,8 @@ one_more [] k x e = absurd (cc)
 one_more (y ∷ ys) zero x e = cc
 one_more (y ∷ ys) (suc k) x e = ap (λ l. y ∷ l) (one_more ys k x e)
 
-pub one_more_of_all : {X Y : Type 0} (v : X → Y) (xs : List X) (ys : List Y) (n k : ℕ) (d : X) → n < length xs → map v (take n xs) ≡ take n ys → k ≡ n → slice_get ys k ≡ Some (v (slice_index_or xs n d)) →
+pub one_more_of_all : {X Y : Type 0} (v : X → Y) (xs : List X) (ys : List Y) (n k : ℕ) (d : X) →
+    n < length xs → map v (take n xs) ≡ take n ys → k ≡ n → slice_get ys k ≡ Some (v (slice_index_or xs n d)) →
     map v (take (n + 1) xs) ≡ take (n + 1) ys
 one_more_of_all v xs ys n k d less so at is =
     let x = slice_index_or xs n d in
