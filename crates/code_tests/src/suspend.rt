@@ -210,28 +210,46 @@ fn calls<R: Wait + Clock + Clone + Drop + Abort>(scene: &Scene<R>) -> Result<Dra
     answer
 }
 
-/// A call of another thread that draws waits for the end of a pause: that of the board, or that which the other bar began. What stands then.
-fn waits_for<R: Shares + Abort>(rt: &R, (stand, call): (Stand, Call), wanted: &str) {
-    let scene = make_scene(*rt, stand, call);
+/// Calls that draw wait for the end of a board's pause.
+#[test]
+fn what_draws_waits_for_a_board(rt: HostRuntime) {
+    let rt = &rt;
+    let scene = make_scene(*rt, Stand::OnBoard, Call::Inc);
     let others = Arc::try_clone(&scene).expect(rt, "granted");
     let child = spawn(rt, move || calls(&others)).granted(rt);
     let own = Arc::try_clone(&scene).expect(rt, "granted");
-    let (read, drawn) = match call {
-        Call::Inc => scene.board.suspend(move || looks(&own)),
-        Call::Message | Call::Above => scene.other.suspend(move || looks(&own)),
-    };
+    let (read, drawn) = scene.board.suspend(move || looks(&own));
     same!(rt; (read, drawn), ((0, Some(10), false), Ok(Drawn::Yes)));
     same!(rt; child.join(rt), Ok(Drawn::Yes));
-    is_seen(rt, scene.alloc, &scene.bytes, wanted);
+    is_seen(rt, scene.alloc, &scene.bytes, "1/10\nb");
 }
 
-/// In a pause of a board, in one that a bar of the board began (a line above another bar), and in that of a bar that stands alone.
+/// They wait for a pause that a bar of the board began: a line above another bar.
 #[test]
-fn what_draws_waits(rt: HostRuntime) {
+fn what_draws_waits_for_another_bar(rt: HostRuntime) {
     let rt = &rt;
-    waits_for(rt, (Stand::OnBoard, Call::Inc), "1/10\nb");
-    waits_for(rt, (Stand::OnBoard, Call::Above), "x\n0/10\nb");
-    waits_for(rt, (Stand::Alone, Call::Message), "0/10!");
+    let scene = make_scene(*rt, Stand::OnBoard, Call::Above);
+    let others = Arc::try_clone(&scene).expect(rt, "granted");
+    let child = spawn(rt, move || calls(&others)).granted(rt);
+    let own = Arc::try_clone(&scene).expect(rt, "granted");
+    let (read, drawn) = scene.other.suspend(move || looks(&own));
+    same!(rt; (read, drawn), ((0, Some(10), false), Ok(Drawn::Yes)));
+    same!(rt; child.join(rt), Ok(Drawn::Yes));
+    is_seen(rt, scene.alloc, &scene.bytes, "x\n0/10\nb");
+}
+
+/// They wait for the pause of a bar that stands alone.
+#[test]
+fn what_draws_waits_for_a_bar(rt: HostRuntime) {
+    let rt = &rt;
+    let scene = make_scene(*rt, Stand::Alone, Call::Message);
+    let others = Arc::try_clone(&scene).expect(rt, "granted");
+    let child = spawn(rt, move || calls(&others)).granted(rt);
+    let own = Arc::try_clone(&scene).expect(rt, "granted");
+    let (read, drawn) = scene.other.suspend(move || looks(&own));
+    same!(rt; (read, drawn), ((0, Some(10), false), Ok(Drawn::Yes)));
+    same!(rt; child.join(rt), Ok(Drawn::Yes));
+    is_seen(rt, scene.alloc, &scene.bytes, "0/10!");
 }
 
 // ---- what waits for nothing
