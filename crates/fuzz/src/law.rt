@@ -1,6 +1,5 @@
 //! What must hold of each run.
 use indicatif_text::columns::Refusal;
-use scripts::from_refusals;
 use std::alloc::{AllocError, AllocFailed};
 
 /// A law that a run breaks.
@@ -18,7 +17,23 @@ pub enum Law {
     Refused(Refusal),
 }
 
-from_refusals!(Law, refusal => Law::Refused(refusal));
+impl From<Refusal> for Law {
+    fn from(refusal: Refusal) -> Law {
+        Law::Refused(refusal)
+    }
+}
+
+impl From<AllocError> for Law {
+    fn from(_: AllocError) -> Law {
+        Law::Refused(Refusal::Memory)
+    }
+}
+
+impl<V: Drop> From<AllocFailed<V>> for Law {
+    fn from(_: AllocFailed<V>) -> Law {
+        Law::Refused(Refusal::Memory)
+    }
+}
 
 /// Whether a law holds.
 pub type Held = Result<(), Law>;

@@ -114,7 +114,7 @@ fn look(board: &OnTerm, step: &str, got: &mut Got) -> Result<bool, Bad> {
 }
 
 /// Appends a slot, or `-`.
-fn push_slot(slot: Option<usize>, got: &mut Got) {
+pub fn push_slot(slot: Option<usize>, got: &mut Got) {
     match slot {
         Some(slot) => got.number(slot),
         None => got.text("-"),

@@ -7,7 +7,7 @@
 //! - `beside`: a shared bar beside a lone one, call by call.
 //! - `counted`: a bar that counts its moves. `scripted`: a reader, a writer and a stream that do what a row says. `bytes`: steps of these
 //!   when wrapped. `polls`: the polled ones.
-//! - `loops`: loops with their own bar.
+//! - `lists`: wrapped lists. `loops`: loops with their own bar. `places`: the position that moves and seeks show.
 //! - `environment`: the facts of an environment about a terminal. `on_pane`: a board on a terminal of another size than it was given.
 //!   `on_panes`: boards on terminals of many sizes. `pane`: that terminal. `plain`: a hidden bar as plain lines.
 mod bars;
@@ -19,10 +19,12 @@ mod entries;
 mod environment;
 mod fronts;
 mod history;
+mod lists;
 mod loops;
 mod on_pane;
 mod on_panes;
 mod pane;
+mod places;
 mod plain;
 mod polls;
 mod readings;

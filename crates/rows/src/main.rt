@@ -10,7 +10,7 @@
 //! - `world`: the world that steps are played on, and the module of a step.
 //! - `lone`, `boards`: a lone bar and a board on a screen. `records`: a bar's record. `terminals`: a terminal before a screen.
 //! - `recorded`: a board that keeps its history.
-//! - `streams`: targets on streams. `program`: runs of `bars run`.
+//! - `slots`: the order of bars and their slots. `streams`: targets on streams. `program`: runs of `bars run`.
 //! - `formats`: texts of formatters. `columns`: columns, rows and pieces of texts. `templates`: templates, and words of styles.
 //!   `refusals`: numbers and texts of refusals.
 //! - `noted`: a board on a terminal in memory whose calls are read at the end.
@@ -35,6 +35,7 @@ mod recorded;
 mod records;
 mod refusals;
 mod runs;
+mod slots;
 mod streams;
 mod styles;
 mod templates;

@@ -3,7 +3,7 @@
 use crate::terminals::Terminal;
 use crate::{
     boards, cells, columns, engines, formats, limiters, lines, lone, memory, noted, program,
-    recorded, records, refusals, runs, streams, styles, templates, terminals,
+    recorded, records, refusals, runs, slots, streams, styles, templates, terminals,
 };
 use indicatif_text::columns::Moment;
 use meter_parts::bytes_said;
@@ -21,6 +21,7 @@ enum On {
     Board(Box<boards::OnScreen>),
     Recorded(Box<recorded::OnScreen>),
     Term(Terminal),
+    Slots(slots::Table),
     Cells(cells::Fed),
     Memory(memory::Memory),
     Noted(Box<noted::OnNoted>),
@@ -70,6 +71,7 @@ fn begun(name: &str, rest: &str, at: At) -> Result<Option<On>, Bad> {
         "board" => On::Board(boards::begin(rest, at)?),
         "recorded" => On::Recorded(recorded::begin(rest, at)?),
         "term" => On::Term(terminals::begin(rest, at)?),
+        "table" => On::Slots(slots::begin(at)?),
         "cells" => On::Cells(cells::begin(rest, at)?),
         "memory" => On::Memory(memory::begin(rest, at)?),
         "noted" => On::Noted(noted::begin(rest, at)?),
@@ -89,6 +91,7 @@ impl On {
             On::Board(world) => world.step(step, at, got),
             On::Recorded(world) => world.step(step, at, got),
             On::Term(world) => world.step(step, at, got),
+            On::Slots(world) => world.step(step, got),
             On::Cells(world) => world.step(step, at, got),
             On::Memory(world) => world.step(step, at, got),
             On::Noted(world) => world.step(step, at, got),

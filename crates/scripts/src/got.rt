@@ -14,33 +14,23 @@ pub enum Bad {
     Refused(Refusal),
 }
 
-/// Makes an error of a type of each refusal, and of want of memory. It names `Refusal`, `AllocError` and `AllocFailed`.
-#[macro_export]
-macro_rules! from_refusals {
-    ($error:ident, $refusal:ident => $made:expr) => {
-        impl From<Refusal> for $error {
-            fn from($refusal: Refusal) -> $error {
-                $made
-            }
-        }
-
-        impl From<AllocError> for $error {
-            fn from(_: AllocError) -> $error {
-                let $refusal = Refusal::Memory;
-                $made
-            }
-        }
-
-        impl<V: Drop> From<AllocFailed<V>> for $error {
-            fn from(_: AllocFailed<V>) -> $error {
-                let $refusal = Refusal::Memory;
-                $made
-            }
-        }
-    };
+impl From<Refusal> for Bad {
+    fn from(refusal: Refusal) -> Bad {
+        Bad::Refused(refusal)
+    }
 }
 
-from_refusals!(Bad, refusal => Bad::Refused(refusal));
+impl From<AllocError> for Bad {
+    fn from(_: AllocError) -> Bad {
+        Bad::Refused(Refusal::Memory)
+    }
+}
+
+impl<V: Drop> From<AllocFailed<V>> for Bad {
+    fn from(_: AllocFailed<V>) -> Bad {
+        Bad::Refused(Refusal::Memory)
+    }
+}
 
 /// The results of steps, as one text, separated by `; `. If a step has none, the text says why. Want of memory is kept, and makes the row
 /// differ.

@@ -104,17 +104,3 @@ fn the_greatest_of_places(rt: HostRuntime) {
     same!(rt; seeks.update_seq(100, 10), 110);
     same!(rt; seeks.update_seek(0), 110);
 }
-
-/// A test of the crate `indicatif` 0.18.6: ten places drive out the greatest that came before.
-#[test]
-fn test_max_ring_buf(rt: HostRuntime) {
-    let rt = &rt;
-    let mut places = MaxRingBuf::<10>::new();
-    same!(rt; places.max(), 0);
-    places.update(100);
-    same!(rt; places.max(), 100);
-    for k in 0..10u64 {
-        places.update(99u64.saturating_sub(k));
-    }
-    same!(rt; places.max(), 99);
-}

@@ -36,32 +36,89 @@ pub struct Planted {
 /// The answer of a call that got no memory.
 const REFUSED: Said = Err(Refusal::Memory);
 
-/// Wrong bodies: the script, the numbers of the calls, a name, what they do, and their answer.
-macro_rules! planted {
-    ($($kind:ident $at:tt $name:literal, $body:expr => $said:expr;)*) => {
-        &[$(Planted { name: $name, kind: Kind::$kind, at: &$at, body: $body, said: $said }),*]
+/// A wrong body whose call says that it got no memory.
+macro_rules! refused {
+    ($kind:ident, $at:expr, $name:expr, $body:expr) => {
+        Planted {
+            name: $name,
+            kind: Kind::$kind,
+            at: &$at,
+            body: $body,
+            said: REFUSED,
+        }
     };
 }
 
 /// The first two do what a call that gets no memory may do: nothing, or what it does before its draw. The last six are for a script with
 /// sizes: a draw without lines comes before the calls with the numbers 29 to 32, so that rows are kept.
-pub const PLANTED: &[Planted] = planted! {
-    Board [4] "a draw does nothing", Body::Nothing => REFUSED;
-    Board [8] "a message is set", Body::Makes(Step::Told(2, "c")) => REFUSED;
-    Board [4] "a draw writes a byte first", Body::Writes("\r") => REFUSED;
-    Board [4] "a draw empties a row above", Body::Writes("\x1B[9A\r\x1B[2K") => REFUSED;
-    Board [2] "a bar is taken in", Body::Makes(Step::Add("bb")) => REFUSED;
-    Board [13] "a bar is taken out", Body::Makes(Step::Remove(0)) => REFUSED;
-    Board [10] "a bar is told to keep its rows", Body::Makes(Step::Keep(1)) => REFUSED;
-    Board [8] "another message is set", Body::Makes(Step::Told(2, "z")) => REFUSED;
-    Board [6] "a log does nothing and says that it drew", Body::Nothing => Ok(Drawn::Yes);
-    Sized [2] "a size does nothing", Body::Nothing => REFUSED;
-    Sized [2] "a size is taken", Body::Makes(WIDE) => REFUSED;
-    Sized [2, 7] "two sizes do nothing", Body::Nothing => REFUSED;
-    Sized [29, 30] "two sizes do nothing while rows are kept", Body::Nothing => REFUSED;
-    Sized [30] "a size is taken while rows are kept", Body::Makes(WIDE) => REFUSED;
-    Sized [32] "a draw does nothing while rows are kept", Body::Nothing => REFUSED;
-};
+pub const PLANTED: &[Planted] = &[
+    refused!(Board, [4], "a draw does nothing", Body::Nothing),
+    refused!(
+        Board,
+        [8],
+        "a message is set",
+        Body::Makes(Step::Told(2, "c"))
+    ),
+    refused!(Board, [4], "a draw writes a byte first", Body::Writes("\r")),
+    refused!(
+        Board,
+        [4],
+        "a draw empties a row above",
+        Body::Writes("\x1B[9A\r\x1B[2K")
+    ),
+    refused!(
+        Board,
+        [2],
+        "a bar is taken in",
+        Body::Makes(Step::Add("bb"))
+    ),
+    refused!(
+        Board,
+        [13],
+        "a bar is taken out",
+        Body::Makes(Step::Remove(0))
+    ),
+    refused!(
+        Board,
+        [10],
+        "a bar is told to keep its rows",
+        Body::Makes(Step::Keep(1))
+    ),
+    refused!(
+        Board,
+        [8],
+        "another message is set",
+        Body::Makes(Step::Told(2, "z"))
+    ),
+    Planted {
+        name: "a log does nothing and says that it drew",
+        kind: Kind::Board,
+        at: &[6],
+        body: Body::Nothing,
+        said: Ok(Drawn::Yes),
+    },
+    refused!(Sized, [2], "a size does nothing", Body::Nothing),
+    refused!(Sized, [2], "a size is taken", Body::Makes(WIDE)),
+    refused!(Sized, [2, 7], "two sizes do nothing", Body::Nothing),
+    refused!(
+        Sized,
+        [29, 30],
+        "two sizes do nothing while rows are kept",
+        Body::Nothing
+    ),
+    refused!(
+        Sized,
+        [30],
+        "a size is taken while rows are kept",
+        Body::Makes(WIDE)
+    ),
+    refused!(
+        Sized,
+        [32],
+        "a draw does nothing while rows are kept",
+        Body::Nothing
+    ),
+];
 
 /// A size on which the bars have as many rows as on the largest terminal, filled with more blanks.
 const WIDE: Step = Step::Size(Size { rows: 4, cols: 20 });

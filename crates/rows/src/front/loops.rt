@@ -1,13 +1,13 @@
 //! Loops over lists with their own bar, on a terminal in memory.
 //!
 //! `loop ROWS COLS FROM STEP HOW: ITEMS` begins, with a clock that starts at `FROM` and advances by `STEP`; `HOW` is `progress`, `count
-//! LEN`, `style TEMPLATE`, or `made` (a bar of length 1 that was made before). Then `next`, `next_back`, `size` (the two bounds and the
-//! length), `shows`, `last`, `pos`, `len`, `finished`, and the builders: `with_style TEMPLATE`, `with_prefix TEXT`, `with_message TEXT`,
-//! `with_position N`, `with_elapsed N`, `with_finish CALL`.
+//! LEN`, `style TEMPLATE`, or `made` (a bar of length 1 that was made before). Then `next`, `shows`, `last`, `pos`, `len`, `finished`, and
+//! the builders: `with_style TEMPLATE`, `with_prefix TEXT`, `with_message TEXT`, `with_position N`, `with_elapsed N`, `with_finish CALL`.
 use crate::front::bars::{contents, push_contents};
 use crate::front::bytes::push_last;
 use crate::front::clock::RowClock;
 use crate::front::fronts::room_of;
+use crate::front::lists::{items_of, push_item};
 use indicatif::{
     BarState, InMemoryTerm, LoneBar, NoTracker, OwnedBar, ProgressBarIter, ProgressFinish,
     ProgressIterator, ProgressStyle, Refusal, Setup,
@@ -42,23 +42,6 @@ enum How {
     Style(ProgressStyle<NoTracker>),
     /// By a bar that was made before.
     Made,
-}
-
-/// The list of these items.
-fn items_of(alloc: Global, words: &str) -> Result<IntoIter<u32>, Bad> {
-    let mut items = Vec::new(alloc);
-    for word in words.split(' ') {
-        items.push(number(word)?)?;
-    }
-    Ok(items.into_iter())
-}
-
-/// Appends an item, or `end`.
-fn push_item(item: Option<u32>, got: &mut Got) {
-    match item {
-        Some(item) => got.number(item),
-        None => got.text("end"),
-    }
 }
 
 fn how_of(alloc: Global, how: &str) -> Result<How, Bad> {
@@ -124,11 +107,6 @@ impl Looped {
 fn look(wrapped: &mut Wrapped, step: &str, got: &mut Got) -> Result<(), Bad> {
     match step {
         "next" => push_item(wrapped.next(), got),
-        "next_back" => push_item(wrapped.next_back(), got),
-        "size" => match wrapped.size_hint() {
-            (least, Some(most)) => got.number(format_args!("{least} {most} {}", wrapped.len())),
-            (least, None) => got.number(format_args!("{least} -")),
-        },
         "shows" => push_contents(contents(wrapped.progress.bar().term()), got)?,
         "last" => push_last(wrapped.last_draw(), got),
         _ => {

@@ -3,11 +3,13 @@
 use crate::front::beside::Pair;
 use crate::front::bytes::{self, OverCounted};
 use crate::front::fronts::WithWrapped;
+use crate::front::lists::{self, List};
 use crate::front::loops::Looped;
 use crate::front::on_pane::OnPane;
 use crate::front::on_panes::OnPanes;
+use crate::front::places::Places;
 use crate::front::plain::Plain;
-use crate::front::{beside, environment, fronts, loops, on_pane, on_panes, plain};
+use crate::front::{beside, environment, fronts, loops, on_pane, on_panes, places, plain};
 use indicatif::machine::Shares;
 use scripts::got::{Bad, Got};
 use scripts::row::headed;
@@ -22,7 +24,9 @@ enum On<R: Wait + Copy + Clone + Drop> {
     Fronts(Box<WithWrapped<R>>),
     Beside(Box<Pair<R>>),
     Bytes(Box<OverCounted>),
+    List(Box<List>),
     Loop(Box<Looped>),
+    Places(Box<Places>),
     Pane(Box<OnPane>),
     Panes(Box<OnPanes>),
     Plain(Box<Plain>),
@@ -53,7 +57,9 @@ impl<R: AllocGlobal + RandomSource + Wait + Copy + Clone + Drop> World<R> {
             "fronts" => On::Fronts(fronts::begin(self.rt, alloc, rest)?),
             "beside" => On::Beside(beside::begin(self.rt, alloc)?),
             "bytes" => On::Bytes(bytes::begin(&self.rt, alloc, rest)?),
+            "list" => On::List(lists::begin(alloc, rest)?),
             "loop" => On::Loop(loops::begin(alloc, rest)?),
+            "places" => On::Places(places::begin(alloc, rest)?),
             "plain" => On::Plain(plain::begin(alloc, rest)?),
             "told" | "trusted" | "row" => On::Pane(on_pane::begin(alloc, name, rest)?),
             "widths" | "broken" => On::Panes(on_panes::begin(alloc, name, rest)?),
@@ -78,7 +84,9 @@ impl<R: Shares + RandomSource> World<R> {
             On::Fronts(world) => world.step(step, got)?,
             On::Beside(world) => world.step(step, got)?,
             On::Bytes(world) => bytes::step(world, step, got)?,
+            On::List(world) => lists::step(world, step, got)?,
             On::Loop(world) => world.step(step, got)?,
+            On::Places(world) => world.step(step, got)?,
             On::Pane(world) => world.step(step, got)?,
             On::Panes(world) => world.step(step, got),
             On::Plain(world) => world.step(step, got)?,

@@ -1,6 +1,5 @@
 //! What must hold of the bytes that were written: rows above stand at each of them.
 use super::record::Size;
-use crate::from_refusals;
 use crate::screen::filled;
 use indicatif_term::cells::Cells;
 use indicatif_text::columns::Refusal;
@@ -27,7 +26,23 @@ pub enum Finding {
     Memory,
 }
 
-from_refusals!(Finding, _refusal => Finding::Memory);
+impl From<Refusal> for Finding {
+    fn from(_: Refusal) -> Finding {
+        Finding::Memory
+    }
+}
+
+impl From<AllocError> for Finding {
+    fn from(_: AllocError) -> Finding {
+        Finding::Memory
+    }
+}
+
+impl<V: Drop> From<AllocFailed<V>> for Finding {
+    fn from(_: AllocFailed<V>) -> Finding {
+        Finding::Memory
+    }
+}
 
 /// At which bytes the rows are checked.
 #[derive(Clone, Copy, Drop)]

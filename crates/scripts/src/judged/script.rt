@@ -115,54 +115,126 @@ impl Step {
     }
 }
 
-/// A script of these calls.
-macro_rules! steps {
-    ($($name:ident $(($($argument:expr),*))?),* $(,)?) => {
-        [$(Step::$name $(($($argument),*))?),*]
-    };
-}
-
-/// A size.
-macro_rules! size {
-    ($rows:expr, $cols:expr) => {
-        Size {
-            rows: $rows,
-            cols: $cols,
-        }
-    };
-}
-
 /// Twenty calls of a board. Logged texts have letters that occur nowhere else.
-pub const BOARD: [Step; 20] = steps! {
-    Add("a"), Tick(0), Add("bb"), Before(1, "c\nd"), Tick(2), Tick(1), Log("AB"), Bottom, Message(2, "c"),
-    BarLog(0, "CD\nE"), Keep(1), Drop(1), Tick(0), Remove(0), Log("F"), Redraw, Top, Suspend, Clear, Tick(2),
-};
+pub const BOARD: [Step; 20] = [
+    Step::Add("a"),
+    Step::Tick(0),
+    Step::Add("bb"),
+    Step::Before(1, "c\nd"),
+    Step::Tick(2),
+    Step::Tick(1),
+    Step::Log("AB"),
+    Step::Bottom,
+    Step::Message(2, "c"),
+    Step::BarLog(0, "CD\nE"),
+    Step::Keep(1),
+    Step::Drop(1),
+    Step::Tick(0),
+    Step::Remove(0),
+    Step::Log("F"),
+    Step::Redraw,
+    Step::Top,
+    Step::Suspend,
+    Step::Clear,
+    Step::Tick(2),
+];
 
 /// Twenty calls of a shared board, which has no redraw except after a clear.
-pub const SHARED: [Step; 20] = steps! {
-    Add("a"), Tick(0), Add("bb"), Before(1, "c\nd"), Tick(2), Tick(1), Log("AB"), Bottom, Message(2, "c"),
-    BarLog(0, "CD\nE"), Keep(1), Drop(1), Tick(0), Remove(0), Log("F"), Suspend, Top, Suspend, Clear, Tick(2),
-};
+pub const SHARED: [Step; 20] = [
+    Step::Add("a"),
+    Step::Tick(0),
+    Step::Add("bb"),
+    Step::Before(1, "c\nd"),
+    Step::Tick(2),
+    Step::Tick(1),
+    Step::Log("AB"),
+    Step::Bottom,
+    Step::Message(2, "c"),
+    Step::BarLog(0, "CD\nE"),
+    Step::Keep(1),
+    Step::Drop(1),
+    Step::Tick(0),
+    Step::Remove(0),
+    Step::Log("F"),
+    Step::Suspend,
+    Step::Top,
+    Step::Suspend,
+    Step::Clear,
+    Step::Tick(2),
+];
 
 /// Twelve calls of a lone bar.
-pub const LONE: [Step; 12] = steps! {
-    Tick(0), Message(0, "b\nc"), Log("AB"), Tick(0), Message(0, "d"), Suspend, BarLog(0, "CD\nE"),
-    Message(0, "efg\nh\ni"), Clear, Tick(0), Finish(0), Log("F"),
-};
+pub const LONE: [Step; 12] = [
+    Step::Tick(0),
+    Step::Message(0, "b\nc"),
+    Step::Log("AB"),
+    Step::Tick(0),
+    Step::Message(0, "d"),
+    Step::Suspend,
+    Step::BarLog(0, "CD\nE"),
+    Step::Message(0, "efg\nh\ni"),
+    Step::Clear,
+    Step::Tick(0),
+    Step::Finish(0),
+    Step::Log("F"),
+];
 
 /// Thirty-five calls of a board whose terminal is resized between them: before and after a draw, a text and a clear, with rows of a bar
 /// that is gone, also after a draw without lines, and with rows that scroll away or come back.
-pub const SIZED_BOARD: [Step; 35] = steps! {
-    Add("abcd"), Tick(0), Size(size!(4, 2)), Tick(0), Add("e\nf"), Tick(1), Log("AB"), Size(size!(2, 5)),
-    Message(0, "g"), Keep(1), Drop(1), Size(size!(0, 3)), Size(size!(3, 1)), BarLog(0, "CD\nE"), Bottom,
-    Remove(0), Redraw, Size(size!(4, 3)), Add("hi"), Tick(2), Size(size!(1, 6)), Clear, Size(size!(3, 2)),
-    Log("FGH"), Size(size!(4, 6)), Message(2, "klmnopqrstuvwx"), Keep(2), Drop(2), Redraw, Size(size!(4, 5)),
-    Size(size!(3, 6)), Add("o\np\nq\nr"), Tick(3), Size(size!(2, 4)), Log("IJ"),
-};
+pub const SIZED_BOARD: [Step; 35] = [
+    Step::Add("abcd"),
+    Step::Tick(0),
+    Step::Size(Size { rows: 4, cols: 2 }),
+    Step::Tick(0),
+    Step::Add("e\nf"),
+    Step::Tick(1),
+    Step::Log("AB"),
+    Step::Size(Size { rows: 2, cols: 5 }),
+    Step::Message(0, "g"),
+    Step::Keep(1),
+    Step::Drop(1),
+    Step::Size(Size { rows: 0, cols: 3 }),
+    Step::Size(Size { rows: 3, cols: 1 }),
+    Step::BarLog(0, "CD\nE"),
+    Step::Bottom,
+    Step::Remove(0),
+    Step::Redraw,
+    Step::Size(Size { rows: 4, cols: 3 }),
+    Step::Add("hi"),
+    Step::Tick(2),
+    Step::Size(Size { rows: 1, cols: 6 }),
+    Step::Clear,
+    Step::Size(Size { rows: 3, cols: 2 }),
+    Step::Log("FGH"),
+    Step::Size(Size { rows: 4, cols: 6 }),
+    Step::Message(2, "klmnopqrstuvwx"),
+    Step::Keep(2),
+    Step::Drop(2),
+    Step::Redraw,
+    Step::Size(Size { rows: 4, cols: 5 }),
+    Step::Size(Size { rows: 3, cols: 6 }),
+    Step::Add("o\np\nq\nr"),
+    Step::Tick(3),
+    Step::Size(Size { rows: 2, cols: 4 }),
+    Step::Log("IJ"),
+];
 
 /// Sixteen calls of a lone bar whose terminal is resized between them.
-pub const SIZED_LONE: [Step; 16] = steps! {
-    Size(size!(3, 4)), Message(0, "abc\nde"), Size(size!(2, 2)), Tick(0), Log("AB"), Size(size!(3, 0)),
-    Size(size!(4, 5)), Suspend, BarLog(0, "CD\nE"), Size(size!(1, 3)), Message(0, "f"), Clear, Size(size!(2, 6)),
-    Finish(0), Size(size!(4, 1)), Log("FGH"),
-};
+pub const SIZED_LONE: [Step; 16] = [
+    Step::Size(Size { rows: 3, cols: 4 }),
+    Step::Message(0, "abc\nde"),
+    Step::Size(Size { rows: 2, cols: 2 }),
+    Step::Tick(0),
+    Step::Log("AB"),
+    Step::Size(Size { rows: 3, cols: 0 }),
+    Step::Size(Size { rows: 4, cols: 5 }),
+    Step::Suspend,
+    Step::BarLog(0, "CD\nE"),
+    Step::Size(Size { rows: 1, cols: 3 }),
+    Step::Message(0, "f"),
+    Step::Clear,
+    Step::Size(Size { rows: 2, cols: 6 }),
+    Step::Finish(0),
+    Step::Size(Size { rows: 4, cols: 1 }),
+    Step::Log("FGH"),
+];
