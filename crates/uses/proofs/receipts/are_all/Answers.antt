@@ -9,7 +9,7 @@ pub loop-number-preserved : goal.loop-number-preserved
 loop-number-preserved g c =
     let x = c.index-receipts-number.result in
     one_more_of_all step_claimed c.args.receipts.now c.args.history.now.steps c.loop-number.number _ x c.loop-number-test.true c.loop-number.invariant c.if-receipt-number.false
-    ((c.holds.ensures.0 c.if-not-holds.false).1 ∙ ap (λ r. Some (step_claimed r)) (sym c.index-receipts-number.is))
+    ((c.holds.ensures.0 c.if-not-holds.false).1 ∙ ap (λ r. Some (step_claimed r)) c.index-receipts-number.is)
 
 pub returns : goal.returns
 returns g c = λ _.
