@@ -4,7 +4,7 @@ use Rattle.std.specs.List.{AllByRecursion}
 use Rattle.std.proofs.lemmas.List.Elements.{All-from_recursion}
 use Rattle.indicatif_term.specs.Calls.{TermView}
 use Rattle.indicatif_bar.specs.Machines.{Machine, target_of}
-use Rattle.indicatif_bar.specs.Scripts.{Part, Called, Size, Sizing, sized, Plays, AllRunsPlain}
+use Rattle.indicatif_bar.specs.Scripts.{ScriptPart, Called, Size, Sizing, sized, Plays, AllRunsPlain}
 use Rattle.indicatif_bar.specs.Trackers.{Tracking}
 use Rattle.indicatif_bar.specs.Commands.{BarRecord, Command}
 use Rattle.indicatif_board.specs.Boards.{BoardState, Call, Answer, board}
@@ -27,12 +27,12 @@ module _ {K : Type 0} (m : Tracking K) (mark : ℕ) where
   sizing = board_sizing m mark
 
   -- the texts of a script's calls
-  abbrev pub ArePlainParts : List (Part BarCall Answer) → Type 0
+  abbrev pub ArePlainParts : List (ScriptPart BarCall Answer) → Type 0
   ArePlainParts [] = Unit {0}
   ArePlainParts (Called calls answers ∷ parts) = AllByRecursion (λ call. IsPlainCall m call.0) calls × ArePlainParts parts
   ArePlainParts (Size w h ∷ parts) = ArePlainParts parts
 
-  pub scripts_plain : (parts : List (Part BarCall Answer)) (old : Option TermView) (s : BoardState Bar) (new : Option TermView) (next : BoardState Bar)
+  pub scripts_plain : (parts : List (ScriptPart BarCall Answer)) (old : Option TermView) (s : BoardState Bar) (new : Option TermView) (next : BoardState Bar)
       (plays : Plays machine sizing parts old s new next) → IsPlainBoard m s → ArePlainParts parts → AllRunsPlain machine sizing parts old s new next plays
   scripts_plain [] old s new next plays is all = tt
   scripts_plain (Called calls answers ∷ parts) old s new next plays is all =

@@ -11,7 +11,7 @@ use Rattle.indicatif_term.specs.Calls.{TermView}
 use Rattle.indicatif_term.specs.DrawTargets.{is_bottom}
 use Rattle.indicatif_term.specs.Memory.{view_of}
 use Rattle.indicatif_bar.specs.Machines.{Machine, target_of}
-use Rattle.indicatif_bar.specs.Scripts.{Part, Called, Size, Sizing, sized, Plays}
+use Rattle.indicatif_bar.specs.Scripts.{ScriptPart, Called, Size, Sizing, sized, Plays}
 use Rattle.indicatif_bar.specs.Trackers.{writes_nothing}
 use Rattle.indicatif_board.specs.Boards.{BoardState, Align, Answer, Accepted, Refused, opening_board}
 use Rattle.indicatif_board.specs.Multi.{IsIn, LeadsBy, known}
@@ -73,7 +73,7 @@ obeyed (Err e) command step old new is made = tt
 -- ---- one line more
 
 module _ {S C A : Type 0} (m : Machine S C A) (z : Sizing m) where
-  plays-push : (parts : List (Part C A)) (part : Part C A) (old : Option TermView) (s : S) (v : Option TermView) (x : S) (new : Option TermView) (next : S) →
+  plays-push : (parts : List (ScriptPart C A)) (part : ScriptPart C A) (old : Option TermView) (s : S) (v : Option TermView) (x : S) (new : Option TermView) (next : S) →
       Plays m z parts old s v x → Plays m z (part ∷ []) v x new next → Plays m z (parts ++ part ∷ []) old s new next
   plays-push [] part old s v x new next front one = subst (λ y. Plays m z (part ∷ []) old y new next) front.1 (subst (λ o. Plays m z (part ∷ []) o x new next) front.0 one)
   plays-push (Called calls answers ∷ parts) part old s v x new next front one = (front.0, front.1, front.2, plays-push parts part front.0 front.1 v x new next front.3 one)

@@ -16,7 +16,7 @@ use Rattle.indicatif_bar.specs.Finishes.{AndLeave, AndClear, Abandon as AbandonF
 use Rattle.indicatif_bar.specs.Machines.{Target, Machine}
 use Rattle.indicatif_bar.specs.PlainLaws.{IsPlainWithTabs}
 use Rattle.indicatif_bar.specs.Scripts as script
-use Rattle.indicatif_bar.specs.Scripts.{Part, Called, Sizing}
+use Rattle.indicatif_bar.specs.Scripts.{ScriptPart, Called, Sizing}
 use Rattle.indicatif_bar.specs.StyleLaws.{IsPlainText}
 use Rattle.indicatif_bar.specs.Trackers.{writes_nothing}
 use Rattle.indicatif_board.specs.Boards as on
@@ -37,7 +37,7 @@ abbrev pub BarCall : Type 0
 BarCall = Call Bar (Command NoTracker)
 
 abbrev pub Step : Type 0
-Step = Part BarCall Answer
+Step = ScriptPart BarCall Answer
 
 -- a call without an answer yet
 abbrev pub calling : BarCall → Step

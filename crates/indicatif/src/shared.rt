@@ -18,23 +18,25 @@
 //!
 //! What is under the lock of a bar:
 //!
-//! - `shared_bar`: `SharedBar`, the lock: calls wait there for their turn, until no pause is on; `suspend` with its closure.
+//! - `shared_bar`: `SharedBar`, the lock of a bar: a call waits there while the bar is in a pause, or, with the bar unlocked, while its board
+//!   is in one; `suspend` of a bar.
 //! - `request`: `Tried`, a call that was made, or has to be tried again.
 //! - `locked_bar`: `LockedBar`, what the lock protects: the bar, its clock, ticker and owners, and a pause, which begins and ends there.
 //!   What each call does, also another target or board; rate and times at the moment of the clock. In its folder `told`: its plain line.
 //! - `any_bar`: `AnyBar`, the bar there, alone or on a board: its state, texts, style and terminal, as readings find them, and what a board
 //!   may insert of it.
-//! - `member_bar`: `MemberBar`, a board's bar: its changes and draws are made by the board, which it may leave.
+//! - `member_bar`: `MemberBar`, a board's bar: its changes, its moves (also as a `SeekMax` says) and its draws are made by the board, which it
+//!   may leave.
 //! - `position_change`: `PositionChange`, how the position moves: as a command of a board's bar, or as a call of a bar that stands alone.
 //! - `ticker`: `Ticker`, whether a steady ticker is installed, and its number.
 //!
 //! What is under the lock of a board:
 //!
-//! - `board_cell`: `BoardCell`, the lock: calls wait there for their turn, until no pause is on; `suspend` with its closure.
+//! - `board_cell`: `BoardCell`, the lock of a board: a call waits there while the board is in a pause; `suspend` of a board.
 //! - `pause`: `Pause`, one that has begun.
 //! - `locked_board`: `LockedBoard`, what the lock protects: the board, its clock, and a pause, which begins and ends there.
 //! - `any_board`: `AnyBoard`, the board there, with its history or without: each call for either, such as a bar that is inserted or
-//!   removed, and what its answer says.
+//!   removed; an insertion's answer as the bar's `BarId` or a refusal.
 ghost use Rattle.std.specs.Prelude.{ℕ, IfErr};
 ghost use Rattle.std.specs.Fn.{FnOnceReturnsAt};
 ghost use Rattle.indicatif_bar.specs.Commands as Command;

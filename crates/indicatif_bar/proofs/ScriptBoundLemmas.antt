@@ -7,7 +7,7 @@ use Rattle.indicatif_term.proofs.LimiterLemmas.{Claim, counted}
 use Rattle.indicatif_bar.specs.Machines.{target_of, Machine}
 use Rattle.indicatif_bar.specs.Runs.{Runs, deed_on}
 use Rattle.indicatif_bar.specs.Bounds.{IsLimited, Spent, drew_unforced, unforced_draws}
-use Rattle.indicatif_bar.specs.Scripts.{Sizing, Part, Called, Size, sized, sized_lists, Plays, unforced_in, ScriptsAreBounded, ScriptsAreBoundedFrom, ScriptsSpend, LeavesLimiter}
+use Rattle.indicatif_bar.specs.Scripts.{Sizing, ScriptPart, Called, Size, sized, sized_lists, Plays, unforced_in, ScriptsAreBounded, ScriptsAreBoundedFrom, ScriptsSpend, LeavesLimiter}
 use Rattle.indicatif_bar.proofs.BoundLemmas.{call_step, with_step, run_spends, spendings_add_up, spent_none}
 
 -- one more at the front, where it is
@@ -33,7 +33,7 @@ module _ {S C A : Type 0} (m : Machine S C A) (z : Sizing m) (limiter : S → Op
   run_then [] (answer ∷ answers) old s new next run others claims = absurd run
   run_then (call ∷ calls) [] old s new next run others claims = absurd run
 
-  script_claims : (parts : List (Part C A)) (old : Option TermView) (s : S) (new : Option TermView) (next : S) (plays : Plays m z parts old s new next) →
+  script_claims : (parts : List (ScriptPart C A)) (old : Option TermView) (s : S) (new : Option TermView) (next : S) (plays : Plays m z parts old s new next) →
       ClaimFrom s (unforced_in m z parts old s new next plays)
   script_claims [] old s new next plays = λ l positive is last e. absurd (cc e)
   script_claims (Called calls answers ∷ parts) old s new next plays =

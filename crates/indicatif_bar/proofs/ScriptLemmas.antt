@@ -24,7 +24,7 @@ use Rattle.indicatif_term.proofs.StandingRowLemmas.{rows_taken, rows_placed, row
 use Rattle.indicatif_term.proofs.RowReadingLemmas.{shown_is_read}
 use Rattle.indicatif_bar.specs.Machines.{Target, target_of, Machine}
 use Rattle.indicatif_bar.specs.Runs.{broke, is_undisturbed}
-use Rattle.indicatif_bar.specs.Scripts.{SizedOn, sized_target, sized_lists, Sizing, Part, Called, Size, opening_then, rows_sized, rows_cut, bytes_given, MaySize, sized, Plays, script_broke, AllRunsPlain, AllSizesKnown, GoesBy, RowsLastIn, ScriptsCarry, SafeRowsLast, ScriptsAreRead, UnbrokenScriptsAreRead, played, OneScriptOutcome}
+use Rattle.indicatif_bar.specs.Scripts.{SizedOn, sized_target, sized_lists, Sizing, ScriptPart, Called, Size, opening_then, rows_sized, rows_cut, bytes_given, MaySize, sized, Plays, script_broke, AllRunsPlain, AllSizesKnown, GoesBy, RowsLastIn, ScriptsCarry, SafeRowsLast, ScriptsAreRead, UnbrokenScriptsAreRead, played, OneScriptOutcome}
 use Rattle.indicatif_bar.proofs.SoundRunLemmas.{Sound, GoesSoundly, runs_soundly}
 use Rattle.indicatif_bar.proofs.RunLemmas.{lasts, run_target_stays, runs_once}
 
@@ -102,14 +102,14 @@ above_sized w h w' h' l some =
     ] refl
 
 module _ {C A : Type 0} where
-  cut_append : (parts : List (Part C A)) (w h : ℕ) (xs ys : List (List Cell)) → rows_cut parts w h (xs ++ ys) ≡ rows_cut parts w h xs ++ rows_cut parts w h ys
+  cut_append : (parts : List (ScriptPart C A)) (w h : ℕ) (xs ys : List (List Cell)) → rows_cut parts w h (xs ++ ys) ≡ rows_cut parts w h xs ++ rows_cut parts w h ys
   cut_append [] w h xs ys = refl
   cut_append (Called calls answers ∷ parts) w h xs ys = cut_append parts w h xs ys
   cut_append (Size w' h' ∷ parts) w h xs ys =
       ap (rows_cut parts w' h') (sized_append w h w' h' xs ys) ∙ cut_append parts w' h' (rows_sized w h w' h' xs) (rows_sized w h w' h' ys)
 
   -- rows added by one part, and by those after it
-  added_then : (parts : List (Part C A)) (a b w h : ℕ) (old mid new more others : List (List Cell)) → a ≡ w → b ≡ h → mid ≡ old ++ more → new ≡ rows_cut parts a b mid ++ others →
+  added_then : (parts : List (ScriptPart C A)) (a b w h : ℕ) (old mid new more others : List (List Cell)) → a ≡ w → b ≡ h → mid ≡ old ++ more → new ≡ rows_cut parts a b mid ++ others →
       new ≡ rows_cut parts w h old ++ (rows_cut parts w h more ++ others)
   added_then parts a b w h old mid new more others e f g i =
       i
@@ -123,7 +123,7 @@ module _ {C A : Type 0} where
 
 module _ {S C A : Type 0} (m : Machine S C A) (z : Sizing m) where
   -- what a script carries, from a terminal of which so much is known
-  record CarriesFrom (broken : Bool) (parts : List (Part C A)) (v v' : TermView) (s : S) (new : Option TermView) (next : S) (old : Option TermView)
+  record CarriesFrom (broken : Bool) (parts : List (ScriptPart C A)) (v v' : TermView) (s : S) (new : Option TermView) (next : S) (old : Option TermView)
       (plays : Plays m z parts old s new next) : Type 0 where
     events : List Event
     told_is : IsTrue (is_told v.told) → v'.told ≡ told_after v.told events
@@ -136,12 +136,12 @@ module _ {S C A : Type 0} (m : Machine S C A) (z : Sizing m) where
     drawings : Calmly (m.lists s).failed (bytes_given events) (m.lists next).failed
 
   -- what is claimed of the rest of a script
-  abbrev Left : Bool → (parts : List (Part C A)) (v : TermView) (s : S) (new : Option TermView) (next : S) → Option TermView → Type 0
+  abbrev Left : Bool → (parts : List (ScriptPart C A)) (v : TermView) (s : S) (new : Option TermView) (next : S) → Option TermView → Type 0
   Left broken parts v s new next old =
       (plays : Plays m z parts old s new next) → AllRunsPlain m z parts old s new next plays → AllSizesKnown m z broken parts old s new next plays →
       (v' : TermView) × (new ≡ Some v') × CarriesFrom broken parts v v' s new next old plays
 
-  carried : (broken : Bool) (parts : List (Part C A)) (v : TermView) (s : S) (new : Option TermView) (next : S) → 0 < v.columns → Left broken parts v s new next (Some v)
+  carried : (broken : Bool) (parts : List (ScriptPart C A)) (v : TermView) (s : S) (new : Option TermView) (next : S) → 0 < v.columns → Left broken parts v s new next (Some v)
   carried broken [] v s new next some plays plain known = (
     v,
     plays.0,
@@ -310,7 +310,7 @@ module _ {S C A : Type 0} (m : Machine S C A) (z : Sizing m) where
         ∙ cond_both target.hidden (m.lists s) (resized_lists target.columns target.rows w h (m.lists s)) (λ l. l.failed ≡ false)
         (λ e. sound) (λ e. still_failed target.columns target.rows w h (m.lists s) ∙ sound)
 
-    known_soundly : (parts : List (Part C A)) (old : Option TermView) (s : S) (new : Option TermView) (next : S) (plays : Plays m z parts old s new next) →
+    known_soundly : (parts : List (ScriptPart C A)) (old : Option TermView) (s : S) (new : Option TermView) (next : S) (plays : Plays m z parts old s new next) →
         script_broke m z parts ≡ false → Sound m s → AllSizesKnown m z false parts old s new next plays × Sound m next
     known_soundly [] old s new next plays whole sound = (tt, ap (λ x. (m.lists x).failed) plays.1 ∙ sound)
     known_soundly (Called calls answers ∷ parts) old s new next plays whole sound =

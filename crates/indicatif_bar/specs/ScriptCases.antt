@@ -11,20 +11,20 @@ use Rattle.indicatif_bar.specs.Commands.{BarRecord, Command, Tick, SetMessage}
 use Rattle.indicatif_bar.specs.LoneBars.{lone_bar, lone_sizing}
 use Rattle.indicatif_bar.specs.Machines.{Target}
 use Rattle.indicatif_bar.specs.Lone.{LoneState, LoneCall, Obey, Log, opening_state}
-use Rattle.indicatif_bar.specs.Scripts.{Part, Called, Size, rows_cut, played}
+use Rattle.indicatif_bar.specs.Scripts.{ScriptPart, Called, Size, rows_cut, played}
 use Rattle.indicatif_bar.specs.Cases.{terminal_of_size, nowhere, untracked, bar_saying, rows_of_lines}
 
 -- a call with its answer
-abbrev pub answered : LoneCall (Command (Unit {0})) → Result Drawn Refusal → Part (LoneCall (Command (Unit {0}))) (Result Drawn Refusal)
+abbrev pub answered : LoneCall (Command (Unit {0})) → Result Drawn Refusal → ScriptPart (LoneCall (Command (Unit {0}))) (Result Drawn Refusal)
 answered call answer = Called ((call, 0) ∷ []) (answer ∷ [])
 
 -- a call without an answer yet
-abbrev pub asked : LoneCall (Command (Unit {0})) → Part (LoneCall (Command (Unit {0}))) (Result Drawn Refusal)
+abbrev pub asked : LoneCall (Command (Unit {0})) → ScriptPart (LoneCall (Command (Unit {0}))) (Result Drawn Refusal)
 asked call = Called ((call, 0) ∷ []) []
 
 -- the answers of a script of a bar with this message, and its state after it
-abbrev pub scripted : Target → List ℕ → List (Part (LoneCall (Command (Unit {0}))) (Result Drawn Refusal)) →
-    List (Part (LoneCall (Command (Unit {0}))) (Result Drawn Refusal)) × LoneState (BarRecord (Unit {0}))
+abbrev pub scripted : Target → List ℕ → List (ScriptPart (LoneCall (Command (Unit {0}))) (Result Drawn Refusal)) →
+    List (ScriptPart (LoneCall (Command (Unit {0}))) (Result Drawn Refusal)) × LoneState (BarRecord (Unit {0}))
 scripted target message parts = played (lone_bar untracked) (lone_sizing untracked) target parts (opening_state (bar_saying message) None)
 
 -- 4 rows, 10 columns: 13 columns on two rows become three rows on 5 columns, and the next draw has three too; on 20 columns they stay three, and the next draw erases them all

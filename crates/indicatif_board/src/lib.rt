@@ -4,7 +4,7 @@
 //!   (docs/THEOREM.md). The public names of the next five modules stand there, too.
 //! - `bar_id`: `BarId` names a bar.
 //! - `calls`: `Call` is a call as a value, and `Answer` its answer. `Candidate` is a bar to insert, `InsertLocation` says where, and
-//!   `Turned` is one that was refused; what an answer gives of a draw or a bar.
+//!   `Turned` is a candidate that was refused. An answer is read here as a draw or as a bar.
 //! - `recorded`: `Recorded`, a board with its history, whose entries a new board can make again: `Opening`, `Entry`, `Size`.
 //! - `receipts`: `Receipt`, which entry of a history has logged a text: it is handed out, and a history says whether it holds it.
 //! - `slots`: `MultiState`, the order alone: bars are inserted and removed by their numbers, and each has a place and a slot.

@@ -4,7 +4,7 @@
 //! - `columns`: how wide is a text? `columns` and `width` count columns by Unicode's East Asian Width, `wrapped` the rows that a line
 //!   takes. The public names of the next five modules stand there, too.
 //! - `pieces`: a text split at its colour sequences: `Pieces`, `colour_len`, and which characters are parameters of a sequence.
-//! - `range`: a text cut by columns, `write_ansi_range`: its pieces and parts of runs are appended.
+//! - `range`: `write_ansi_range`, a text cut by columns: of the text, whole pieces and parts of runs are appended to another.
 //! - `style_words`: `Style`, read from `red.on_blue.bold`, and the colour sequences that it writes.
 //! - `refusal`: `Refusal` says why a call was refused, `TemplateState` where in a template, and `Drawn` whether a call drew.
 //! - `moment`: the caller gives the time, by `Moment`, `Clock` and `StepClock`.
