@@ -263,7 +263,7 @@ impl<
         ensures lines { IfSome result.1 (λ receipt. AreLinesOf (F.lays self.now.form) (record_level record.now) (record_text D.output V.pairs S.scopes record.now) (string_bytes receipt.text)) }
         ensures drawn { CanDraw result.0 }
     {
-        match lines_of(self.board.alloc(), &self.form, record) {
+        match lines_by_form(self.board.alloc(), &self.form, record) {
             Ok(lines) => self.board.println_with_receipt(lines.as_str()),
             Err(refusal) => (Err(refusal), None),
         }
@@ -301,7 +301,7 @@ pub fn logger_above<R: Shares, K: Tracks>(
 }
 
 /// A record's lines in a form.
-fn lines_of<F: LineForm, D: Display, V: Source, S: Spans>(
+fn lines_by_form<F: LineForm, D: Display, V: Source, S: Spans>(
     alloc: Global,
     form: &F,
     record: &Record<'_, D, V, S>,
