@@ -29,7 +29,7 @@ use Rattle.indicatif_term.specs.declared.engine.writing.Manner.TheVariants.{Amon
 use Rattle.indicatif_term.specs.declared.engine.writing.Writing.{Writing}
 use Rattle.indicatif_term.proofs.AmongLemmas.{change_bytes}
 use Rattle.indicatif_term.proofs.BesideLemmas.{ready_take}
-use Rattle.indicatif_term.proofs.EngineLemmas.{within_rows, led, IsLike, Redraws, draw_paints}
+use Rattle.indicatif_term.proofs.EngineLemmas.{led, IsLike, Redraws, draw_paints}
 use Rattle.indicatif_term.proofs.LastLineLemmas.{fill_bytes}
 use Rattle.indicatif_term.proofs.MovingLemmas.{live_wide, draw_moves}
 use Rattle.indicatif_term.proofs.OverLemmas.{AreWide}
@@ -75,7 +75,7 @@ module _ (counts : Counts) (failed : Bool) (shown : Remembered) (v w h pass blan
         ap (λ z. writing_bytes z [] ls) is.is ∙ ap set can.stays_on_row ∙ over_written failed counts.below is.fresh counts.live v ls is.none
             ∙ ap (λ k. led failed (moved_bytes k counts.live (placed ls))) same,
         λ x like. draw_moves w h x counts next pass blanks bottom frame plan ls some plain narrow like.counts planned (counted x like.counts) blank (can.from_below, can.from_last) can.stays_on_row t
-            right even can.enough can.some (subst (λ live. AreWide w (live_rows w live)) (sym like.live) wide) (λ u. within_rows counts (placed ls) (can.no_more u)),
+            right even can.enough can.some (subst (λ live. AreWide w (live_rows w live)) (sym like.live) wide) can.no_more,
       )
 
   by_room : (room : Room) → HasRoom counts failed shown.width next v ls → IsWithin ls counts.live room → IsAmong room ls whole q → IsDrawn
@@ -97,7 +97,7 @@ module _ (counts : Counts) (failed : Bool) (shown : Remembered) (v w h pass blan
             ∙ ap (λ k. led failed (change_bytes k room.free parts.0 parts.1 parts.2)) same,
         λ x like. draw_changes w h x counts next pass blanks bottom frame plan ls room parts.0 parts.1 parts.2 some (omega (arith, same, has.narrow)) plain narrow like.counts planned
             (counted x like.counts) blank has.on_row has.stays_on_row t parts.3 parts.4
-            (subst (λ live. AreSitting w (looks_of (live_rows w live)) (placed ls)) (sym like.live) (sits has.same_width)) within right (λ u. within_rows counts (placed ls) (has.no_more u)),
+            (subst (λ live. AreSitting w (looks_of (live_rows w live)) (placed ls)) (sym like.live) (sits has.same_width)) within right has.no_more,
       )
 
   by_whole : q ≡ whole → IsDrawn
