@@ -360,7 +360,8 @@ pub kept_on : (w h bar rows : ℕ) (on : List StandingLine) (text : List ℕ) (x
     AreFitting w on (l.at + 1) m.changed.items × (take (l.at + 1) (renewed (texts on) m.changed.items) ≡ take l.at (renewed (texts on) l.changed.items) ++ text ∷ [])) →
     IsLaidOn w h on (text ∷ []) (chars text ∷ []) (record { bar = bar; rows = rows_of w (chars text) } ∷ []) l l'
 kept_on w h bar rows on text x l m l' s b size same narrow plan at blanks more e new =
-    let p : l'.plan ≡ record l.plan { rows = l.plan.rows + rows; lines = l.plan.lines + 1 } = ap (λ (l : Laid). l.plan) e ∙ ap (λ (p : Plan). record p { rows = p.rows + rows; lines = p.lines + 1 }) plan in
+    let p : l'.plan ≡ record l.plan { rows = l.plan.rows + rows; lines = l.plan.lines + 1 } =
+    ap (λ (l : Laid). l.plan) e ∙ ap (λ (p : Plan). record p { rows = p.rows + rows; lines = p.lines + 1 }) plan in
     let changed : l'.changed.items ≡ m.changed.items = ap (λ (l : Laid). l.changed.items) e in
     let some : 0 < rows = omega (arith, size, rows_some w (chars text)) in
     record {

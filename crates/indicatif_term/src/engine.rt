@@ -287,6 +287,10 @@ impl<T: TermLike + Drop> Engine<T> {
         let fresh = old.fresh(old.kept + rows, window.rows);
         let next = old.drawn(laid.plan, laid.blanks, window.rows);
         let above = self.shown.above(width, old.kept);
+        if before.stands(&next, above, &laid, self.shown.live()) {
+            self.spare.store_laid(laid);
+            return self.rest(next);
+        }
         let from = self.store(next, above, laid, width)?;
         let writing = before.writing(fresh, &next, self.shown.behind(from), width);
         self.write(&writing, None, from)
@@ -439,6 +443,19 @@ impl<T: TermLike + Drop> Engine<T> {
         self.counts = next;
         self.failed = false;
         Ok(from)
+    }
+
+    /// Remembers the next counts, where all lines stay as they stand, and writes nothing.
+    fn rest(&mut self, next: Counts) -> Result<(), Refusal>
+        requires sound { self.old.failed ≡ false }
+        requires suits { ∥ ((l : Lists) × Suits next false self.old.shown l) ∥₁ }
+        ensures draws { Draws [] (T.view (engine_term self.old)) (T.view (engine_term self.new)) result }
+        ensures remembers { Remembers next self.old.shown result self.new }
+        ensures moves { engine_moves self.new ≡ engine_moves self.old }
+    {
+        self.counts = next;
+        let written = self.term.flush();
+        self.ended(written)
     }
 
     /// Writes this text, and the remembered lines behind the first `from`.
@@ -620,11 +637,27 @@ struct Before {
 }
 
 impl Before {
-    ghost use Rattle.indicatif_term.specs.Inside.Remembering.{HasRoom, CanMove};
+    ghost use Rattle.indicatif_term.specs.Inside.Remembering.{HasRoom, CanMove, Stands};
     ghost use Rattle.indicatif_term.specs.Inside.Writings.{IsChosen, whole_writing};
     ghost use Rattle.indicatif_term.specs.Inside.Changes.{placed_height};
     ghost use Rattle.indicatif_term.specs.Inside.Places.{IsWithin};
     ghost use Rattle.indicatif_term.specs.Standing.{placed};
+
+    /// Whether all live lines stand as they were laid out, and stay live, so that nothing is written.
+    fn stands(&self, next: &Counts, above: Span, laid: &Laid, live: &[StandingLine]) -> bool
+        ensures { IsTrue result → Stands self.now.counts self.now.failed self.now.width self.now.rows next.now above laid.now live.now }
+    {
+        if self.moves || self.failed || self.counts.below || next.below {
+            return false;
+        }
+        if self.rows != self.counts.live || self.width > 65535 || live.is_empty() {
+            return false;
+        }
+        if above.from > 0 || laid.at != live.len() || laid.plan.passing > 0 {
+            return false;
+        }
+        laid.changed.is_empty() && laid.more.is_empty()
+    }
 
     /// Whether lines can be written over the live rows by moves alone, if `set_move_cursor` was told so.
     fn can_move(&self, next: &Counts, lines: &[StandingLine], width: usize) -> bool

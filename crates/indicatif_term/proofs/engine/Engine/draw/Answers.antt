@@ -17,7 +17,8 @@ use Rattle.indicatif_term.proofs.LineEndLemmas.{draw_fill}
 use Rattle.indicatif_term.proofs.LaidLemmas.{own_count, can_be_put, put_height, put_sits}
 use Rattle.indicatif_term.proofs.EngineLemmas.{paints_refused, paints_by, fits_counts, fits_failed, fits_forgets, fits_by, fits_shown}
 use Rattle.indicatif_term.proofs.SkippingLemmas.{drawn_shown, drawn_suits, counted_by, some_lines, counted_refused, fits_refused}
-use Rattle.indicatif_term.proofs.ChosenLemmas.{chosen_can, chosen_draws}
+use Rattle.indicatif_term.proofs.ChosenLemmas.{chosen_can, chosen_draws, still_draws, still_writing}
+use Rattle.indicatif_term.proofs.StillLemmas.{left, is_still}
 use Rattle.indicatif_term.proofs.engine.Engine.draw.Goals as goal
 
 pub returns-in_err-planned-clause-paints : goal.returns-in_err-planned-clause-paints
@@ -28,7 +29,8 @@ store-requires-clause-fits g c =
     let s = g.T.TermLike.view (engine_term c.args.self.now) in
     let p = c.in_ok-planned.ensures.planned in
     can_be_put c.in_ok-planned.planned.window.columns s.columns s.rows c.args.pass c.above-above.result c.args.self.now.shown c.args.frame.now c.in_ok-planned.planned.laid p.columns_are
-    c.above-above.ensures.within (λ some. let same = p.known some ∙ sym p.columns_are in (same, c.above-above.ensures.known same)) (c.above-above.ensures.right c.in_ok-planned.planned.window.some) p.frame_is
+    c.above-above.ensures.within (λ some. let same = p.known some ∙ sym p.columns_are in (same, c.above-above.ensures.known same))
+    (c.above-above.ensures.right c.in_ok-planned.planned.window.some) p.frame_is
 
 pub writing-writing-requires : goal.writing-writing-requires
 writing-writing-requires g c =
@@ -164,4 +166,95 @@ returns-clause-paints g c = λ x fits plain.
     let writes : Draws (writing_bytes q [] ls) s v' c.write.result = rw (c.store.ensures.terminal, y.4) at c.write.ensures.draws in
     paints_by s v' old _ _ c.write.result c.write.new.self e.failed x (drawn s.columns s.rows bottom c.args.pass frame) d.0 c.write.ensures.remembers (fits_failed e x fits)
     (subst (λ b. Draws b s v' c.write.result) d.1 writes) d.2 (fits_counts e x fits) (fits_forgets e x fits) (drawn-sound s.columns s.rows bottom c.args.pass frame x)
+    (drawn-adds s.columns s.rows bottom c.args.pass frame x) (drawn-known s.columns s.rows bottom c.args.pass frame x)
+
+pub rest-requires-clause-suits : goal.rest-requires-clause-suits
+rest-requires-clause-suits g c =
+    let e = c.args.self.now in
+    let s = g.T.TermLike.view (engine_term e) in
+    let frame = map bar_lines c.args.frame.now in
+    let bottom = is_bottom c.args.alignment in
+    let p = c.in_ok-planned.ensures.planned in
+    let f = p.frame_is in
+    let o = f.is_laid in
+    let win = c.in_ok-planned.planned.window in
+    let l = c.in_ok-planned.planned.laid in
+    let old = e.counts in
+    let none : c.in_ok-planned.planned.text.height ≡ 0 = omega (arith, p.height_is) in
+    let blanks : l.blanks ≡ blanks_for bottom old.live 0 l.plan.rows = (rw c.is_bottom.ensures at p.blanks_are) ∙ ap (λ n. blanks_for bottom old.live n l.plan.rows) none in
+    let above = c.above-above.result in
+    let next = λ (x : Lists) (q : CountsOf old x). rw p.rows_are at (c.drawn-next.ensures s.columns c.args.pass bottom frame x q (rw (← p.rows_are) at f.plan_is) blanks) in
+    let st = rw c.live.ensures at (c.stands.ensures c.if-stands.true) in
+    let width = p.known (omega (arith, st.all, st.some)) ∙ sym p.columns_are in
+    let z = is_still old e.failed _ win.columns c.drawn-next.result above e.shown l win.some (c.above-above.ensures.known width) width st in
+    ∥∥₁_map e.some (λ x. (
+      drawn s.columns s.rows bottom c.args.pass frame x.0,
+      drawn_suits win.columns s.columns s.rows c.args.pass l.blanks bottom c.args.frame.now x.0 old c.drawn-next.result l.plan (drop above.from (take above.to e.shown.lines)) (live_lines e.shown)
+          o.counts e.shown p.columns_are z.next x.1.counted f.plan_is blanks (z.texts_are ∙ o.texts_are) (z.counts_are ∙ o.counts_are) o.laid.counts_are z.right
+          (c.above-above.ensures.above x.0 win.some x.1.remembered) (next x.0 x.1.counted),
+    ))
+
+pub returns-then-stands-clause-counted : goal.returns-then-stands-clause-counted
+returns-then-stands-clause-counted g c =
+    counted_by _ (g.T.TermLike.view (engine_term c.args.self.now)) (g.T.TermLike.view (engine_term c.rest.new.self)) _ _ c.rest.result c.rest.new.self c.rest.ensures.remembers c.rest.ensures.draws
+
+pub returns-then-stands-clause-lists : goal.returns-then-stands-clause-lists
+returns-then-stands-clause-lists g c = λ x fits.
+    let e = c.args.self.now in
+    let s = g.T.TermLike.view (engine_term e) in
+    let frame = map bar_lines c.args.frame.now in
+    let bottom = is_bottom c.args.alignment in
+    let p = c.in_ok-planned.ensures.planned in
+    let f = p.frame_is in
+    let o = f.is_laid in
+    let win = c.in_ok-planned.planned.window in
+    let l = c.in_ok-planned.planned.laid in
+    let old = e.counts in
+    let none : c.in_ok-planned.planned.text.height ≡ 0 = omega (arith, p.height_is) in
+    let blanks : l.blanks ≡ blanks_for bottom old.live 0 l.plan.rows = (rw c.is_bottom.ensures at p.blanks_are) ∙ ap (λ n. blanks_for bottom old.live n l.plan.rows) none in
+    let above = c.above-above.result in
+    let next = λ (x : Lists) (q : CountsOf old x). rw p.rows_are at (c.drawn-next.ensures s.columns c.args.pass bottom frame x q (rw (← p.rows_are) at f.plan_is) blanks) in
+    let st = rw c.live.ensures at (c.stands.ensures c.if-stands.true) in
+    let width = p.known (omega (arith, st.all, st.some)) ∙ sym p.columns_are in
+    let z = is_still old e.failed _ win.columns c.drawn-next.result above e.shown l win.some (c.above-above.ensures.known width) width st in
+    let q = fits_counts e x fits in
+    fits_by _ e.shown c.rest.result c.rest.new.self x (drawn s.columns s.rows bottom c.args.pass frame x) c.rest.ensures.remembers (next x q) (drawn-sound s.columns s.rows bottom c.args.pass frame x)
+    (drawn_shown win.columns s.columns s.rows c.args.pass l.blanks bottom c.args.frame.now x old l.plan (drop above.from (take above.to e.shown.lines)) (live_lines e.shown) o.counts e.shown
+    p.columns_are z.next q f.plan_is blanks (z.texts_are ∙ o.texts_are) (z.counts_are ∙ o.counts_are) o.laid.counts_are z.right
+    (c.above-above.ensures.above x win.some (fits_shown e x fits)))
+
+pub returns-then-stands-clause-paints : goal.returns-then-stands-clause-paints
+returns-then-stands-clause-paints g c = λ x fits plain.
+    let e = c.args.self.now in
+    let s = g.T.TermLike.view (engine_term e) in
+    let frame = map bar_lines c.args.frame.now in
+    let bottom = is_bottom c.args.alignment in
+    let p = c.in_ok-planned.ensures.planned in
+    let f = p.frame_is in
+    let o = f.is_laid in
+    let win = c.in_ok-planned.planned.window in
+    let l = c.in_ok-planned.planned.laid in
+    let old = e.counts in
+    let none : c.in_ok-planned.planned.text.height ≡ 0 = omega (arith, p.height_is) in
+    let blanks : l.blanks ≡ blanks_for bottom old.live 0 l.plan.rows = (rw c.is_bottom.ensures at p.blanks_are) ∙ ap (λ n. blanks_for bottom old.live n l.plan.rows) none in
+    let next = λ (x : Lists) (q : CountsOf old x). rw p.rows_are at (c.drawn-next.ensures s.columns c.args.pass bottom frame x q (rw (← p.rows_are) at f.plan_is) blanks) in
+    let st = rw c.live.ensures at (c.stands.ensures c.if-stands.true) in
+    let width = p.known (omega (arith, st.all, st.some)) ∙ sym p.columns_are in
+    let z = is_still old e.failed _ win.columns c.drawn-next.result c.above-above.result e.shown l win.some (c.above-above.ensures.known width) width st in
+    let ls = left (live_lines e.shown) in
+    let put = z.put in
+    let t : texts ls ≡ replicate l.blanks [] ++ take l.plan.lines (frame_lines c.args.frame.now) = put.texts_are ∙ o.texts_are in
+    let known = fits_shown e x fits in
+    let v' = g.T.TermLike.view (engine_term c.rest.new.self) in
+    let right = subst (λ k. AreLines k ls) p.columns_are put.right in
+    let below = c.drawn-next.result.below in
+    let fill = draw_fill s.columns ls below _ _ right refl (ap (λ k. (whole_writing old e.failed c.fresh-fresh.result c.drawn-next.result k ls).fill) p.columns_are)
+    ∙ ap (fill_bytes below s.columns) t in
+    let height = put_height win.columns s.columns s.rows (live_lines e.shown) ls _ _ l o put in
+    let d = still_draws old e.failed e.shown win.columns s.columns s.rows c.args.pass l.blanks _ bottom c.drawn-next.result c.args.frame.now l.plan ls c.fresh-fresh.result
+    (still_writing old e.failed c.fresh-fresh.result c.drawn-next.result win.columns ls) x p.columns_are (rw p.columns_are at win.some) plain f.narrow f.plan_is next blanks t right
+    (put_sits win.columns s.columns e.shown l x ls p.columns_are win.some put known) (rw p.rows_are at c.fresh-fresh.ensures) fill (fits_counts e x fits) known
+    c.above-above.result l (live_lines e.shown) refl height width st refl in
+    paints_by s v' old _ _ c.rest.result c.rest.new.self e.failed x (drawn s.columns s.rows bottom c.args.pass frame) d.0 c.rest.ensures.remembers (fits_failed e x fits)
+    (subst (λ b. Draws b s v' c.rest.result) (sym d.1) c.rest.ensures.draws) d.2 (fits_counts e x fits) (fits_forgets e x fits) (drawn-sound s.columns s.rows bottom c.args.pass frame x)
     (drawn-adds s.columns s.rows bottom c.args.pass frame x) (drawn-known s.columns s.rows bottom c.args.pass frame x)

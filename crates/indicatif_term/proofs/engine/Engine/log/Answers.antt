@@ -81,7 +81,8 @@ store-requires-clause-suits g c = λ r ls put is.
     let next = rw p.rows_are at (c.logged-next.ensures s.columns bottom text frame x.0 x.1.counted (rw (← p.rows_are) at f.plan_is) p.height_is blanks) in (
       x',
       suits_made c.logged-next.result r x' next (logged-sound s.columns s.rows bottom text frame x.0)
-          (logged_shown win.columns s.columns s.rows rows l.blanks bottom text c.args.frame.now x.0 old l.plan ls o.counts r p.columns_are (rw (none_kept s.columns s.rows frame l.plan l.blanks f.plan_is) at is) x.1.counted f.plan_is p.height_is blanks
+          (logged_shown win.columns s.columns s.rows rows l.blanks bottom text c.args.frame.now x.0 old l.plan ls o.counts r p.columns_are
+          (rw (none_kept s.columns s.rows frame l.plan l.blanks f.plan_is) at is) x.1.counted f.plan_is p.height_is blanks
           (put.texts_are ∙ o.texts_are) (put.counts_are ∙ o.counts_are) o.laid.counts_are put.right),
     ))
 
@@ -116,7 +117,8 @@ returns-clause-lists g c = λ x fits.
     let next = rw p.rows_are at (c.logged-next.ensures s.columns bottom text frame x q (rw (← p.rows_are) at f.plan_is) p.height_is blanks) in
     fits_by _ c.store.new.self.shown c.write.result c.write.new.self x x' c.write.ensures.remembers (subst (λ k. CountsOf k x') (sym c.in_ok-from.ensures.made.0) next)
     (logged-sound s.columns s.rows bottom text frame x)
-    (logged_shown win.columns s.columns s.rows rows l.blanks bottom text c.args.frame.now x old l.plan y.0 o.counts c.store.new.self.shown p.columns_are (rw (none_kept s.columns s.rows frame l.plan l.blanks f.plan_is) at y.2) q f.plan_is p.height_is blanks
+    (logged_shown win.columns s.columns s.rows rows l.blanks bottom text c.args.frame.now x old l.plan y.0 o.counts c.store.new.self.shown p.columns_are
+    (rw (none_kept s.columns s.rows frame l.plan l.blanks f.plan_is) at y.2) q f.plan_is p.height_is blanks
     (put.texts_are ∙ o.texts_are) (put.counts_are ∙ o.counts_are) o.laid.counts_are put.right)
 
 pub returns-clause-paints : goal.returns-clause-paints

@@ -57,7 +57,8 @@ loop-member-preserved c =
     let old = c.loop-member.invariant in
     let narrow = narrow_step w frame i s (omega arith) (sym c.member-item.is) old.narrow c.in_default.ensures.laid.narrow in
     let laid : IsLaid w h on (frame_lines (take (i + 1) frame)) (lines_of w (map bar_lines (take (i + 1) frame))) l =
-    laid_as w h on _ _ _ _ l (sym (frame_step frame i s (omega arith) (sym c.member-item.is))) (lines_step w frame i s (omega arith) (sym c.member-item.is)) (c.in_default.ensures.laid.laid _ _ old.laid) in
+    laid_as w h on _ _ _ _ l (sym (frame_step frame i s (omega arith) (sym c.member-item.is))) (lines_step w frame i s (omega arith) (sym c.member-item.is))
+    (c.in_default.ensures.laid.laid _ _ old.laid) in
     let blanks = c.in_default.ensures.laid.blanks_same ∙ old.blanks_are in
     elim c.if-left-gt0.branch [
       | then-left-gt0 q ↦ rw (q.laid-is, q.left-is) (record {

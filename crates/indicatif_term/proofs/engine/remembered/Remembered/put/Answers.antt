@@ -59,7 +59,8 @@ invariant_of-self-2 c =
     let above = c.args.above in
     let x = c.in_ok-put.ensures.lines in
     let size = put_length above.from above.to l.at r.lines x.0 l.more.items c.put.new.self above.some c.requires.fits.within x.1 x.3 in
-    let put = put_now w above.from above.to r l x.0 above.some c.requires.some c.requires.fits.within c.requires.fits.known c.requires.fits.fit x.2 x.3 x.4 x.5 c.requires.fits.more c.requires.fits.whole in
+    let put = put_now w above.from above.to r l x.0 above.some c.requires.some c.requires.fits.within c.requires.fits.known c.requires.fits.fit x.2 x.3 x.4 x.5
+    c.requires.fits.more c.requires.fits.whole in
     record {
       within = omega (arith, size, c.requires.fits.kept, kept_in l.plan l.blanks, c.kept_below.ensures);
       small = c.put.ensures.small;
