@@ -1,7 +1,7 @@
 -- A draw, in whatever way its lines are written, leads a terminal that shows the lists to one that shows the next ones.
 use Rattle.std.proofs.Common.{inl, inr, ◌≡◌, ℕ, ◌+◌, ◌<◌, ◌≤◌, Bool, false, List, [], ◌++◌, length, take, drop, map, replicate, refl, sym, ◌∙◌, ap, subst, arith}
 use Rattle.std.specs.Prelude.{IsTrue, IsFalse}
-use Rattle.std.proofs.lemmas.List.{length-map}
+use Rattle.std.proofs.lemmas.List.{length-map, take_all}
 use Rattle.indicatif_term.specs.Shows.{looks_of}
 use Rattle.indicatif_term.specs.Lists.{Lists, live_rows, drawn, blanks_for}
 use Rattle.indicatif_term.specs.Counts.{CountsOf}
@@ -10,30 +10,34 @@ use Rattle.indicatif_term.specs.Remembered.{AreRemembered}
 use Rattle.indicatif_term.specs.Standing.{placed_of, placed, texts, AreLines, AreReady}
 use Rattle.indicatif_term.specs.Inside.Bytes.{reach_bytes}
 use Rattle.indicatif_term.proofs.PaintingLemmas.{paint_bytes}
-use Rattle.indicatif_term.specs.Inside.Changes.{AreSitting, free_behind}
+use Rattle.indicatif_term.specs.Inside.Changes.{AreSitting, free_behind, placed_height}
 use Rattle.indicatif_term.specs.Inside.Fills.{last_of}
 use Rattle.indicatif_term.specs.Inside.Moves.{moved_bytes, AreEven}
 use Rattle.indicatif_term.specs.Inside.Places.{IsWithin}
 use Rattle.indicatif_term.specs.Inside.Plans.{frame_lines, IsPlan}
 use Rattle.indicatif_term.specs.Inside.Reached.{IsFresh}
-use Rattle.indicatif_term.specs.Inside.Remembering.{CanMove, HasRoom}
+use Rattle.indicatif_term.specs.Inside.Remembering.{CanMove, HasRoom, Stands}
 use Rattle.indicatif_term.specs.Inside.Writings.{writing_bytes, CanWrite, IsOver, IsAmong, IsChosen}
 use Rattle.indicatif_term.specs.declared.engine.beside.Room.{Room}
 use Rattle.indicatif_term.specs.declared.engine.counts.Counts.{Counts}
 use Rattle.indicatif_term.specs.declared.engine.counts.Fresh.{Fresh}
+use Rattle.indicatif_term.specs.declared.engine.layout.Laid.{Laid}
 use Rattle.indicatif_term.specs.declared.engine.layout.Plan.{Plan}
 use Rattle.indicatif_term.specs.declared.engine.lines.Segment.{Segment}
+use Rattle.indicatif_term.specs.declared.engine.parting.Step.TheVariants.{Leave}
 use Rattle.indicatif_term.specs.declared.engine.remembered.Remembered.{Remembered}
+use Rattle.indicatif_term.specs.declared.engine.remembered.Span.{Span}
 use Rattle.indicatif_term.specs.declared.engine.remembered.StandingLine.{StandingLine}
 use Rattle.indicatif_term.specs.declared.engine.writing.Manner.TheVariants.{Among, Over}
 use Rattle.indicatif_term.specs.declared.engine.writing.Writing.{Writing}
 use Rattle.indicatif_term.proofs.AmongLemmas.{change_bytes}
 use Rattle.indicatif_term.proofs.BesideLemmas.{ready_take}
-use Rattle.indicatif_term.proofs.EngineLemmas.{within_rows, led, IsLike, Redraws, draw_paints}
+use Rattle.indicatif_term.proofs.EngineLemmas.{led, IsLike, Redraws, draw_paints}
 use Rattle.indicatif_term.proofs.LastLineLemmas.{fill_bytes}
 use Rattle.indicatif_term.proofs.MovingLemmas.{live_wide, draw_moves}
 use Rattle.indicatif_term.proofs.OverLemmas.{AreWide}
 use Rattle.indicatif_term.proofs.SkippingLemmas.{draw_changes, split_at}
+use Rattle.indicatif_term.proofs.StillLemmas.{left, left_bytes}
 use Rattle.indicatif_term.proofs.WritingLemmas.{whole_bytes, among_written, over_written}
 
 -- lines can be written as it was chosen
@@ -50,6 +54,19 @@ chosen_can counts failed stood next ls p q whole ready is = elim is [
     | inr d ↦ subst (λ (z : Writing). CanWrite z.manner ls) (sym d) (subst (λ m. CanWrite m ls) (sym whole) (record { in_lines = omega arith; small = omega arith; ready = tt }))
   ]
 ]
+
+-- all lines stay
+abbrev pub still_writing : Counts → Bool → Fresh → Counts → ℕ → List StandingLine → Writing
+still_writing counts failed f next v ls = record {
+  anew = failed;
+  fresh = f;
+  below = counts.below;
+  taken = 0;
+  manner = Among (length ls);
+  width = v;
+  ends_below = next.below;
+  fill = free_behind v (last_of (placed (drop (length ls) ls)));
+}
 
 module _ (counts : Counts) (failed : Bool) (shown : Remembered) (v w h pass blanks fill : ℕ) (bottom : Bool) (next : Counts)
     (frame : List Segment) (plan : Plan) (ls : List StandingLine) (f : Fresh) (q : Writing) (l : Lists)
@@ -75,7 +92,7 @@ module _ (counts : Counts) (failed : Bool) (shown : Remembered) (v w h pass blan
         ap (λ z. writing_bytes z [] ls) is.is ∙ ap set can.stays_on_row ∙ over_written failed counts.below is.fresh counts.live v ls is.none
             ∙ ap (λ k. led failed (moved_bytes k counts.live (placed ls))) same,
         λ x like. draw_moves w h x counts next pass blanks bottom frame plan ls some plain narrow like.counts planned (counted x like.counts) blank (can.from_below, can.from_last) can.stays_on_row t
-            right even can.enough can.some (subst (λ live. AreWide w (live_rows w live)) (sym like.live) wide) (λ u. within_rows counts (placed ls) (can.no_more u)),
+            right even can.enough can.some (subst (λ live. AreWide w (live_rows w live)) (sym like.live) wide) can.no_more,
       )
 
   by_room : (room : Room) → HasRoom counts failed shown.width next v ls → IsWithin ls counts.live room → IsAmong room ls whole q → IsDrawn
@@ -97,7 +114,7 @@ module _ (counts : Counts) (failed : Bool) (shown : Remembered) (v w h pass blan
             ∙ ap (λ k. led failed (change_bytes k room.free parts.0 parts.1 parts.2)) same,
         λ x like. draw_changes w h x counts next pass blanks bottom frame plan ls room parts.0 parts.1 parts.2 some (omega (arith, same, has.narrow)) plain narrow like.counts planned
             (counted x like.counts) blank has.on_row has.stays_on_row t parts.3 parts.4
-            (subst (λ live. AreSitting w (looks_of (live_rows w live)) (placed ls)) (sym like.live) (sits has.same_width)) within right (λ u. within_rows counts (placed ls) (has.no_more u)),
+            (subst (λ live. AreSitting w (looks_of (live_rows w live)) (placed ls)) (sym like.live) (sits has.same_width)) within right has.no_more,
       )
 
   by_whole : q ≡ whole → IsDrawn
@@ -110,6 +127,28 @@ module _ (counts : Counts) (failed : Bool) (shown : Remembered) (v w h pass blan
             ∙ ap (λ z. led failed (reach ++ (paint_bytes counts.below counts.live lines next.below ++ z))) filled,
         λ x like. draw_paints w h x counts next pass blanks bottom frame plan f some plain narrow like.counts planned (counted x like.counts) blank fresh,
       )
+
+  -- nothing is written where all lines stand
+  pub still_draws : (above : Span) (laid : Laid) (on : List StandingLine) → ls ≡ left on → blanks + plan.rows ≡ placed_height (placed ls) → shown.width ≡ v →
+      Stands counts failed shown.width (blanks + plan.rows) next above laid on → q ≡ still_writing counts failed f next v ls →
+      (bytes : List ℕ) × (led failed bytes ≡ []) × ((x : Lists) → IsLike counts l x → Redraws w h x (drawn w h bottom pass (map bar_lines frame) x) bytes)
+  still_draws above laid on e height width st is =
+      let size : length ls ≡ length on = ap length e ∙ length-map on (λ (l : StandingLine). record l { step = Leave }) in
+      let fits : counts.kept + counts.live ≤ counts.reached = counts.fits in
+      let none : f.rows ≡ 0 = omega (arith, fresh.few, fits, st.rows_are) in
+      let room : Room = record { lines = length ls; free = 0 } in
+      let live : placed_height (placed ls) ≡ counts.live = sym height ∙ st.rows_are in
+      let has : HasRoom counts failed shown.width next v ls =
+      record { sound = st.sound; on_row = st.on_row; stays_on_row = st.stays_on_row; same_width = width; narrow = omega (arith, st.narrow, width); no_more = λ _. omega (arith, live) } in
+      let within : IsWithin ls counts.live room = record {
+        some = omega (arith, size, st.some);
+        in_lines = omega arith;
+        rows_are = omega (arith, live, ap (λ xs. placed_height (placed xs)) (take_all (length ls) ls (omega arith)));
+      } in
+      let d = by_room room has within (record { fresh = f; none = none; is = is }) in
+      let nothing : writing_bytes q [] ls ≡ [] = ap (λ z. writing_bytes z [] ls) is
+      ∙ subst (λ xs. writing_bytes (still_writing counts failed f next v xs) [] xs ≡ []) (sym e) (left_bytes failed counts.below next.below f v on st.sound st.on_row st.stays_on_row none st.some) in
+      (d.0, sym d.1 ∙ nothing, d.2)
 
   pub chosen_draws : IsChosen counts failed shown.width next ls whole q → IsDrawn
   chosen_draws is = elim is [

@@ -1,17 +1,18 @@
 -- A frame laid out line by line beside those that stand, and its lines as they are put in the place of these.
 use Rattle.std.proofs.Common.{◌≡◌, ◌⊎◌, ℕ, zero, suc, ◌+◌, ◌-◌, ◌<◌, ◌≤◌, true, false, List, [], ◌∷◌, ◌++◌, length, take, drop, map, replicate, get_or, refl, sym, ◌∙◌, ap, subst, arith, append_assoc, append-nil, length-append, inl, inr, chars}
-use Rattle.std.specs.Prelude.{string_bytes}
+use Rattle.std.specs.Prelude.{string_bytes, sum_by}
+use Rattle.std.proofs.lemmas.List.Sums.{sum_by-append}
 use Rattle.std.specs.List.{AllByRecursion}
 use Rattle.std.proofs.lemmas.List.{take_all, take_more, take-append-le, take-append-drop, map-append, take-map, drop-map, length-map, length-take-le, length-drop, length-replicate, take_at, drop_at}
 use Rattle.std.proofs.lemmas.List.{drop-append-le, get_or-drop, get_or-take, get_or-append_right}
 use Rattle.std.proofs.Math.ListN.{get_or-append}
 use Rattle.std.proofs.Math.Seq.{take-append-add}
-use Rattle.indicatif_text.specs.Columns.{Cell, rows_of}
+use Rattle.indicatif_text.specs.Columns.{Cell, has_wide, rows_of}
 use Rattle.indicatif_term.specs.Shows.{looks_of}
-use Rattle.indicatif_term.specs.Lists.{Lists, BarRows, fitting, lines_of, live_rows}
+use Rattle.indicatif_term.specs.Lists.{Lists, BarLines, BarRows, fitting, lines_of, live_rows}
 use Rattle.indicatif_term.specs.Counts.{RowCount, row_count, line_count, line_counts}
 use Rattle.indicatif_term.specs.Standing.{placed_of, placed, texts, standing_rows, IsLine, AreLines, AreReady}
-use Rattle.indicatif_term.specs.Inside.Owned.{run_length, through, blank_count, no_plan}
+use Rattle.indicatif_term.specs.Inside.Owned.{run_length, through, blank_count, no_plan, kept_below}
 use Rattle.indicatif_term.proofs.GroupLemmas.{through_at}
 use Rattle.indicatif_term.specs.Inside.Parting.{IsReady}
 use Rattle.indicatif_term.specs.Inside.Plans.{IsPlan, IsSummed, IsLaidOut, IsWithheld, frame_lines}
@@ -22,20 +23,22 @@ use Rattle.indicatif_text.specs.declared.refusal.Refusal.{Refusal}
 use Rattle.indicatif_text.specs.declared.refusal.Refusal.TheVariants.{Memory}
 use Rattle.indicatif_term.specs.Inside.Changes.{placed_height, AreSitting}
 use Rattle.indicatif_term.specs.Inside.Renewed.{AreFitting, renewed, AreInPlace, AreOver}
-use Rattle.indicatif_term.specs.Inside.Layouts.{AreBlank, AreWhole, laid_lines, laid_texts, own_lines, IsLaid, IsFrameLaid, FrameLaid, ArePut}
+use Rattle.indicatif_term.specs.Inside.Layouts.{AreBlank, AreWhole, laid_lines, laid_texts, own_lines, IsBeside, IsLaid, IsLaidOn, IsFrameLaid, FrameLaid, ArePut, CanPut}
 use Rattle.indicatif_term.specs.declared.engine.layout.Laid.{Laid}
 use Rattle.indicatif_term.specs.declared.engine.layout.Plan.{Plan}
 use Rattle.indicatif_term.specs.declared.engine.lines.Segment.{Segment}
 use Rattle.indicatif_term.specs.declared.engine.parting.Step.TheVariants.{Whole}
 use Rattle.indicatif_term.specs.Remembered.{AreRemembered, AreStanding, live_lines}
 use Rattle.indicatif_term.specs.declared.engine.remembered.Remembered.{Remembered}
+use Rattle.indicatif_term.specs.declared.engine.remembered.Span.{Span}
 use Rattle.indicatif_term.specs.declared.engine.remembered.StandingLine.{StandingLine}
 use Rattle.indicatif_term.specs.declared.engine.renewed.NewLine.{NewLine}
-use Rattle.indicatif_term.proofs.OwnedLemmas.{count_more}
+use Rattle.indicatif_term.proofs.OwnedLemmas.{count_more, rows_by, height_counted, counts_height, blank_height, ones_of, passing_within}
 use Rattle.indicatif_term.proofs.RememberedLemmas.{lines_taken, live_right}
 use Rattle.indicatif_term.proofs.BesideLemmas.{all_append, replicate_push}
 use Rattle.indicatif_term.proofs.LayoutLemmas.{nothing_laid, one_more, still_laid}
 use Rattle.indicatif_term.proofs.EditWalkLemmas.{sitting_both}
+use Rattle.indicatif_term.proofs.TerminalStepLemmas.{rows_some}
 use Rattle.indicatif_term.proofs.RenewedLemmas.{none_fit, fits_taken, renewed_taken, place_right, over_ready, place_sits, whole_sits, whole_ready}
 
 abbrev bytes : StandingLine → List ℕ
@@ -349,6 +352,30 @@ own_at_more on l place x h k e =
 pub summed_more : (h rows : ℕ) (p p' : Plan) → IsSummed h p → 0 < rows → rows ≤ h - p.rows → p'.rows ≡ p.rows + rows → p'.lines ≡ p.lines + 1 → p'.passing_rows ≡ p.passing_rows → IsSummed h p'
 summed_more h rows p p' s some fits r l k = record { fit = omega (arith, s.fit, r, fits); lines_fit = omega (arith, s.lines_fit, l, r, some); passing_in = omega (arith, s.passing_in, k, r) }
 
+-- one more line that keeps its rows, with its text or with a new one
+pub kept_on : (w h bar rows : ℕ) (on : List StandingLine) (text : List ℕ) (x : StandingLine) (l m l' : Laid) → IsSummed h l.plan → IsBeside h on l bar x → rows ≡ length (rows_of w (chars text)) →
+    x.rows ≡ rows → has_wide w (chars text) ≡ false → m.plan ≡ l.plan → m.at ≡ l.at → m.blanks ≡ l.blanks → m.more ≡ l.more →
+    l' ≡ record m { plan = record m.plan { rows = m.plan.rows + rows; lines = m.plan.lines + 1 }; at = m.at + 1 } →
+    (AreFitting w on l.at l.changed.items →
+    AreFitting w on (l.at + 1) m.changed.items × (take (l.at + 1) (renewed (texts on) m.changed.items) ≡ take l.at (renewed (texts on) l.changed.items) ++ text ∷ [])) →
+    IsLaidOn w h on (text ∷ []) (chars text ∷ []) (record { bar = bar; rows = rows_of w (chars text) } ∷ []) l l'
+kept_on w h bar rows on text x l m l' s b size same narrow plan at blanks more e new =
+    let p : l'.plan ≡ record l.plan { rows = l.plan.rows + rows; lines = l.plan.lines + 1 } =
+    ap (λ (l : Laid). l.plan) e ∙ ap (λ (p : Plan). record p { rows = p.rows + rows; lines = p.lines + 1 }) plan in
+    let changed : l'.changed.items ≡ m.changed.items = ap (λ (l : Laid). l.changed.items) e in
+    let some : 0 < rows = omega (arith, size, rows_some w (chars text)) in
+    record {
+      summed = summed_more h rows l.plan l'.plan s some (omega (arith, b.fits, same)) (ap (λ (p : Plan). p.rows) p) (ap (λ (p : Plan). p.lines) p) (ap (λ (p : Plan). p.passing_rows) p);
+      passing_same = ap (λ (p : Plan). p.passing) p;
+      blanks_same = ap (λ (l : Laid). l.blanks) e ∙ blanks;
+      narrow = rw narrow refl;
+      laid = λ before bars o. let n = new o.fit in
+          laid_in_place w h on before bars text (record { bar = bar; rows = rows_of w (chars text) }) l o b.not_full l' (ap (λ (l : Laid). l.blanks) e ∙ blanks)
+          (ap (λ (p : Plan). p.rows) p ∙ ap (λ n. l.plan.rows + n) size) (ap (λ (p : Plan). p.lines) p) (ap (λ (p : Plan). p.full) p) (omega (arith, b.fits, same, size)) x b.none_below
+          (ap (λ (l : Laid). l.more.items) e ∙ ap (λ v. v.items) more) (ap (λ (l : Laid). l.at) e ∙ ap (λ n. n + 1) at) b.within b.line_is b.bar_is (same ∙ size)
+          (subst (AreFitting w on (l.at + 1)) (sym changed) n.0) (ap (λ ns. take (l.at + 1) (renewed (texts on) ns)) changed ∙ n.1);
+    }
+
 pub own_length : (on : List StandingLine) (l : Laid) → l.at ≤ length on → length (own_lines on l) ≡ l.at + length l.more.items - l.blanks
 own_length on l h = length-drop l.blanks (laid_lines on l) ∙ ap (λ n. n - l.blanks) (length-append (take l.at on) l.more.items ∙ ap (λ n. n + length l.more.items) (length-take-le l.at on h))
 
@@ -415,3 +442,31 @@ pub put_sits : (v w : ℕ) (r : Remembered) (l : Laid) (x : Lists) (ls : List St
 put_sits v w r l x ls e some put known same =
     let stands = subst (λ n. AreStanding n r x) same (known (omega (arith, same, some))) in
     subst (λ n. AreSitting n (looks_of (live_rows n x.live)) (placed ls)) e (put.sits (looks_of (live_rows v x.live)) (λ _. ap looks_of (sym stands.live_is)))
+
+-- a frame that was laid out beside the live lines can be put in their place
+pub can_be_put : (v w h pass : ℕ) (above : Span) (r : Remembered) (frame : List Segment) (l : Laid) → v ≡ w → above.to ≤ length r.lines → (0 < l.at → (r.width ≡ v) × (above.to ≡ r.kept)) →
+    AreLines v (drop above.from (take above.to r.lines)) → IsFrameLaid w h pass (live_lines r) frame l → CanPut v above r l
+can_be_put v w h pass above r frame l e within known right f = record {
+  within = stays_within l.at above.to r within (λ some. (known some).1) f.is_laid.at_in;
+  known = known;
+  kept = omega (arith, own_count w h (live_lines r) _ _ l f.is_laid, passing_within w h pass (map bar_lines frame) l.plan f.plan_is);
+  fit = subst (λ n. AreFitting n (live_lines r) l.at l.changed.items) (sym e) f.is_laid.fit;
+  right = right;
+  more = subst (λ n. AreLines n l.more.items) (sym e) f.is_laid.measured;
+  whole = f.is_laid.whole;
+}
+
+-- and takes so many rows
+pub put_height : (v w h : ℕ) (on ls : List StandingLine) (before : List (List ℕ)) (bars : List BarRows) (l : Laid) → IsLaid w h on before bars l → ArePut v on l ls →
+    l.blanks + l.plan.rows ≡ placed_height (placed ls)
+put_height v w h on ls before bars l o put =
+    let blank : sum_by rows_by (replicate l.blanks blank_count) ≡ l.blanks = blank_height l.blanks (replicate l.blanks blank_count) (ones_of l.blanks) in
+    let own : sum_by rows_by o.counts ≡ l.plan.rows = ap (sum_by rows_by) o.laid.counts_are ∙ counts_height (fitting h bars) ∙ sym o.laid.rows_are in
+    let all : sum_by rows_by (line_counts ls) ≡ sum_by rows_by (replicate l.blanks blank_count) + sum_by rows_by o.counts =
+    ap (sum_by rows_by) (put.counts_are ∙ o.counts_are) ∙ sum_by-append rows_by (replicate l.blanks blank_count) o.counts in
+    omega (arith, blank, own, all, height_counted ls)
+
+-- where none is dropped, no line becomes a kept one
+pub none_kept : (w h : ℕ) (frame : List BarLines) (p : Plan) (blanks : ℕ) → IsPlan w h 0 frame p → kept_below p blanks ≡ 0
+unfolding lines_of fitting
+none_kept w h frame p blanks q = let none : p.passing ≡ 0 = q.passing_is in rw none refl

@@ -206,7 +206,7 @@ module _ (w h pass : ℕ) (frame : List BarLines) where
 
 -- ---- what a drawing owns
 
-ones_of : (n : ℕ) → map rows_by (replicate n blank_count) ≡ replicate n 1
+pub ones_of : (n : ℕ) → map rows_by (replicate n blank_count) ≡ replicate n 1
 ones_of zero = refl
 ones_of (suc n) = ap (λ xs. 1 ∷ xs) (ones_of n)
 

@@ -70,11 +70,11 @@ pub(crate) mod writing;
 use crate::engine::beside::{Room, height_of, last_column, lines_within};
 use crate::engine::changing::fill_behind;
 use crate::engine::counts::{Counts, Fresh, Keep};
-use crate::engine::layout::{Asked, Last, plan_drawing, run_of};
+use crate::engine::layout::{Asked, Laid, plan_drawing, run_of};
 use crate::engine::lines::Segment;
 use crate::engine::moving::are_even;
 use crate::engine::recutting::{CutLines, Widths};
-use crate::engine::remembered::{NextLines, Remembered, Span, StandingLine};
+use crate::engine::remembered::{Remembered, Span, StandingLine};
 use crate::engine::spare::Spare;
 use crate::engine::window::Window;
 use crate::engine::writing::{Drawing, Manner, Writing, write};
@@ -140,10 +140,9 @@ impl<T: TermLike + Drop> Engine<T> {
     ghost use Rattle.indicatif_term.specs.Inside.Plans.{frame_lines, text_above};
     ghost use Rattle.indicatif_term.specs.Engines.{engine_moves, engine_term, Fits, is_failure, Answers, Counted, Paints, lists_after};
     ghost use Rattle.indicatif_term.specs.Inside.Remembering.{Draws, Remembers, IsNext, IsNothing};
-    ghost use Rattle.indicatif_term.specs.Inside.Layouts.{AreWhole, ArePut};
+    ghost use Rattle.indicatif_term.specs.Inside.Layouts.{ArePut, CanPut};
+    ghost use Rattle.indicatif_term.specs.Inside.Owned.{kept_below};
     ghost use Rattle.indicatif_term.specs.Remembered.{live_lines};
-    ghost use Rattle.indicatif_term.specs.Inside.Renewed.{AreFitting};
-    ghost use Rattle.indicatif_term.specs.Standing.{AreLines};
     ghost use Rattle.indicatif_term.specs.Shows.{IsOpening, Rests, resting};
     ghost use Rattle.indicatif_term.specs.Screen.{Screen};
     ghost use Rattle.indicatif_term.specs.Terminal.{Terminal};
@@ -264,37 +263,36 @@ impl<T: TermLike + Drop> Engine<T> {
             Paints s (T.view (engine_term self.new)) (is_failure result) l (lists_after result l
             (drawn s.columns s.rows (is_bottom alignment) pass (map bar_lines frame.now) l)) }
     {
+        let old = self.counts;
         let asked = Asked {
-            text: None,
             frame,
             pass,
             bottom: alignment.is_bottom(),
-        };
-        let before = Before {
-            counts: self.counts,
-            failed: self.failed,
-            moves: self.moves,
-            width: self.shown.width,
-        };
-        let last = Last {
             shown: &self.shown,
-            blanks: before.counts.blanks,
-            taken: before.counts.live,
+            blanks: old.blanks,
+            taken: old.live,
         };
-        let planned = plan_drawing(&self.term, &mut self.spare, last, asked)?;
+        let planned = plan_drawing(&self.term, &mut self.spare, None, asked)?;
         let window = planned.window;
         let width = window.columns;
         let laid = planned.laid;
-        let plan = laid.plan;
-        let blanks = laid.blanks;
-        let kept = plan.kept_below(blanks);
-        let end = before.counts.kept + (blanks + plan.rows);
-        let fresh = before.counts.fresh(end, window.rows);
-        let counts = before.counts.drawn(plan, blanks, window.rows);
-        let above = self.shown.above(width, before.counts.kept);
-        let next = NextLines { laid, kept };
-        let from = self.store(counts, above, next, width)?;
-        let writing = before.writing(fresh, &counts, self.shown.behind(from), width);
+        let rows = laid.blanks + laid.plan.rows;
+        let before = Before {
+            counts: old,
+            failed: self.failed,
+            moves: self.moves,
+            width: self.shown.width,
+            rows,
+        };
+        let fresh = old.fresh(old.kept + rows, window.rows);
+        let next = old.drawn(laid.plan, laid.blanks, window.rows);
+        let above = self.shown.above(width, old.kept);
+        if before.stands(&next, above, &laid, self.shown.live()) {
+            self.spare.store_laid(laid);
+            return self.rest(next);
+        }
+        let from = self.store(next, above, laid, width)?;
+        let writing = before.writing(fresh, &next, self.shown.behind(from), width);
         self.write(&writing, None, from)
     }
 
@@ -329,32 +327,26 @@ impl<T: TermLike + Drop> Engine<T> {
             (logged s.columns s.rows (is_bottom alignment)
             (text_lines (logged_lines text.now)) (map bar_lines frame.now) l)) }
     {
-        let asked = Asked {
-            text: Some(text),
-            frame,
-            pass: 0,
-            bottom: alignment.is_bottom(),
-        };
         let old = self.counts;
         let anew = self.failed;
         let taken = old.kept + old.live;
-        let last = Last {
+        let asked = Asked {
+            frame,
+            pass: 0,
+            bottom: alignment.is_bottom(),
             shown: &self.shown,
             blanks: 0,
             taken,
         };
-        let planned = plan_drawing(&self.term, &mut self.spare, last, asked)?;
+        let planned = plan_drawing(&self.term, &mut self.spare, Some(text), asked)?;
         let window = planned.window;
         let metrics = planned.text;
         let laid = planned.laid;
-        let plan = laid.plan;
-        let blanks = laid.blanks;
-        let end = metrics.height.saturating_add(blanks + plan.rows);
+        let end = metrics.height.saturating_add(laid.blanks + laid.plan.rows);
         let fresh = old.fresh(end, window.rows);
-        let counts = old.logged(metrics.height, plan, blanks, window.rows);
+        let next = old.logged(metrics.height, laid.plan, laid.blanks, window.rows);
         let above = Span { from: 0, to: 0 };
-        let next = NextLines { laid, kept: 0 };
-        let from = self.store(counts, above, next, window.columns)?;
+        let from = self.store(next, above, laid, window.columns)?;
         let last = last_column(self.shown.behind(from)).unwrap_or(metrics.last_line_width);
         let writing = Writing {
             anew,
@@ -363,8 +355,8 @@ impl<T: TermLike + Drop> Engine<T> {
             taken,
             manner: Manner::Among(0),
             width: window.columns,
-            ends_below: counts.below,
-            fill: counts.fill(Some(last), window.columns),
+            ends_below: next.below,
+            fill: next.fill(Some(last), window.columns),
         };
         self.write(&writing, Some(text), from)
     }
@@ -429,32 +421,41 @@ impl<T: TermLike + Drop> Engine<T> {
     /// stand: from which on its lines stand. Refused: `Memory`, where there is a line below; all is unchanged then.
     fn store(
         &mut self,
-        counts: Counts,
+        next: Counts,
         above: Span,
-        next: NextLines,
+        laid: Laid,
         width: usize,
     ) -> Result<usize, Refusal>
         requires some { 0 < width }
-        requires within { above.to + next.laid.at ≤ length self.old.shown.lines }
-        requires known { 0 < next.laid.at → (self.old.shown.width ≡ width) × (above.to ≡ self.old.shown.kept) }
-        requires fit { AreFitting width (live_lines self.old.shown) next.laid.at next.laid.changed.items }
-        requires right { AreLines width (drop above.from (take above.to self.old.shown.lines)) }
-        requires more { AreLines width next.laid.more.items × AreWhole next.laid.more.items }
-        requires suits { (r : Remembered) (ls : List StandingLine) → ArePut width (live_lines self.old.shown) next.laid ls →
-            IsNext width next.kept (drop above.from (take above.to self.old.shown.lines)) ls r → ∥ ((l : Lists) × Suits counts false r l) ∥₁ }
-        ensures refused { IfErr result (λ e. (e ≡ Refusal.Memory) × (0 < length next.laid.more.items) × (self.new ≡ self.old)) }
-        ensures next { IfOk result (λ from. (ls : List StandingLine) × ArePut width (live_lines self.old.shown) next.laid ls
-            × IsNext width next.kept (drop above.from (take above.to self.old.shown.lines)) ls self.new.shown
+        requires fits { CanPut width above self.old.shown laid }
+        requires suits { (r : Remembered) (ls : List StandingLine) → ArePut width (live_lines self.old.shown) laid ls →
+            IsNext width (kept_below laid.plan laid.blanks) (drop above.from (take above.to self.old.shown.lines)) ls r → ∥ ((l : Lists) × Suits next false r l) ∥₁ }
+        ensures refused { IfErr result (λ e. (e ≡ Refusal.Memory) × (0 < length laid.more.items) × (self.new ≡ self.old)) }
+        ensures next { IfOk result (λ from. (ls : List StandingLine) × ArePut width (live_lines self.old.shown) laid ls
+            × IsNext width (kept_below laid.plan laid.blanks) (drop above.from (take above.to self.old.shown.lines)) ls self.new.shown
             × (from ≤ length self.new.shown.lines) × (drop from self.new.shown.lines ≡ ls)) }
-        ensures made { IfOk result (λ _. (self.new.counts ≡ counts) × (self.new.failed ≡ false)) }
+        ensures made { IfOk result (λ _. (self.new.counts ≡ next) × (self.new.failed ≡ false)) }
         ensures terminal { engine_term self.new ≡ engine_term self.old }
         ensures moves { engine_moves self.new ≡ engine_moves self.old }
     {
         let from = above.to - above.from;
-        self.shown.put(&mut self.spare, above, next, width)?;
-        self.counts = counts;
+        self.shown.put(&mut self.spare, above, laid, width)?;
+        self.counts = next;
         self.failed = false;
         Ok(from)
+    }
+
+    /// Remembers the next counts, where all lines stay as they stand, and writes nothing.
+    fn rest(&mut self, next: Counts) -> Result<(), Refusal>
+        requires sound { self.old.failed ≡ false }
+        requires suits { ∥ ((l : Lists) × Suits next false self.old.shown l) ∥₁ }
+        ensures draws { Draws [] (T.view (engine_term self.old)) (T.view (engine_term self.new)) result }
+        ensures remembers { Remembers next self.old.shown result self.new }
+        ensures moves { engine_moves self.new ≡ engine_moves self.old }
+    {
+        self.counts = next;
+        let written = self.term.flush();
+        self.ended(written)
     }
 
     /// Writes this text, and the remembered lines behind the first `from`.
@@ -625,61 +626,81 @@ impl<T: Resize + Drop> Engine<T> {
 }
 
 /// What an engine knows of its rows before a drawing: their counts, whether a call has failed, whether lines are written over those that stand
-/// where they can be, and the columns of the terminal on which they are remembered.
+/// where they can be, the columns of the terminal on which they are remembered, and the rows of the lines that are drawn.
 #[derive(Clone, Copy)]
 struct Before {
     counts: Counts,
     failed: bool,
     moves: bool,
     width: usize,
+    rows: usize,
 }
 
 impl Before {
-    ghost use Rattle.indicatif_term.specs.Inside.Remembering.{HasRoom, CanMove};
+    ghost use Rattle.indicatif_term.specs.Inside.Remembering.{HasRoom, CanMove, Stands};
     ghost use Rattle.indicatif_term.specs.Inside.Writings.{IsChosen, whole_writing};
     ghost use Rattle.indicatif_term.specs.Inside.Changes.{placed_height};
     ghost use Rattle.indicatif_term.specs.Inside.Places.{IsWithin};
     ghost use Rattle.indicatif_term.specs.Standing.{placed};
 
+    /// Whether all live lines stand as they were laid out, and stay live, so that nothing is written.
+    fn stands(&self, next: &Counts, above: Span, laid: &Laid, live: &[StandingLine]) -> bool
+        ensures { IsTrue result → Stands self.now.counts self.now.failed self.now.width self.now.rows next.now above laid.now live.now }
+    {
+        if self.moves || self.failed || self.counts.below || next.below {
+            return false;
+        }
+        if self.rows != self.counts.live || self.width > 65535 || live.is_empty() {
+            return false;
+        }
+        if above.from > 0 || laid.at != live.len() || laid.plan.passing > 0 {
+            return false;
+        }
+        laid.changed.is_empty() && laid.more.is_empty()
+    }
+
     /// Whether lines can be written over the live rows by moves alone, if `set_move_cursor` was told so.
     fn can_move(&self, next: &Counts, lines: &[StandingLine], width: usize) -> bool
+        requires { self.now.rows ≡ placed_height (placed lines.now) }
         ensures { IsTrue result → CanMove self.now.counts self.now.failed self.now.width next.now width lines.now }
     {
         let live = self.counts.live;
         if !self.moves || self.failed || next.below || lines.is_empty() {
             return false;
         }
-        if self.counts.below != (live == 0) || height_of(lines) < live {
+        if self.counts.below != (live == 0) || self.rows < live {
             return false;
         }
-        if live > 0 && self.width != width || self.goes_further(lines) {
+        if live > 0 && self.width != width || self.goes_further() {
             return false;
         }
         are_even(lines, width)
     }
 
-    /// Whether lines take more rows than the live ones where anything may stand below.
-    fn goes_further(&self, lines: &[StandingLine]) -> bool
-        ensures { IsFalse result → IsTrue self.now.counts.under → min (placed_height (placed lines.now)) (2 ^ 64 - 1) ≤ self.now.counts.live }
+    /// Whether the lines take more rows than the live ones where anything may stand below.
+    fn goes_further(&self) -> bool
+        ensures { IsFalse result → IsTrue self.now.counts.under → self.now.rows ≤ self.now.counts.live }
     {
-        self.counts.under && height_of(lines) > self.counts.live
+        self.counts.under && self.rows > self.counts.live
     }
 
     /// How lines stand in the place of the live rows, if those that stay can be left; else all lines are painted.
     fn room_for(&self, next: &Counts, lines: &[StandingLine], width: usize) -> Option<Room>
+        requires { self.now.rows ≡ placed_height (placed lines.now) }
         ensures { IfSome result (λ room. HasRoom self.now.counts self.now.failed self.now.width next.now width lines.now × IsWithin lines.now self.now.counts.live room) }
     {
-        if self.failed || self.counts.below || next.below || self.goes_further(lines) {
+        if self.failed || self.counts.below || next.below || self.goes_further() {
             return None;
         }
         if self.width != width || width > 65535 {
             return None;
         }
-        lines_within(lines, self.counts.live)
+        lines_within(lines, self.rows, self.counts.live)
     }
 
     /// How the lines of a draw are written, which goes on with these counts: as `chosen` says.
     fn writing(&self, fresh: Fresh, next: &Counts, lines: &[StandingLine], width: usize) -> Writing
+        requires { self.now.rows ≡ placed_height (placed lines.now) }
         ensures { IsChosen self.now.counts self.now.failed self.now.width next.now lines.now
             (whole_writing self.now.counts self.now.failed fresh next.now width lines.now) result }
     {
@@ -698,6 +719,7 @@ impl Before {
 
     /// How lines are written that may be written whole: over the live rows, among those that stay, or whole.
     fn chosen(&self, whole: Writing, next: &Counts, lines: &[StandingLine]) -> Writing
+        requires { self.now.rows ≡ placed_height (placed lines.now) }
         ensures { IsChosen self.now.counts self.now.failed self.now.width next.now lines.now whole result }
     {
         if self.can_move(next, lines, whole.width) {

@@ -1,5 +1,5 @@
 -- A frame laid out beside the lines that stand.
-use Rattle.std.specs.Prelude.{◌≡◌, ℕ, ◌+◌, ◌-◌, ◌<◌, ◌≤◌, ◌^◌, min, max, false, Bool, IsTrue, IsFalse, List, [], ◌++◌, map, length, take, drop, get_or, replicate, Result, MatchResult}
+use Rattle.std.specs.Prelude.{◌≡◌, ℕ, ◌+◌, ◌-◌, ◌<◌, ◌≤◌, ◌^◌, min, max, false, Bool, IsTrue, IsFalse, List, [], ◌∷◌, ◌++◌, chars, map, length, take, drop, get_or, replicate, Result, MatchResult}
 use Rattle.std.specs.List.{AllByRecursion}
 use Rattle.indicatif_text.specs.Columns.{Cell, has_wide, rows_of, last_columns}
 use Rattle.indicatif_text.specs.declared.refusal.Refusal.{Refusal}
@@ -18,10 +18,12 @@ use Rattle.indicatif_term.specs.Inside.Renewed.{AreFitting, renewed}
 use Rattle.indicatif_term.specs.Standing.{placed, texts, standing_rows, AreLines, AreReady}
 use Rattle.indicatif_term.specs.declared.engine.comparing.Turn.{Turn}
 use Rattle.indicatif_term.specs.declared.engine.layout.Laid.{Laid}
+use Rattle.indicatif_term.specs.declared.engine.layout.OwnLine.{OwnLine}
 use Rattle.indicatif_term.specs.declared.engine.layout.Planned.{Planned}
 use Rattle.indicatif_term.specs.declared.engine.lines.Segment.{Segment}
 use Rattle.indicatif_term.specs.declared.engine.parting.Step.TheVariants.{Whole}
 use Rattle.indicatif_term.specs.declared.engine.remembered.Remembered.{Remembered}
+use Rattle.indicatif_term.specs.declared.engine.remembered.Span.{Span}
 use Rattle.indicatif_term.specs.declared.engine.remembered.StandingLine.{StandingLine}
 
 -- a line of these characters agrees with its measures
@@ -78,6 +80,23 @@ pub record IsLaid (w h : ℕ) (on : List StandingLine) (before : List (List ℕ)
   pub measured : AreLines w l.more.items
   pub whole : AreWhole l.more.items
 
+-- lines with these bytes, characters, bars and rows, laid out behind those before them
+pub record IsLaidOn (w h : ℕ) (on : List StandingLine) (texts lines : List (List ℕ)) (bars : List BarRows) (old new : Laid) : Type 0 where
+  pub summed : IsSummed h new.plan
+  pub passing_same : new.plan.passing ≡ old.plan.passing
+  pub blanks_same : new.blanks ≡ old.blanks
+  pub narrow : IsFalse (some_wide w lines)
+  pub laid : (before : List (List ℕ)) (all : List BarRows) → IsLaid w h on before all old → IsLaid w h on (before ++ texts) (all ++ bars) new
+
+-- these lines, or why they aren't
+abbrev pub LaidOn : ℕ → ℕ → List StandingLine → List (List ℕ) → List (List ℕ) → List BarRows → Laid → Laid → Result Unit Refusal → Type 0
+LaidOn w h on texts lines bars old new result = MatchResult result (λ _. IsLaidOn w h on texts lines bars old new) (λ e. IsWithheld w lines e)
+
+-- one line of a bar, or why it isn't
+abbrev pub LineLaidOn : ℕ → ℕ → List StandingLine → OwnLine → Laid → Laid → Result Unit Refusal → Type 0
+LineLaidOn w h on own old new result =
+    LaidOn w h on (own.text.now ∷ []) (chars own.text.now ∷ []) (record { bar = own.bar; rows = rows_of w (chars own.text.now) } ∷ []) old new result
+
 -- a frame laid out, with the first `pass` members dropped
 pub record IsFrameLaid (w h pass : ℕ) (on : List StandingLine) (frame : List Segment) (l : Laid) : Type 0 where
   pub narrow : IsFalse (some_wide w (all_lines (map bar_lines frame)))
@@ -118,3 +137,13 @@ pub record ArePut (w : ℕ) (on : List StandingLine) (l : Laid) (ls : List Stand
   pub right : AreLines w ls
   pub ready : AreReady ls
   pub sits : (looks : List (List Cell)) → (0 < l.at → looks ≡ looks_of (standing_rows w on)) → AreSitting w looks (placed ls)
+
+-- a frame can be put in the place of the live lines of these, below some others of them
+pub record CanPut (w : ℕ) (above : Span) (r : Remembered) (l : Laid) : Type 0 where
+  pub within : above.to + l.at ≤ length r.lines
+  pub known : 0 < l.at → (r.width ≡ w) × (above.to ≡ r.kept)
+  pub kept : l.blanks + l.plan.passing ≤ l.at + length l.more.items
+  pub fit : AreFitting w (live_lines r) l.at l.changed.items
+  pub right : AreLines w (drop above.from (take above.to r.lines))
+  pub more : AreLines w l.more.items
+  pub whole : AreWhole l.more.items

@@ -85,10 +85,18 @@ impl Room {
     }
 }
 
-/// The room of the lines from the front that take at most `rows` rows, if any does; the others stand below these rows.
-pub fn lines_within(lines: &[StandingLine], rows: usize) -> Option<Room>
+/// The room of the lines from the front that take at most `rows` rows, if any does; the others stand below these rows. All take `height`.
+pub fn lines_within(lines: &[StandingLine], height: usize, rows: usize) -> Option<Room>
+    requires { height ≡ placed_height (placed lines.now) }
     ensures { IfSome result (λ room. IsWithin lines.now rows room) }
 {
+    if height <= rows {
+        let room = Room {
+            lines: lines.len(),
+            free: rows - height,
+        };
+        return room.with_some();
+    }
     let mut room = Room {
         lines: 0,
         free: rows,
@@ -135,38 +143,9 @@ pub fn below_blanks(spare: &mut Spare, laid: Laid, blanks: usize) -> Result<Laid
     ensures laid { (w h pass : ℕ) (on : List StandingLine) (frame : List Segment) → IsFrameLaid w h pass [] frame laid → laid.blanks ≡ 0 →
         IfOk result (λ l. IsFrameLaid w h pass on frame l) }
 {
-    let Laid {
-        plan,
-        blanks: _,
-        at,
-        changed,
-        more,
-    } = laid;
-    let more = behind_blanks(spare, blanks, more)?;
-    Ok(Laid {
-        plan,
-        blanks,
-        at,
-        changed,
-        more,
-    })
-}
-
-/// `blanks` blank lines, and the lines of a drawing below them.
-fn behind_blanks(
-    spare: &mut Spare,
-    blanks: usize,
-    lines: Vec<StandingLine>,
-) -> Result<Vec<StandingLine>, Refusal>
-    ensures memory { IfErr result (λ e. (e ≡ Refusal.Memory) × (0 < blanks)) }
-    ensures texts { IfOk result (λ ls. texts ls.items ≡ replicate blanks [] ++ texts lines.items) }
-    ensures counts { IfOk result (λ ls. line_counts ls.items ≡ replicate blanks blank_count ++ line_counts lines.items) }
-    ensures right { (w : ℕ) → AreLines w lines.items → IfOk result (λ ls. AreLines w ls.items) }
-    ensures whole { AreWhole lines.items → IfOk result (λ ls. AreWhole ls.items) }
-{
-    let mut lines = lines;
+    let mut laid = laid;
     for _ in 0..blanks {
-        lines.push(StandingLine {
+        laid.more.push(StandingLine {
             bar: 0,
             text: spare.take_text(),
             before: spare.no_text(),
@@ -177,6 +156,7 @@ fn behind_blanks(
             step: Step::Whole,
         })?;
     }
-    lines.rotate_right(blanks);
-    Ok(lines)
+    laid.more.rotate_right(blanks);
+    laid.blanks = blanks;
+    Ok(laid)
 }

@@ -6,7 +6,7 @@ ghost use Rattle.indicatif_term.specs.Frames.{bar_lines, line_text, all_lines, s
 ghost use Rattle.indicatif_term.specs.Standing.{placed, IsLine, AreLines};
 ghost use Rattle.indicatif_term.specs.Inside.Changes.{placed_height};
 ghost use Rattle.indicatif_term.specs.Inside.Plans.{IsSummed, IsWithheld, MeasuredLine, MeasuredText, text_above};
-ghost use Rattle.indicatif_term.specs.Inside.Layouts.{IsSized, IsBeside, AreBlank, own_lines, IsLaid, IsFrameLaid, FrameLaid, PlannedFor};
+ghost use Rattle.indicatif_term.specs.Inside.Layouts.{IsSized, IsBeside, AreBlank, own_lines, LaidOn, LineLaidOn, IsFrameLaid, FrameLaid, PlannedFor};
 ghost use Rattle.indicatif_term.specs.Remembered.{live_lines};
 ghost use Rattle.indicatif_term.specs.Counts.{line_counts};
 ghost use Rattle.indicatif_term.specs.Inside.Owned.{run_length, through, kept_below, no_plan};
@@ -75,19 +75,14 @@ pub struct Laid {
     pub more: Vec<StandingLine>,
 }
 
-/// What is asked of a drawing: a text that is logged, if any is, and bars below it, of which the first `pass` are dropped.
+/// What is asked of a drawing: bars, of which the first `pass` are dropped, in the place of what stands.
 #[derive(Clone, Copy)]
 pub struct Asked<'a> {
-    pub text: Option<&'a str>,
     pub frame: &'a [Segment],
     pub pass: usize,
     /// Whether blank rows above the bars fill the rows that are taken back.
     pub bottom: bool,
-}
-
-/// The lines that are remembered of a terminal, how many blank ones are the first live ones, and how many rows are taken back.
-#[derive(Clone, Copy)]
-pub struct Last<'a> {
+    /// The lines that are remembered of the terminal, how many blank ones are the first live ones, and how many rows are taken back.
     pub shown: &'a Remembered,
     pub blanks: usize,
     pub taken: usize,
@@ -102,38 +97,42 @@ pub struct Planned {
     pub laid: Laid,
 }
 
-/// Measures what is to be written on a terminal, a frame beside the lines that are remembered of it, unless a text comes above them. New
-/// texts stand in spare room.
+/// Measures what is to be written on a terminal: a text that is logged, if any is, and a frame, beside the lines that are remembered of the
+/// terminal, unless the text comes above it. New texts stand in spare room.
 pub fn plan_drawing<T: TermLike>(
     term: &T,
     spare: &mut Spare,
-    last: Last<'_>,
+    text: Option<&str>,
     asked: Asked<'_>,
 ) -> Result<Planned, Refusal>
-    ensures planned { PlannedFor (T.view term.now) asked.entry.pass asked.entry.bottom (text_above asked.entry.text) asked.entry.frame.now last.entry.taken last.entry.shown.now result }
+    ensures planned { PlannedFor (T.view term.now) asked.entry.pass asked.entry.bottom (text_above text.entry) asked.entry.frame.now asked.entry.taken asked.entry.shown.now result }
     ensures memory { result ≡ Err Refusal.Memory →
         (0 < (T.view term.now).columns) × (0 < length (all_lines (map bar_lines asked.entry.frame.now))) }
 {
     let window = Window::of(term)?;
-    let text = metrics_above(asked.text, window)?;
-    let beside = beside_of(last, asked, window);
+    let metrics = metrics_above(text, window)?;
+    let beside = beside_of(text, asked, window);
     let laid = lay_frame(spare, beside, asked, window)?;
-    let free = last.taken.saturating_sub(text.height);
+    let free = asked.taken.saturating_sub(metrics.height);
     let blanks = blanks_of(asked.bottom, free, laid.plan.rows);
     let laid = with_blanks(spare, laid, blanks, asked, window)?;
-    Ok(Planned { window, text, laid })
+    Ok(Planned {
+        window,
+        text: metrics,
+        laid,
+    })
 }
 
 /// What stands beside a frame; nothing where a text comes above it.
-fn beside_of<'a>(last: Last<'a>, asked: Asked<'_>, window: Window) -> Beside<'a>
+fn beside_of<'a>(text: Option<&str>, asked: Asked<'a>, window: Window) -> Beside<'a>
     ensures right { AreLines window.columns result.lines.now }
     ensures blank { AreBlank result.blanks result.lines.now }
-    ensures live { (result.lines.now ≡ []) ⊎ ((last.entry.shown.now.width ≡ window.columns) × (result.lines.now ≡ live_lines last.entry.shown.now)) }
-    ensures nothing { 0 < length (text_above asked.entry.text) → result.lines.now ≡ [] }
+    ensures live { (result.lines.now ≡ []) ⊎ ((asked.entry.shown.now.width ≡ window.columns) × (result.lines.now ≡ live_lines asked.entry.shown.now)) }
+    ensures nothing { 0 < length (text_above text.entry) → result.lines.now ≡ [] }
 {
-    match asked.text {
+    match text {
         Some(_) => Beside::nothing(),
-        None => last.shown.beside(window.columns, last.blanks),
+        None => asked.shown.beside(window.columns, asked.blanks),
     }
 }
 
@@ -224,11 +223,8 @@ fn lay_member(
 ) -> Result<(), Refusal>
     requires summed { IsSummed window.rows laid.old.plan }
     requires standing { AreLines window.columns standing.now }
-    ensures summed { IfOk result (λ _. IsSummed window.rows laid.new.plan) }
-    ensures same { (laid.new.plan.passing ≡ laid.old.plan.passing) × (laid.new.blanks ≡ laid.old.blanks) }
-    ensures refused { MatchResult result (λ _. IsFalse (some_wide window.columns (bar_lines member.now).lines)) (λ e. IsWithheld window.columns (bar_lines member.now).lines e) }
-    ensures laid { (before : List (List ℕ)) (bars : List BarRows) → IsLaid window.columns window.rows standing.now before bars laid.old →
-        IfOk result (λ _. IsLaid window.columns window.rows standing.now (before ++ map line_text member.now.lines.items) (bars ++ lines_of window.columns (bar_lines member.now ∷ [])) laid.new) }
+    ensures laid { LaidOn window.columns window.rows standing.now (map line_text member.now.lines.items) (bar_lines member.now).lines
+        (lines_of window.columns (bar_lines member.now ∷ [])) laid.old laid.new result }
     ensures memory { result ≡ Err Refusal.Memory → 0 < length (bar_lines member.now).lines }
 {
     for line in &member.lines {
@@ -243,12 +239,12 @@ fn lay_member(
 
 /// A line with its bar.
 #[derive(Clone, Copy)]
-struct OwnLine<'a> {
-    bar: u64,
-    text: &'a str,
+pub struct OwnLine<'a> {
+    pub bar: u64,
+    pub text: &'a str,
 }
 
-/// Lays out one more line of a bar: in the place of the one that stands there, or below.
+/// Lays out one more line of a bar: where it stands already, or as a new one.
 fn lay_line(
     laid: &mut Laid,
     spare: &mut Spare,
@@ -258,53 +254,15 @@ fn lay_line(
 ) -> Result<(), Refusal>
     requires summed { IsSummed window.rows laid.old.plan }
     requires standing { AreLines window.columns standing.now }
-    ensures summed { IfOk result (λ _. IsSummed window.rows laid.new.plan) }
-    ensures same { (laid.new.plan.passing ≡ laid.old.plan.passing) × (laid.new.blanks ≡ laid.old.blanks) }
-    ensures refused { MatchResult result (λ _. IsFalse (has_wide window.columns (chars own.entry.text.now))) (λ e. IsWithheld window.columns (chars own.entry.text.now ∷ []) e) }
-    ensures laid { (before : List (List ℕ)) (bars : List BarRows) → IsLaid window.columns window.rows standing.now before bars laid.old →
-        IfOk result (λ _. IsLaid window.columns window.rows standing.now (before ++ own.entry.text.now ∷ [])
-        (bars ++ record { bar = own.entry.bar; rows = rows_of window.columns (chars own.entry.text.now) } ∷ []) laid.new) }
+    ensures laid { LineLaidOn window.columns window.rows standing.now own.entry laid.old laid.new result }
 {
-    if stays(laid, standing, own, window) {
-        return Ok(());
-    }
-    match next_beside(laid, standing, own.bar, window) {
-        Some(place) => lay_in_place(laid, spare, place, own, window),
-        None => {
-            let turn = measure(own.text, window)?;
-            lay_below(laid, spare, own, turn, window)
+    if let Some(line) = next_beside(laid, standing, own.bar, window) {
+        if line.text.as_str() == own.text {
+            go_on(laid, line.rows);
+            return Ok(());
         }
     }
-}
-
-/// Whether a line stands already where it is to stand; then it is laid out there.
-fn stays(laid: &mut Laid, standing: &[StandingLine], own: OwnLine<'_>, window: Window) -> bool
-    requires summed { IsSummed window.rows laid.old.plan }
-    requires standing { AreLines window.columns standing.now }
-    ensures summed { IsSummed window.rows laid.new.plan }
-    ensures same { (laid.new.plan.passing ≡ laid.old.plan.passing) × (laid.new.blanks ≡ laid.old.blanks) }
-    ensures none { IsFalse result → laid.new ≡ laid.old }
-    ensures narrow { IsTrue result → IsFalse (has_wide window.columns (chars own.entry.text.now)) }
-    ensures laid { IsTrue result → (before : List (List ℕ)) (bars : List BarRows) → IsLaid window.columns window.rows standing.now before bars laid.old →
-        IsLaid window.columns window.rows standing.now (before ++ own.entry.text.now ∷ [])
-        (bars ++ record { bar = own.entry.bar; rows = rows_of window.columns (chars own.entry.text.now) } ∷ []) laid.new }
-{
-    let Some(place) = next_beside(laid, standing, own.bar, window) else {
-        return false;
-    };
-    let line = place.line;
-    if line.text.as_str() == own.text {
-        go_on(laid, line.rows);
-        return true;
-    }
-    false
-}
-
-/// A line that stands, and whether it is the last one.
-#[derive(Clone, Copy)]
-pub struct Occupied<'a> {
-    pub line: &'a StandingLine,
-    pub is_last: bool,
+    lay_new(laid, spare, standing, own, window)
 }
 
 /// The line that stands where the next one of this bar is to stand, if it is of the same bar, its rows fit, and all lines before it keep their
@@ -314,9 +272,9 @@ fn next_beside<'a>(
     standing: &'a [StandingLine],
     bar: u64,
     window: Window,
-) -> Option<Occupied<'a>>
+) -> Option<&'a StandingLine>
     requires { IsSummed window.rows laid.now.plan }
-    ensures { IfSome result (λ p. IsBeside window.rows standing.now laid.now bar p.line.now) }
+    ensures { IfSome result (λ line. IsBeside window.rows standing.now laid.now bar line.now) }
 {
     let at = laid.at;
     if !laid.more.is_empty() || laid.plan.full || at >= standing.len() {
@@ -326,45 +284,39 @@ fn next_beside<'a>(
     if line.bar != bar || window.rows - laid.plan.rows < line.rows {
         return None;
     }
-    Some(Occupied {
-        line,
-        is_last: at + 1 == standing.len(),
-    })
+    Some(line)
 }
 
-/// Lays out a line where another stands: in its place if it has as many rows, else below.
-fn lay_in_place(
+/// Lays out a new line: in the place of the one that stands there, if it has as many rows, else below.
+#[inline(never)]
+fn lay_new(
     laid: &mut Laid,
     spare: &mut Spare,
-    place: Occupied<'_>,
+    standing: &[StandingLine],
     own: OwnLine<'_>,
     window: Window,
 ) -> Result<(), Refusal>
     requires summed { IsSummed window.rows laid.old.plan }
-    requires line { IsLine window.columns place.line.now }
-    requires fits { place.line.now.rows ≤ window.rows - laid.old.plan.rows }
-    requires room { laid.old.at < 2 ^ 64 - 1 }
-    ensures summed { IfOk result (λ _. IsSummed window.rows laid.new.plan) }
-    ensures same { (laid.new.plan.passing ≡ laid.old.plan.passing) × (laid.new.blanks ≡ laid.old.blanks) }
-    ensures refused { MatchResult result (λ _. IsFalse (has_wide window.columns (chars own.entry.text.now))) (λ e. IsWithheld window.columns (chars own.entry.text.now ∷ []) e) }
-    ensures laid { (on : List StandingLine) (before : List (List ℕ)) (bars : List BarRows) → IsBeside window.rows on laid.old own.entry.bar place.entry.line.now →
-        IsLaid window.columns window.rows on before bars laid.old →
-        IfOk result (λ _. IsLaid window.columns window.rows on (before ++ own.entry.text.now ∷ [])
-        (bars ++ record { bar = own.entry.bar; rows = rows_of window.columns (chars own.entry.text.now) } ∷ []) laid.new) }
+    requires standing { AreLines window.columns standing.now }
+    ensures laid { LineLaidOn window.columns window.rows standing.now own.entry laid.old laid.new result }
 {
-    let rows = place.line.rows;
-    let turn = compare(place.line, own.text, window, place.is_last)?;
-    if turn.rows != rows {
+    let Some(line) = next_beside(laid, standing, own.bar, window) else {
+        let turn = measure(own.text, window)?;
+        return lay_below(laid, spare, own, turn, window);
+    };
+    let waits = laid.at + 1 == standing.len();
+    let turn = compare(line, own.text, window, waits)?;
+    if turn.rows != line.rows {
         return lay_below(laid, spare, own, turn, window);
     }
     let text = spare.copied(own.text)?;
-    let line = NewLine {
+    let new = NewLine {
         at: laid.at,
         text,
         turn,
     };
-    laid.changed.push(line)?;
-    go_on(laid, rows);
+    laid.changed.push(new)?;
+    go_on(laid, turn.rows);
     Ok(())
 }
 
@@ -390,12 +342,7 @@ fn lay_below(
 ) -> Result<(), Refusal>
     requires summed { IsSummed window.rows laid.old.plan }
     requires sized { IsSized window.columns (chars own.text.now) turn }
-    ensures memory { IfErr result (λ e. e ≡ Refusal.Memory) }
-    ensures summed { IfOk result (λ _. IsSummed window.rows laid.new.plan) }
-    ensures same { (laid.new.plan.passing ≡ laid.old.plan.passing) × (laid.new.blanks ≡ laid.old.blanks) }
-    ensures laid { (on : List StandingLine) (before : List (List ℕ)) (bars : List BarRows) → IsLaid window.columns window.rows on before bars laid.old →
-        IfOk result (λ _. IsLaid window.columns window.rows on (before ++ own.entry.text.now ∷ [])
-        (bars ++ record { bar = own.entry.bar; rows = rows_of window.columns (chars own.entry.text.now) } ∷ []) laid.new) }
+    ensures laid { (on : List StandingLine) → LineLaidOn window.columns window.rows on own.entry laid.old laid.new result }
 {
     if laid.plan.full || window.rows - laid.plan.rows < turn.rows {
         laid.plan.full = true;

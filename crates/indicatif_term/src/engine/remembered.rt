@@ -38,14 +38,6 @@ pub struct Span {
     pub ghost some: { from ≤ to },
 }
 
-/// A frame that is to stand beside the live lines, and how many of its lines, from the front, become kept ones.
-#[derive(Drop)]
-pub struct NextLines {
-    pub laid: Laid,
-    pub kept: usize,
-    pub ghost within: { kept ≤ laid.at + length laid.more.items },
-}
-
 /// Lines that stand on a terminal one below another. Contracts see nothing of their room.
 #[derive(Drop)]
 pub struct StandingLines {
@@ -113,9 +105,7 @@ impl StandingLines {
         if self.lines.reserve(more.len()).is_err() {
             return Err(Refusal::Memory);
         }
-        spare.store_behind(&mut self.lines, stays.to);
-        self.lines.rotate_left(stays.from);
-        spare.store_behind(&mut self.lines, stays.to - stays.from);
+        spare.store_around(&mut self.lines, stays);
         put_new(&mut self.lines[first..], spare, changed);
         let _ = self.lines.append(&mut more);
         spare.store_lines(more);
@@ -141,8 +131,8 @@ impl Remembered {
     ghost use Rattle.indicatif_term.specs.Lists.{Lists};
     ghost use Rattle.indicatif_term.specs.Remembered.{AreRemembered, live_lines};
     ghost use Rattle.indicatif_term.specs.Inside.Remembering.{StandAbove, IsNext, IsNothing};
-    ghost use Rattle.indicatif_term.specs.Inside.Renewed.{AreFitting};
-    ghost use Rattle.indicatif_term.specs.Inside.Layouts.{AreBlank, AreWhole, ArePut};
+    ghost use Rattle.indicatif_term.specs.Inside.Owned.{kept_below};
+    ghost use Rattle.indicatif_term.specs.Inside.Layouts.{AreBlank, ArePut, CanPut};
 
     /// No line is remembered.
     pub fn nothing(alloc: Global) -> Remembered
@@ -244,20 +234,17 @@ impl Remembered {
         &mut self,
         spare: &mut Spare,
         above: Span,
-        next: NextLines,
+        laid: Laid,
         width: usize,
     ) -> Result<(), Refusal>
         requires some { 0 < width }
-        requires within { above.to + next.laid.at ≤ length self.old.lines }
-        requires known { 0 < next.laid.at → (self.old.width ≡ width) × (above.to ≡ self.old.kept) }
-        requires fit { AreFitting width (live_lines self.old) next.laid.at next.laid.changed.items }
-        requires right { AreLines width (drop above.from (take above.to self.old.lines)) }
-        requires more { AreLines width next.laid.more.items × AreWhole next.laid.more.items }
-        ensures refused { IfErr result (λ e. (e ≡ Refusal.Memory) × (0 < length next.laid.more.items) × (self.new ≡ self.old)) }
-        ensures next { IfOk result (λ _. (ls : List StandingLine) × ArePut width (live_lines self.old) next.laid ls
-            × IsNext width next.kept (drop above.from (take above.to self.old.lines)) ls self.new) }
+        requires fits { CanPut width above self.old laid }
+        ensures refused { IfErr result (λ e. (e ≡ Refusal.Memory) × (0 < length laid.more.items) × (self.new ≡ self.old)) }
+        ensures next { IfOk result (λ _. (ls : List StandingLine) × ArePut width (live_lines self.old) laid ls
+            × IsNext width (kept_below laid.plan laid.blanks) (drop above.from (take above.to self.old.lines)) ls self.new) }
     {
-        let NextLines { laid, kept } = next;
+        let plan = laid.plan;
+        let blanks = laid.blanks;
         let stays = Span {
             from: above.from,
             to: above.to + laid.at,
@@ -265,7 +252,7 @@ impl Remembered {
         let first = above.to - above.from;
         self.lines.put(spare, stays, first, laid)?;
         self.width = width;
-        self.kept = first + kept;
+        self.kept = first + plan.kept_below(blanks);
         Ok(())
     }
 }

@@ -1,8 +1,8 @@
 //! Room that was taken before.
-ghost use Rattle.std.specs.Prelude.{◌≡◌, [], take, vec_capacity, string_bytes, IfOk, IfErr};
+ghost use Rattle.std.specs.Prelude.{◌≡◌, ◌≤◌, [], length, take, drop, vec_capacity, string_bytes, IfOk, IfErr};
 
 use crate::engine::layout::Laid;
-use crate::engine::remembered::StandingLine;
+use crate::engine::remembered::{Span, StandingLine};
 use crate::engine::renewed::NewLine;
 use indicatif_text::columns::Refusal;
 use std::alloc::Global;
@@ -157,5 +157,19 @@ impl Spare {
                 self.store_both(line);
             }
         }
+    }
+
+    /// Takes the lines before and behind some away, and keeps the room of their texts as spare.
+    pub fn store_around(&mut self, lines: &mut Vec<StandingLine>, stays: Span)
+        requires { stays.to ≤ length lines.old.items }
+        ensures lines { lines.new.items ≡ drop stays.from (take stays.to lines.old.items) }
+        ensures room { vec_capacity lines.new ≡ vec_capacity lines.old }
+    {
+        self.store_behind(lines, stays.to);
+        if stays.from == 0 {
+            return;
+        }
+        lines.rotate_left(stays.from);
+        self.store_behind(lines, stays.to - stays.from);
     }
 }

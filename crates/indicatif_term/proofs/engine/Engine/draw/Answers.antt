@@ -1,91 +1,44 @@
-use Rattle.std.proofs.Common.{map, arith, ◌∙◌, ◌≡◌, ◌≤◌, ◌+◌, refl, [], ◌++◌, replicate, take, drop, sym, ap, subst}
+use Rattle.std.proofs.Common.{map, arith, ◌∙◌, ◌≡◌, ◌<◌, ◌≤◌, ◌+◌, refl, [], ◌++◌, replicate, take, drop, sym, ap, subst}
 use Rattle.std.proofs.Math.Logic.{∥∥₁_map}
 use Rattle.indicatif_term.specs.Inside.Remembering.{Draws}
 use Rattle.indicatif_term.specs.Lists.{Lists, drawn, blanks_for}
 use Rattle.indicatif_term.specs.Counts.{CountsOf}
-use Rattle.indicatif_term.specs.Standing.{texts, AreLines}
+use Rattle.indicatif_term.specs.Standing.{placed, texts, AreLines}
 use Rattle.indicatif_term.specs.Remembered.{live_lines}
 use Rattle.indicatif_term.specs.Inside.Writings.{CanWrite, writing_bytes, whole_writing}
 use Rattle.indicatif_term.specs.Inside.Plans.{frame_lines}
-use Rattle.indicatif_term.specs.Inside.Renewed.{AreFitting}
 use Rattle.indicatif_term.specs.Frames.{bar_lines, is_fault}
 use Rattle.indicatif_term.specs.Engines.{engine_term, Fits, Paints, is_failure, lists_after}
 use Rattle.indicatif_term.specs.DrawTargets.{is_bottom}
-use Rattle.indicatif_term.proofs.OwnedLemmas.{passing_within, kept_in}
+use Rattle.indicatif_term.specs.Inside.Changes.{placed_height}
 use Rattle.indicatif_term.proofs.LastLineLemmas.{fill_bytes}
 use Rattle.indicatif_term.proofs.DrawingLemmas.{drawn-adds, drawn-known, drawn-sound}
 use Rattle.indicatif_term.proofs.LineEndLemmas.{draw_fill}
-use Rattle.indicatif_term.proofs.LaidLemmas.{own_count, stays_within, put_sits}
+use Rattle.indicatif_term.proofs.LaidLemmas.{own_count, can_be_put, put_height, put_sits}
 use Rattle.indicatif_term.proofs.EngineLemmas.{paints_refused, paints_by, fits_counts, fits_failed, fits_forgets, fits_by, fits_shown}
 use Rattle.indicatif_term.proofs.SkippingLemmas.{drawn_shown, drawn_suits, counted_by, some_lines, counted_refused, fits_refused}
-use Rattle.indicatif_term.proofs.ChosenLemmas.{chosen_can, chosen_draws}
+use Rattle.indicatif_term.proofs.ChosenLemmas.{chosen_can, chosen_draws, still_draws, still_writing}
+use Rattle.indicatif_term.proofs.StillLemmas.{left, is_still}
 use Rattle.indicatif_term.proofs.engine.Engine.draw.Goals as goal
 
 pub returns-in_err-planned-clause-paints : goal.returns-in_err-planned-clause-paints
 returns-in_err-planned-clause-paints g c = λ l fits plain. paints_refused _ c.from_residual.result c.in_err-planned.field-0.0 l _ c.from_residual.ensures.1 c.in_err-planned.ensures.planned.0
 
-pub kept_below-kept-requires : goal.kept_below-kept-requires
-kept_below-kept-requires g c =
+pub store-requires-clause-fits : goal.store-requires-clause-fits
+store-requires-clause-fits g c =
     let s = g.T.TermLike.view (engine_term c.args.self.now) in
     let p = c.in_ok-planned.ensures.planned in
-    let f = p.frame_is in
-    let counts = c.args.self.now.counts in
-    let fits : counts.kept + counts.live ≤ counts.reached = counts.fits in
-    let small : counts.reached ≤ 65535 = counts.small in
-    let high : c.in_ok-planned.planned.window.rows ≤ 65535 = c.in_ok-planned.planned.window.small in
-    omega (
-      arith,
-      p.blank_room,
-      passing_within s.columns s.rows c.args.pass (map bar_lines c.args.frame.now) c.in_ok-planned.planned.laid.plan f.plan_is,
-      f.is_summed.lines_fit,
-      f.is_summed.fit,
-      p.rows_are,
-      high,
-      fits,
-      small,
-    )
+    can_be_put c.in_ok-planned.planned.window.columns s.columns s.rows c.args.pass c.above-above.result c.args.self.now.shown c.args.frame.now c.in_ok-planned.planned.laid p.columns_are
+    c.above-above.ensures.within (λ some. let same = p.known some ∙ sym p.columns_are in (same, c.above-above.ensures.known same))
+    (c.above-above.ensures.right c.in_ok-planned.planned.window.some) p.frame_is
 
-pub invariant_of-next : goal.invariant_of-next
-invariant_of-next g c =
+pub writing-writing-requires : goal.writing-writing-requires
+writing-writing-requires g c =
     let s = g.T.TermLike.view (engine_term c.args.self.now) in
-    let f = c.in_ok-planned.ensures.planned.frame_is in
+    let x = c.in_ok-from.ensures.next in
     let l = c.in_ok-planned.planned.laid in
-    record {
-      within = omega (
-        arith,
-        c.kept_below-kept.ensures,
-        kept_in l.plan l.blanks,
-        passing_within s.columns s.rows c.args.pass (map bar_lines c.args.frame.now) l.plan f.plan_is,
-        own_count s.columns s.rows (live_lines c.args.self.now.shown) _ _ l f.is_laid,
-      );
-    }
-
-pub store-requires-clause-within : goal.store-requires-clause-within
-store-requires-clause-within g c =
-    let p = c.in_ok-planned.ensures.planned in
-    let l = c.in_ok-planned.planned.laid in
-    stays_within l.at c.above-above.result.to c.args.self.now.shown c.above-above.ensures.within (λ some. c.above-above.ensures.known (p.known some ∙ sym p.columns_are)) p.frame_is.is_laid.at_in
-
-pub store-requires-clause-known : goal.store-requires-clause-known
-store-requires-clause-known g c = λ some.
-    let p = c.in_ok-planned.ensures.planned in
-    let known = p.known some ∙ sym p.columns_are in
-    (known, c.above-above.ensures.known known)
-
-pub store-requires-clause-fit : goal.store-requires-clause-fit
-store-requires-clause-fit g c =
-    let p = c.in_ok-planned.ensures.planned in
-    let l = c.in_ok-planned.planned.laid in
-    subst (λ n. AreFitting n (live_lines c.args.self.now.shown) l.at l.changed.items) (sym p.columns_are) p.frame_is.is_laid.fit
-
-pub store-requires-clause-right : goal.store-requires-clause-right
-store-requires-clause-right g c = c.above-above.ensures.right c.in_ok-planned.planned.window.some
-
-pub store-requires-clause-more : goal.store-requires-clause-more
-store-requires-clause-more g c =
-    let p = c.in_ok-planned.ensures.planned in
-    let o = p.frame_is.is_laid in
-    (subst (λ n. AreLines n c.in_ok-planned.planned.laid.more.items) (sym p.columns_are) o.measured, o.whole)
+    put_height c.in_ok-planned.planned.window.columns s.columns s.rows (live_lines c.args.self.now.shown) x.0 _ _ l c.in_ok-planned.ensures.planned.frame_is.is_laid x.1
+    ∙ ap (λ ls. placed_height (placed ls)) (sym (c.behind.ensures ∙ x.4))
 
 pub returns-in_err-from-clause-memory : goal.returns-in_err-from-clause-memory
 returns-in_err-from-clause-memory g c = λ e.
@@ -131,10 +84,10 @@ store-requires-clause-suits g c = λ r ls put is.
     let none : c.in_ok-planned.planned.text.height ≡ 0 = omega (arith, p.height_is) in
     let blanks : l.blanks ≡ blanks_for bottom old.live 0 l.plan.rows = (rw c.is_bottom.ensures at p.blanks_are) ∙ ap (λ n. blanks_for bottom old.live n l.plan.rows) none in
     let kept = drop c.above-above.result.from (take c.above-above.result.to c.args.self.now.shown.lines) in
-    let next = λ (x : Lists) (q : CountsOf old x). rw p.rows_are at (c.drawn-counts.ensures s.columns c.args.pass bottom frame x q (rw (← p.rows_are) at f.plan_is) blanks) in
+    let next = λ (x : Lists) (q : CountsOf old x). rw p.rows_are at (c.drawn-next.ensures s.columns c.args.pass bottom frame x q (rw (← p.rows_are) at f.plan_is) blanks) in
     ∥∥₁_map c.args.self.now.some (λ x. (
       drawn s.columns s.rows bottom c.args.pass frame x.0,
-      drawn_suits win.columns s.columns s.rows c.args.pass l.blanks bottom c.args.frame.now x.0 old c.drawn-counts.result l.plan kept ls o.counts r p.columns_are (rw c.kept_below-kept.ensures at is)
+      drawn_suits win.columns s.columns s.rows c.args.pass l.blanks bottom c.args.frame.now x.0 old c.drawn-next.result l.plan kept ls o.counts r p.columns_are is
           x.1.counted f.plan_is blanks (put.texts_are ∙ o.texts_are) (put.counts_are ∙ o.counts_are) o.laid.counts_are put.right
           (c.above-above.ensures.above x.0 win.some x.1.remembered) (next x.0 x.1.counted),
     ))
@@ -145,9 +98,9 @@ write-requires-clause-can g c =
     let x = c.in_ok-from.ensures.next in
     let ls = x.0 in
     let lines = c.behind.ensures ∙ x.4 in
-    let whole = whole_writing e.counts e.failed c.fresh-fresh.result c.drawn-counts.result c.in_ok-planned.planned.window.columns ls in
+    let whole = whole_writing e.counts e.failed c.fresh-fresh.result c.drawn-next.result c.in_ok-planned.planned.window.columns ls in
     subst (λ xs. CanWrite c.writing-writing.result.manner xs) (sym x.4)
-    (chosen_can e.counts e.failed e.shown.width c.drawn-counts.result ls whole c.writing-writing.result refl x.1.ready (rw lines at c.writing-writing.ensures))
+    (chosen_can e.counts e.failed e.shown.width c.drawn-next.result ls whole c.writing-writing.result refl x.1.ready (rw lines at c.writing-writing.ensures))
 
 pub returns-clause-counted : goal.returns-clause-counted
 returns-clause-counted g c =
@@ -169,7 +122,7 @@ returns-clause-lists g c = λ x fits.
     let none : c.in_ok-planned.planned.text.height ≡ 0 = omega (arith, p.height_is) in
     let blanks : l.blanks ≡ blanks_for bottom old.live 0 l.plan.rows = (rw c.is_bottom.ensures at p.blanks_are) ∙ ap (λ n. blanks_for bottom old.live n l.plan.rows) none in
     let kept = drop c.above-above.result.from (take c.above-above.result.to c.args.self.now.shown.lines) in
-    let next = λ (x : Lists) (q : CountsOf old x). rw p.rows_are at (c.drawn-counts.ensures s.columns c.args.pass bottom frame x q (rw (← p.rows_are) at f.plan_is) blanks) in
+    let next = λ (x : Lists) (q : CountsOf old x). rw p.rows_are at (c.drawn-next.ensures s.columns c.args.pass bottom frame x q (rw (← p.rows_are) at f.plan_is) blanks) in
     let q = fits_counts c.args.self.now x fits in
     let x' = drawn s.columns s.rows bottom c.args.pass frame x in
     let put = c.in_ok-from.ensures.next.1 in
@@ -177,7 +130,7 @@ returns-clause-lists g c = λ x fits.
     fits_by _ c.store.new.self.shown c.write.result c.write.new.self x x' c.write.ensures.remembers (subst (λ k. CountsOf k x') (sym c.in_ok-from.ensures.made.0) (next x q))
     (drawn-sound s.columns s.rows bottom c.args.pass frame x)
     (drawn_shown win.columns s.columns s.rows c.args.pass l.blanks bottom c.args.frame.now x old l.plan kept c.in_ok-from.ensures.next.0 o.counts c.store.new.self.shown p.columns_are
-    (rw c.kept_below-kept.ensures at is) q f.plan_is blanks (put.texts_are ∙ o.texts_are) (put.counts_are ∙ o.counts_are) o.laid.counts_are put.right
+    is q f.plan_is blanks (put.texts_are ∙ o.texts_are) (put.counts_are ∙ o.counts_are) o.laid.counts_are put.right
     (c.above-above.ensures.above x win.some (fits_shown c.args.self.now x fits)))
 
 pub returns-clause-paints : goal.returns-clause-paints
@@ -194,7 +147,7 @@ returns-clause-paints g c = λ x fits plain.
     let old = e.counts in
     let none : c.in_ok-planned.planned.text.height ≡ 0 = omega (arith, p.height_is) in
     let blanks : l.blanks ≡ blanks_for bottom old.live 0 l.plan.rows = (rw c.is_bottom.ensures at p.blanks_are) ∙ ap (λ n. blanks_for bottom old.live n l.plan.rows) none in
-    let next = λ (x : Lists) (q : CountsOf old x). rw p.rows_are at (c.drawn-counts.ensures s.columns c.args.pass bottom frame x q (rw (← p.rows_are) at f.plan_is) blanks) in
+    let next = λ (x : Lists) (q : CountsOf old x). rw p.rows_are at (c.drawn-next.ensures s.columns c.args.pass bottom frame x q (rw (← p.rows_are) at f.plan_is) blanks) in
     let y = c.in_ok-from.ensures.next in
     let ls = y.0 in
     let put = y.1 in
@@ -204,13 +157,104 @@ returns-clause-paints g c = λ x fits plain.
     let q = c.writing-writing.result in
     let v' = g.T.TermLike.view (engine_term c.write.new.self) in
     let right = subst (λ k. AreLines k ls) p.columns_are put.right in
-    let below = c.drawn-counts.result.below in
-    let fill = draw_fill s.columns ls below _ _ right refl (ap (λ k. (whole_writing old e.failed c.fresh-fresh.result c.drawn-counts.result k ls).fill) p.columns_are)
+    let below = c.drawn-next.result.below in
+    let fill = draw_fill s.columns ls below _ _ right refl (ap (λ k. (whole_writing old e.failed c.fresh-fresh.result c.drawn-next.result k ls).fill) p.columns_are)
     ∙ ap (fill_bytes below s.columns) t in
-    let d = chosen_draws old e.failed e.shown win.columns s.columns s.rows c.args.pass l.blanks _ bottom c.drawn-counts.result c.args.frame.now l.plan ls c.fresh-fresh.result q x p.columns_are
+    let d = chosen_draws old e.failed e.shown win.columns s.columns s.rows c.args.pass l.blanks _ bottom c.drawn-next.result c.args.frame.now l.plan ls c.fresh-fresh.result q x p.columns_are
     (rw p.columns_are at win.some) plain f.narrow f.plan_is next blanks t right (put_sits win.columns s.columns e.shown l x ls p.columns_are win.some put known)
     (rw p.rows_are at c.fresh-fresh.ensures) fill (fits_counts e x fits) known (rw lines at c.writing-writing.ensures) in
     let writes : Draws (writing_bytes q [] ls) s v' c.write.result = rw (c.store.ensures.terminal, y.4) at c.write.ensures.draws in
     paints_by s v' old _ _ c.write.result c.write.new.self e.failed x (drawn s.columns s.rows bottom c.args.pass frame) d.0 c.write.ensures.remembers (fits_failed e x fits)
     (subst (λ b. Draws b s v' c.write.result) d.1 writes) d.2 (fits_counts e x fits) (fits_forgets e x fits) (drawn-sound s.columns s.rows bottom c.args.pass frame x)
+    (drawn-adds s.columns s.rows bottom c.args.pass frame x) (drawn-known s.columns s.rows bottom c.args.pass frame x)
+
+pub rest-requires-clause-suits : goal.rest-requires-clause-suits
+rest-requires-clause-suits g c =
+    let e = c.args.self.now in
+    let s = g.T.TermLike.view (engine_term e) in
+    let frame = map bar_lines c.args.frame.now in
+    let bottom = is_bottom c.args.alignment in
+    let p = c.in_ok-planned.ensures.planned in
+    let f = p.frame_is in
+    let o = f.is_laid in
+    let win = c.in_ok-planned.planned.window in
+    let l = c.in_ok-planned.planned.laid in
+    let old = e.counts in
+    let none : c.in_ok-planned.planned.text.height ≡ 0 = omega (arith, p.height_is) in
+    let blanks : l.blanks ≡ blanks_for bottom old.live 0 l.plan.rows = (rw c.is_bottom.ensures at p.blanks_are) ∙ ap (λ n. blanks_for bottom old.live n l.plan.rows) none in
+    let above = c.above-above.result in
+    let next = λ (x : Lists) (q : CountsOf old x). rw p.rows_are at (c.drawn-next.ensures s.columns c.args.pass bottom frame x q (rw (← p.rows_are) at f.plan_is) blanks) in
+    let st = rw c.live.ensures at (c.stands.ensures c.if-stands.true) in
+    let width = p.known (omega (arith, st.all, st.some)) ∙ sym p.columns_are in
+    let z = is_still old e.failed _ win.columns c.drawn-next.result above e.shown l win.some (c.above-above.ensures.known width) width st in
+    ∥∥₁_map e.some (λ x. (
+      drawn s.columns s.rows bottom c.args.pass frame x.0,
+      drawn_suits win.columns s.columns s.rows c.args.pass l.blanks bottom c.args.frame.now x.0 old c.drawn-next.result l.plan (drop above.from (take above.to e.shown.lines)) (live_lines e.shown)
+          o.counts e.shown p.columns_are z.next x.1.counted f.plan_is blanks (z.texts_are ∙ o.texts_are) (z.counts_are ∙ o.counts_are) o.laid.counts_are z.right
+          (c.above-above.ensures.above x.0 win.some x.1.remembered) (next x.0 x.1.counted),
+    ))
+
+pub returns-then-stands-clause-counted : goal.returns-then-stands-clause-counted
+returns-then-stands-clause-counted g c =
+    counted_by _ (g.T.TermLike.view (engine_term c.args.self.now)) (g.T.TermLike.view (engine_term c.rest.new.self)) _ _ c.rest.result c.rest.new.self c.rest.ensures.remembers c.rest.ensures.draws
+
+pub returns-then-stands-clause-lists : goal.returns-then-stands-clause-lists
+returns-then-stands-clause-lists g c = λ x fits.
+    let e = c.args.self.now in
+    let s = g.T.TermLike.view (engine_term e) in
+    let frame = map bar_lines c.args.frame.now in
+    let bottom = is_bottom c.args.alignment in
+    let p = c.in_ok-planned.ensures.planned in
+    let f = p.frame_is in
+    let o = f.is_laid in
+    let win = c.in_ok-planned.planned.window in
+    let l = c.in_ok-planned.planned.laid in
+    let old = e.counts in
+    let none : c.in_ok-planned.planned.text.height ≡ 0 = omega (arith, p.height_is) in
+    let blanks : l.blanks ≡ blanks_for bottom old.live 0 l.plan.rows = (rw c.is_bottom.ensures at p.blanks_are) ∙ ap (λ n. blanks_for bottom old.live n l.plan.rows) none in
+    let above = c.above-above.result in
+    let next = λ (x : Lists) (q : CountsOf old x). rw p.rows_are at (c.drawn-next.ensures s.columns c.args.pass bottom frame x q (rw (← p.rows_are) at f.plan_is) blanks) in
+    let st = rw c.live.ensures at (c.stands.ensures c.if-stands.true) in
+    let width = p.known (omega (arith, st.all, st.some)) ∙ sym p.columns_are in
+    let z = is_still old e.failed _ win.columns c.drawn-next.result above e.shown l win.some (c.above-above.ensures.known width) width st in
+    let q = fits_counts e x fits in
+    fits_by _ e.shown c.rest.result c.rest.new.self x (drawn s.columns s.rows bottom c.args.pass frame x) c.rest.ensures.remembers (next x q) (drawn-sound s.columns s.rows bottom c.args.pass frame x)
+    (drawn_shown win.columns s.columns s.rows c.args.pass l.blanks bottom c.args.frame.now x old l.plan (drop above.from (take above.to e.shown.lines)) (live_lines e.shown) o.counts e.shown
+    p.columns_are z.next q f.plan_is blanks (z.texts_are ∙ o.texts_are) (z.counts_are ∙ o.counts_are) o.laid.counts_are z.right
+    (c.above-above.ensures.above x win.some (fits_shown e x fits)))
+
+pub returns-then-stands-clause-paints : goal.returns-then-stands-clause-paints
+returns-then-stands-clause-paints g c = λ x fits plain.
+    let e = c.args.self.now in
+    let s = g.T.TermLike.view (engine_term e) in
+    let frame = map bar_lines c.args.frame.now in
+    let bottom = is_bottom c.args.alignment in
+    let p = c.in_ok-planned.ensures.planned in
+    let f = p.frame_is in
+    let o = f.is_laid in
+    let win = c.in_ok-planned.planned.window in
+    let l = c.in_ok-planned.planned.laid in
+    let old = e.counts in
+    let none : c.in_ok-planned.planned.text.height ≡ 0 = omega (arith, p.height_is) in
+    let blanks : l.blanks ≡ blanks_for bottom old.live 0 l.plan.rows = (rw c.is_bottom.ensures at p.blanks_are) ∙ ap (λ n. blanks_for bottom old.live n l.plan.rows) none in
+    let next = λ (x : Lists) (q : CountsOf old x). rw p.rows_are at (c.drawn-next.ensures s.columns c.args.pass bottom frame x q (rw (← p.rows_are) at f.plan_is) blanks) in
+    let st = rw c.live.ensures at (c.stands.ensures c.if-stands.true) in
+    let width = p.known (omega (arith, st.all, st.some)) ∙ sym p.columns_are in
+    let z = is_still old e.failed _ win.columns c.drawn-next.result c.above-above.result e.shown l win.some (c.above-above.ensures.known width) width st in
+    let ls = left (live_lines e.shown) in
+    let put = z.put in
+    let t : texts ls ≡ replicate l.blanks [] ++ take l.plan.lines (frame_lines c.args.frame.now) = put.texts_are ∙ o.texts_are in
+    let known = fits_shown e x fits in
+    let v' = g.T.TermLike.view (engine_term c.rest.new.self) in
+    let right = subst (λ k. AreLines k ls) p.columns_are put.right in
+    let below = c.drawn-next.result.below in
+    let fill = draw_fill s.columns ls below _ _ right refl (ap (λ k. (whole_writing old e.failed c.fresh-fresh.result c.drawn-next.result k ls).fill) p.columns_are)
+    ∙ ap (fill_bytes below s.columns) t in
+    let height = put_height win.columns s.columns s.rows (live_lines e.shown) ls _ _ l o put in
+    let d = still_draws old e.failed e.shown win.columns s.columns s.rows c.args.pass l.blanks _ bottom c.drawn-next.result c.args.frame.now l.plan ls c.fresh-fresh.result
+    (still_writing old e.failed c.fresh-fresh.result c.drawn-next.result win.columns ls) x p.columns_are (rw p.columns_are at win.some) plain f.narrow f.plan_is next blanks t right
+    (put_sits win.columns s.columns e.shown l x ls p.columns_are win.some put known) (rw p.rows_are at c.fresh-fresh.ensures) fill (fits_counts e x fits) known
+    c.above-above.result l (live_lines e.shown) refl height width st refl in
+    paints_by s v' old _ _ c.rest.result c.rest.new.self e.failed x (drawn s.columns s.rows bottom c.args.pass frame) d.0 c.rest.ensures.remembers (fits_failed e x fits)
+    (subst (λ b. Draws b s v' c.rest.result) (sym d.1) c.rest.ensures.draws) d.2 (fits_counts e x fits) (fits_forgets e x fits) (drawn-sound s.columns s.rows bottom c.args.pass frame x)
     (drawn-adds s.columns s.rows bottom c.args.pass frame x) (drawn-known s.columns s.rows bottom c.args.pass frame x)

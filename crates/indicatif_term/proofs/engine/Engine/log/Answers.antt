@@ -9,13 +9,12 @@ use Rattle.indicatif_term.specs.Inside.Plans.{frame_lines, text_height}
 use Rattle.indicatif_term.specs.Standing.{texts, AreLines}
 use Rattle.indicatif_term.specs.Frames.{bar_lines, logged_lines, text_lines, all_lines, is_fault}
 use Rattle.indicatif_term.specs.Remembered.{live_lines}
-use Rattle.indicatif_term.specs.Inside.Renewed.{AreFitting}
 use Rattle.indicatif_term.specs.Engines.{engine_term, Fits, Paints, is_failure, lists_after}
 use Rattle.indicatif_term.specs.DrawTargets.{is_bottom}
 use Rattle.indicatif_term.proofs.SkippingLemmas.{logged_shown, some_lines, counted_refused, fits_refused}
 use Rattle.indicatif_term.proofs.DrawingLemmas.{logged-adds, logged-known, logged-sound}
 use Rattle.indicatif_term.proofs.LineEndLemmas.{log_fill}
-use Rattle.indicatif_term.proofs.LaidLemmas.{own_count}
+use Rattle.indicatif_term.proofs.LaidLemmas.{own_count, can_be_put, none_kept}
 use Rattle.indicatif_term.proofs.EngineLemmas.{all_or_many, paints_refused, paints_by, led, fits_counts, fits_failed, fits_forgets, fits_by, suits_made, log_paints, narrow_both, answer_made}
 use Rattle.indicatif_term.specs.Inside.Remembering.{Draws}
 use Rattle.indicatif_term.proofs.WritingLemmas.{whole_bytes}
@@ -25,23 +24,12 @@ use Rattle.indicatif_term.proofs.engine.Engine.log.Goals as goal
 pub returns-in_err-planned-clause-paints : goal.returns-in_err-planned-clause-paints
 returns-in_err-planned-clause-paints g c = λ l fits plain. paints_refused _ c.from_residual.result c.in_err-planned.field-0.0 l _ c.from_residual.ensures.1 c.in_err-planned.ensures.planned.0
 
-pub store-requires-clause-within : goal.store-requires-clause-within
-store-requires-clause-within g c = omega (arith, c.in_ok-planned.ensures.planned.below_text (logged_length c.args.text.now))
-
-pub store-requires-clause-known : goal.store-requires-clause-known
-store-requires-clause-known g c = λ some. absurd (omega (arith, some, c.in_ok-planned.ensures.planned.below_text (logged_length c.args.text.now)))
-
-pub store-requires-clause-fit : goal.store-requires-clause-fit
-store-requires-clause-fit g c =
+pub store-requires-clause-fits : goal.store-requires-clause-fits
+store-requires-clause-fits g c =
+    let s = g.T.TermLike.view (engine_term c.args.self.now) in
     let p = c.in_ok-planned.ensures.planned in
-    let l = c.in_ok-planned.planned.laid in
-    subst (λ n. AreFitting n (live_lines c.args.self.now.shown) l.at l.changed.items) (sym p.columns_are) p.frame_is.is_laid.fit
-
-pub store-requires-clause-more : goal.store-requires-clause-more
-store-requires-clause-more g c =
-    let p = c.in_ok-planned.ensures.planned in
-    let o = p.frame_is.is_laid in
-    (subst (λ n. AreLines n c.in_ok-planned.planned.laid.more.items) (sym p.columns_are) o.measured, o.whole)
+    can_be_put c.in_ok-planned.planned.window.columns s.columns s.rows 0 _ c.args.self.now.shown c.args.frame.now c.in_ok-planned.planned.laid p.columns_are (omega arith)
+    (λ some. absurd (omega (arith, some, p.below_text (logged_length c.args.text.now)))) tt p.frame_is
 
 pub returns-in_err-from-clause-memory : goal.returns-in_err-from-clause-memory
 returns-in_err-from-clause-memory g c = λ e.
@@ -90,10 +78,11 @@ store-requires-clause-suits g c = λ r ls put is.
     let blanks = rw c.is_bottom.ensures at p.blanks_are in
     ∥∥₁_map c.args.self.now.some (λ x.
     let x' = logged s.columns s.rows bottom text frame x.0 in
-    let next = rw p.rows_are at (c.logged-counts.ensures s.columns bottom text frame x.0 x.1.counted (rw (← p.rows_are) at f.plan_is) p.height_is blanks) in (
+    let next = rw p.rows_are at (c.logged-next.ensures s.columns bottom text frame x.0 x.1.counted (rw (← p.rows_are) at f.plan_is) p.height_is blanks) in (
       x',
-      suits_made c.logged-counts.result r x' next (logged-sound s.columns s.rows bottom text frame x.0)
-          (logged_shown win.columns s.columns s.rows rows l.blanks bottom text c.args.frame.now x.0 old l.plan ls o.counts r p.columns_are is x.1.counted f.plan_is p.height_is blanks
+      suits_made c.logged-next.result r x' next (logged-sound s.columns s.rows bottom text frame x.0)
+          (logged_shown win.columns s.columns s.rows rows l.blanks bottom text c.args.frame.now x.0 old l.plan ls o.counts r p.columns_are
+          (rw (none_kept s.columns s.rows frame l.plan l.blanks f.plan_is) at is) x.1.counted f.plan_is p.height_is blanks
           (put.texts_are ∙ o.texts_are) (put.counts_are ∙ o.counts_are) o.laid.counts_are put.right),
     ))
 
@@ -125,10 +114,11 @@ returns-clause-lists g c = λ x fits.
     let put = y.1 in
     let q = fits_counts c.args.self.now x fits in
     let x' = logged s.columns s.rows bottom text frame x in
-    let next = rw p.rows_are at (c.logged-counts.ensures s.columns bottom text frame x q (rw (← p.rows_are) at f.plan_is) p.height_is blanks) in
+    let next = rw p.rows_are at (c.logged-next.ensures s.columns bottom text frame x q (rw (← p.rows_are) at f.plan_is) p.height_is blanks) in
     fits_by _ c.store.new.self.shown c.write.result c.write.new.self x x' c.write.ensures.remembers (subst (λ k. CountsOf k x') (sym c.in_ok-from.ensures.made.0) next)
     (logged-sound s.columns s.rows bottom text frame x)
-    (logged_shown win.columns s.columns s.rows rows l.blanks bottom text c.args.frame.now x old l.plan y.0 o.counts c.store.new.self.shown p.columns_are y.2 q f.plan_is p.height_is blanks
+    (logged_shown win.columns s.columns s.rows rows l.blanks bottom text c.args.frame.now x old l.plan y.0 o.counts c.store.new.self.shown p.columns_are
+    (rw (none_kept s.columns s.rows frame l.plan l.blanks f.plan_is) at y.2) q f.plan_is p.height_is blanks
     (put.texts_are ∙ o.texts_are) (put.counts_are ∙ o.counts_are) o.laid.counts_are put.right)
 
 pub returns-clause-paints : goal.returns-clause-paints
@@ -148,11 +138,11 @@ returns-clause-paints g c = λ x fits plain.
     let text = logged_lines c.args.text.now in
     let fresh = c.fresh-fresh.result in
     let end = c.saturating_add-end.result in
-    let below = c.logged-counts.result.below in
+    let below = c.logged-next.result.below in
     let ends : end ≤ text_height s.columns (text_lines text) + (l.blanks + plan.rows) = omega (arith, c.saturating_add-end.ensures, p.height_is) in
     let lasts = all_or_many (text_height s.columns (text_lines text)) (l.blanks + plan.rows) rows end p.height_is c.saturating_add-end.ensures in
     let blanks = rw c.is_bottom.ensures at p.blanks_are in
-    let next = λ (x : Lists) (is : CountsOf old x). rw p.rows_are at (c.logged-counts.ensures s.columns bottom (text_lines text) frame x is (rw (← p.rows_are) at f.plan_is) p.height_is blanks) in
+    let next = λ (x : Lists) (is : CountsOf old x). rw p.rows_are at (c.logged-next.ensures s.columns bottom (text_lines text) frame x is (rw (← p.rows_are) at f.plan_is) p.height_is blanks) in
     let lines = text ++ replicate l.blanks [] ++ take plan.lines (frame_lines c.args.frame.now) in
     let y = c.in_ok-from.ensures.next in
     let ls = y.0 in
@@ -167,7 +157,7 @@ returns-clause-paints g c = λ x fits plain.
     let written = whole_bytes e.failed old.below below fresh taken win.columns c.fill.result text ls in
     let writes : Draws (led e.failed bytes) s v' c.write.result = rw (c.store.ensures.terminal, y.4, written, all, fill) at c.write.ensures.draws in
     paints_by s v' old _ _ c.write.result c.write.new.self e.failed x (logged s.columns s.rows bottom (text_lines text) frame) bytes c.write.ensures.remembers (fits_failed e x fits) writes
-    (λ z is. log_paints s.columns s.rows z old c.logged-counts.result rows l.blanks bottom text c.args.frame.now plan end fresh
+    (λ z is. log_paints s.columns s.rows z old c.logged-next.result rows l.blanks bottom text c.args.frame.now plan end fresh
     (rw p.columns_are at win.some) (logged_utf8 c.args.text.now c.utf8.text) plain p.narrow_text f.narrow is.counts f.plan_is (next z is.counts) p.height_is blanks
     (rw p.rows_are at c.fresh-fresh.ensures) ends lasts) (fits_counts e x fits)
     (fits_forgets e x fits) (logged-sound s.columns s.rows bottom (text_lines text) frame x) (logged-adds s.columns s.rows bottom (text_lines text) frame x)

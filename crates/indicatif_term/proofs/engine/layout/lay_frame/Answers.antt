@@ -37,7 +37,7 @@ lay_member-requires-clause-summed c = c.loop-member.invariant.summed
 
 pub returns-in-Err-clause-laid : goal.returns-in-Err-clause-laid
 returns-in-Err-clause-laid c =
-    frame_refused c.args.window.columns c.args.asked.frame.now c.loop-member.member-index c.member-item.result (omega arith) (sym c.member-item.is) c.in-Err.e c.in-Err.ensures.refused
+    frame_refused c.args.window.columns c.args.asked.frame.now c.loop-member.member-index c.member-item.result (omega arith) (sym c.member-item.is) c.in-Err.e c.in-Err.ensures.laid
 
 pub returns-in-Err-clause-memory : goal.returns-in-Err-clause-memory
 returns-in-Err-clause-memory c = λ e.
@@ -55,14 +55,15 @@ loop-member-preserved c =
     let p = l.plan in
     let on = c.args.beside.lines.now in
     let old = c.loop-member.invariant in
-    let narrow = narrow_step w frame i s (omega arith) (sym c.member-item.is) old.narrow c.in_default.ensures.refused in
+    let narrow = narrow_step w frame i s (omega arith) (sym c.member-item.is) old.narrow c.in_default.ensures.laid.narrow in
     let laid : IsLaid w h on (frame_lines (take (i + 1) frame)) (lines_of w (map bar_lines (take (i + 1) frame))) l =
-    laid_as w h on _ _ _ _ l (sym (frame_step frame i s (omega arith) (sym c.member-item.is))) (lines_step w frame i s (omega arith) (sym c.member-item.is)) (c.in_default.ensures.laid _ _ old.laid) in
-    let blanks = c.lay_member.ensures.same.1 ∙ old.blanks_are in
+    laid_as w h on _ _ _ _ l (sym (frame_step frame i s (omega arith) (sym c.member-item.is))) (lines_step w frame i s (omega arith) (sym c.member-item.is))
+    (c.in_default.ensures.laid.laid _ _ old.laid) in
+    let blanks = c.in_default.ensures.laid.blanks_same ∙ old.blanks_are in
     elim c.if-left-gt0.branch [
       | then-left-gt0 q ↦ rw (q.laid-is, q.left-is) (record {
         left_is = omega (arith, old.left_is, q.if-left-gt0.true);
-        summed = still_summed h p.lines p c.in_default.ensures.summed;
+        summed = still_summed h p.lines p c.in_default.ensures.laid.summed;
         blanks_are = blanks;
         narrow = narrow;
         passing = passing_now w h c.args.asked.pass i p.lines frame p _ laid.laid (omega (arith, old.left_is, q.if-left-gt0.true)) refl;
@@ -70,10 +71,10 @@ loop-member-preserved c =
       })
       | else-left-gt0 q ↦ rw (q.laid-is, q.left-is) (record {
         left_is = omega (arith, old.left_is, q.if-left-gt0.false);
-        summed = c.in_default.ensures.summed;
+        summed = c.in_default.ensures.laid.summed;
         blanks_are = blanks;
         narrow = narrow;
-        passing = passing_same w h c.args.asked.pass i _ frame (omega (arith, old.left_is, q.if-left-gt0.false)) (c.lay_member.ensures.same.0 ∙ old.passing);
+        passing = passing_same w h c.args.asked.pass i _ frame (omega (arith, old.left_is, q.if-left-gt0.false)) (c.in_default.ensures.laid.passing_same ∙ old.passing);
         laid = laid;
       })
     ]

@@ -18,8 +18,8 @@ returns-in_err-laid-2-clause-memory g c = λ e.
       | inl line ↦ (some, line)
       | inr blank ↦ (
         some,
-        some_lines win.columns win.rows c.args.asked.pass c.blanks_of-blanks.result c.args.last.taken c.in_ok-text.text.height c.args.asked.bottom c.args.asked.frame.now c.in_ok-laid.laid.plan
-            c.in_ok-laid.ensures.laid.plan_is (c.blanks_of-blanks.ensures.blanks c.args.last.taken c.in_ok-text.text.height c.saturating_sub-free.ensures) (omega (arith, blank)),
+        some_lines win.columns win.rows c.args.asked.pass c.blanks_of-blanks.result c.args.asked.taken c.in_ok-metrics.metrics.height c.args.asked.bottom c.args.asked.frame.now c.in_ok-laid.laid.plan
+            c.in_ok-laid.ensures.laid.plan_is (c.blanks_of-blanks.ensures.blanks c.args.asked.taken c.in_ok-metrics.metrics.height c.saturating_sub-free.ensures) (omega (arith, blank)),
       )
     ]
 
@@ -32,13 +32,13 @@ returns-clause-planned g c =
     let pass = c.args.asked.pass in
     let frame = c.args.asked.frame.now in
     let on = c.beside_of-beside.result.lines.now in
-    let text = c.in_ok-text.text in
+    let text = c.in_ok-metrics.metrics in
     let l = c.in_ok-laid-2.laid in
     let before = c.in_ok-laid.ensures.laid in
     let now = c.in_ok-laid-2.ensures.laid on before in
     let same : l.plan.rows ≡ c.in_ok-laid.laid.plan.rows = now.plan_is.rows_are ∙ sym before.plan_is.rows_are in
-    let live = frame_live win.columns win.rows pass on c.args.last.shown.now frame l c.beside_of-beside.ensures.live now in
-    let m = c.in_ok-text.ensures.measured in
+    let live = frame_live win.columns win.rows pass on c.args.asked.shown.now frame l c.beside_of-beside.ensures.live now in
+    let m = c.in_ok-metrics.ensures.measured in
     record {
       columns_are = columns;
       rows_are = rows;
@@ -46,8 +46,8 @@ returns-clause-planned g c =
       height_is = rw columns at m.1;
       text_ends = rw columns at m.2;
       frame_is = frame_on win.columns v.columns win.rows v.rows pass _ frame l columns rows live.0;
-      blanks_are = c.in_ok-laid-2.ensures.blanks ∙ c.blanks_of-blanks.ensures.blanks c.args.last.taken text.height c.saturating_sub-free.ensures
-          ∙ ap (blanks_for c.args.asked.bottom c.args.last.taken text.height) (sym same);
+      blanks_are = c.in_ok-laid-2.ensures.blanks ∙ c.blanks_of-blanks.ensures.blanks c.args.asked.taken text.height c.saturating_sub-free.ensures
+          ∙ ap (blanks_for c.args.asked.bottom c.args.asked.taken text.height) (sym same);
       blank_room = omega (arith, c.in_ok-laid-2.ensures.blanks, c.blanks_of-blanks.ensures.room, c.saturating_sub-free.ensures, same);
       known = λ some. live.1 some ∙ columns;
       below_text = λ some. none_stays win.columns win.rows pass frame l (subst (λ xs. IsFrameLaid win.columns win.rows pass xs frame l) (c.beside_of-beside.ensures.nothing some) now);
