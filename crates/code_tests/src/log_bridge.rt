@@ -1,6 +1,7 @@
-//! Lines of a log above the bars of a board that threads share: the calls in the board's history, and the rows on its terminal.
+//! Lines of a log above the bars of a board that threads share: the calls in the board's history, and the rows on its terminal. (Threads log in
+//! `receipts`, and in the program `examples storm`.)
 use crate::checks::{Granted, Runtime};
-use crate::fronts::{Bar, Shared, bar_on, hidden, open, recorded, setup};
+use crate::fronts::{Shared, hidden, open, recorded};
 use crate::recorded::{kept, logged, replays};
 use indicatif::bridge::{LevelOnEachLine, LineForm, LogBridge, StderrLogger, logger_above};
 use indicatif::machine::{MachineClock, Shares, StderrTerm, hidden_bar, on_stderr};
@@ -11,47 +12,10 @@ use scripts::got::Got;
 use scripts::row::At;
 use scripts::screen::{Screen, Wire, look_at};
 use std::rc::Rc;
-use std::thread::join;
 
 /// Another owner of a board.
 fn owner<R: Runtime>(rt: &R, board: &Shared<R>) -> Shared<R> {
     board.clone().expect(rt, "granted")
-}
-
-// ---- two threads log, and two others tick
-
-fn log_twenty<L: Log>(rt: &L, text: &str) {
-    for _ in 0..20u32 {
-        info!(rt; "{text}");
-    }
-}
-
-fn tick_twenty<R: Runtime>(bar: &Bar<R>) {
-    for _ in 0..20u32 {
-        let _ = bar.tick();
-    }
-}
-
-fn log_beside_ticks<R: Runtime, L: Log + Sync>(rt: &R, log: &L, (one, other): (&Bar<R>, &Bar<R>)) {
-    join(
-        rt,
-        || join(rt, || log_twenty(log, "mine"), || log_twenty(log, "theirs")),
-        || join(rt, || tick_twenty(one), || tick_twenty(other)),
-    );
-}
-
-#[test]
-fn two_threads_log_through_a_bridge(rt: HostRuntime) {
-    let board = recorded(&rt);
-    let one = bar_on(&rt, &board, "one");
-    let other = bar_on(&rt, &board, "other");
-    let log = Logged::new(rt, Level::Info, LogBridge::new(owner(&rt, &board)));
-    log_beside_ticks(&rt, &log, (&one, &other));
-    same!(&rt; (logged(&board, "INFO  mine"), logged(&board, "INFO  theirs")), (20, 20));
-    // two bars that were added, 40 ticks, and no other line
-    same!(&rt; kept(&board), 82);
-    same!(&rt; log.sink().missed(), 0);
-    replays(&rt, &board);
 }
 
 // ---- filters, and forms of lines

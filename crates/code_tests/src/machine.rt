@@ -7,11 +7,10 @@ use indicatif::machine::{
 };
 use indicatif::{
     BarState, Clock, Drawn, Facts, InMemoryTerm, LoneBar, NoTracker, ProgressDrawTarget,
-    ProgressIterator, ProgressStyle, Refusal, Setup, TermLike,
+    ProgressIterator, ProgressStyle, Refusal,
 };
 use std::cell::Cell;
 use std::io::{self, ErrorKind, Stderr, Stdout};
-use std::process::Abort;
 use std::time::{self, Duration};
 
 // ---- facts
@@ -103,20 +102,6 @@ fn bars_of_one_owner_on_standard_error(rt: HostRuntime) {
 /// A bar without a length.
 fn new_bar(rt: &HostRuntime) -> Result<BarState<NoTracker>, Refusal> {
     BarState::new(rt.alloc(), None, 0)
-}
-
-/// A bar behind a writer is drawn on a terminal of that size, and its clock doesn't go back.
-#[test]
-fn a_terminal_of_which_is_told(rt: HostRuntime) {
-    let writer: Vec<u8> = Vec::new(rt.alloc());
-    let setup = told_setup(&rt, writer, facts_of_xterm(&rt).granted(&rt));
-    let Setup { target, mut clock } = setup.granted(&rt);
-    let now = clock.now();
-    let mut bar = LoneBar::new(new_bar(&rt).granted(&rt), target);
-    same!(&rt; bar.tick(now), Ok(Drawn::Yes));
-    let term = bar.term().granted(&rt);
-    same!(&rt; (term.height(), term.width()), (24, 80));
-    holds!(&rt; now <= clock.now());
 }
 
 /// The answers of two logs of a bar behind such a writer, and whether the terminal is gone afterwards.

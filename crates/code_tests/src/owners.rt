@@ -1,5 +1,5 @@
 //! What the last owner of a bar leaves, what stays on another target, and what crosses threads.
-use crate::checks::{Granted, Runtime};
+use crate::checks::Runtime;
 use crate::fronts::{self, Shared};
 use crate::shown::Screen;
 use indicatif::{Drawn, InMemoryTerm, ProgressFinish, StepClock, WeakProgressBar};

@@ -5,7 +5,6 @@ use indicatif::{
 };
 use std::cell::Cell;
 use std::io::{self, BufWriter, Write};
-use std::process::Abort;
 use std::rc::Rc;
 
 /// How often a writer was written to, and flushed.

@@ -41,10 +41,6 @@ fn pieces_of_a_text(rt: HostRuntime) {
     same!(&rt; left.next(), None);
     let first = pieces("\u{1b}[1mb").next();
     same!(&rt; first, Some(Piece { text: "\u{1b}[1m", colour: true }));
-}
-
-#[test]
-fn text_without_its_colours(rt: HostRuntime) {
     let text = "a\u{1b}[1mb";
     let mut out = String::new(rt.alloc());
     for piece in pieces(text) {
