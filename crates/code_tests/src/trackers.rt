@@ -2,7 +2,7 @@
 ghost use Rattle.std.specs.Prelude.{false, true, [], ◌++◌, if◌then◌else◌, codes, decimal, unwrap_or};
 
 use crate::checks::{Granted, Runtime, is_line};
-use crate::documented::records::{Always, always};
+use crate::documented::records::{Always, saying};
 use indicatif::style::ProgressTracker;
 use indicatif::{BarState, FnTracker, Moment, ProgressState, ProgressStyle, Refusal};
 use std::alloc::Global;
@@ -11,13 +11,13 @@ use std::alloc::Global;
 type Look = ProgressStyle<FnTracker<Always>>;
 
 /// A style with this template, with colours or without, and keys with these names and texts.
-fn look(rt: &impl Runtime, of: (&str, bool), keys: &[(&str, &str)]) -> Look {
+fn styled(rt: &impl Runtime, of: (&str, bool), keys: &[(&str, &str)]) -> Look {
     let alloc = rt.alloc();
     let style = ProgressStyle::with_template(alloc, of.0).expect(rt, "granted");
     let mut style = style.with_colors(of.1).expect(rt, "granted");
     for (name, text) in keys {
         style = style
-            .with_key(*name, always(rt, *text))
+            .with_key(*name, saying(rt, *text))
             .expect(rt, "granted");
     }
     style
@@ -33,7 +33,7 @@ fn shows_line(rt: &impl Runtime, look: Look, wanted: &str) {
 #[test]
 fn names_of_trackers(rt: HostRuntime) {
     let keys = [("pos", "p"), ("wide_msg", "w"), ("t", "1"), ("t", "2")];
-    let look = look(&rt, ("{pos}{wide_msg}{t}", false), keys.as_slice());
+    let look = styled(&rt, ("{pos}{wide_msg}{t}", false), keys.as_slice());
     let clone = look.try_clone().expect(&rt, "granted");
     shows_line(&rt, look, "pw2");
     shows_line(&rt, clone, "pw2");
@@ -52,13 +52,13 @@ fn test_expand_template(rt: HostRuntime) {
     ];
     for (template, wanted) in table {
         let keys = [("foo", "FOO"), ("bar", "BAR")];
-        shows_line(&rt, look(&rt, (template, false), keys.as_slice()), wanted);
+        shows_line(&rt, styled(&rt, (template, false), keys.as_slice()), wanted);
     }
 }
 
 /// Ends the test if the key `foo` gives another line for a template, with colours or without.
 fn expands_flags(rt: &impl Runtime, template: (&str, bool), wanted: &str) {
-    shows_line(rt, look(rt, template, &[("foo", "XXX")]), wanted);
+    shows_line(rt, styled(rt, template, &[("foo", "XXX")]), wanted);
 }
 
 #[test]

@@ -139,7 +139,7 @@ impl TellsText for Always {
 }
 
 /// A key that gives this text.
-pub fn always(rt: &impl Runtime, text: &str) -> FnTracker<Always> {
+pub fn saying(rt: &impl Runtime, text: &str) -> FnTracker<Always> {
     let text = String::from_str(rt.alloc(), text).granted(rt);
     FnTracker::new(rt.alloc(), Always { text }).granted(rt)
 }
