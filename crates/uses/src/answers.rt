@@ -1,5 +1,5 @@
 //! Exact answers of a bar or a board that you are lent, whatever was done with it before.
-ghost use Rattle.std.specs.Prelude.{◌≡◌, ◌≢◌, ◌↔◌, ◌⊎◌, Some, None, Ok, Err, IsTrue, IsFalse};
+ghost use Rattle.std.specs.Prelude.{◌≡◌, ◌≢◌, ◌↔◌, ◌⊎◌, Some, Ok, Err, IsTrue, IsFalse};
 ghost use Rattle.indicatif_term.specs.Calls.{TermView};
 ghost use Rattle.indicatif_term.specs.Engines.{Paints, is_failure};
 ghost use Rattle.indicatif_term.specs.Frames.{logged_lines, some_wide, text_lines};
@@ -12,14 +12,14 @@ ghost use Rattle.indicatif_board.specs.BoardBars.{board_bars};
 ghost use Rattle.indicatif_board.specs.Boards.{BoardState, Tell, says, board as board_of};
 ghost use Rattle.indicatif_board.specs.BoardValues.{id_of};
 ghost use Rattle.indicatif_board.specs.Members.{followers, order_of};
-ghost use Rattle.indicatif_board.specs.Multi.{IsIn, known, mark_of, record_at, slots_of, terminal_of};
+ghost use Rattle.indicatif_board.specs.Multi.{IsIn, known, mark_of, slots_of, terminal_of};
 
 use indicatif_bar::laws::{a_lone_bar_is_limited, what_a_lone_bar_answers};
 use indicatif_bar::lone::{LoneBar, LoneCall};
-use indicatif_bar::state::{BarCommand, BarState};
+use indicatif_bar::state::BarCommand;
 use indicatif_bar::style::ProgressTracker;
 use indicatif_board::laws::what_a_board_answers;
-use indicatif_board::multi::{BarId, Board, Candidate};
+use indicatif_board::multi::{BarId, Board};
 use indicatif_term::target::{ProgressDrawTarget, TermLike};
 use indicatif_text::columns::{Drawn, Moment, Refusal};
 
@@ -137,31 +137,4 @@ pub fn take_bars_back<K: ProgressTracker, T: TermLike + Drop>(
     let drawn = board.clear(now);
     let _after = board.order();
     drawn
-}
-
-/// Inserts a bar right before another one, which may be gone: then the new one is refused, and the board is unchanged.
-pub fn stand_before<K: ProgressTracker, T: TermLike + Drop>(
-    board: &mut Board<K, T>,
-    anchor: BarId,
-    bar: BarState<K>,
-) -> Result<BarId, Refusal>
-    ensures not_member { anchor.mark ≡ mark_of board.old → record_at anchor.number board.old ≡ None → (result ≡ Err Refusal.NotMember) × (board.new ≡ board.old) }
-{
-    match board.insert_before(anchor, Candidate::New(bar)) {
-        Ok(id) => Ok(id),
-        Err(turned) => Err(turned.refusal),
-    }
-}
-
-/// Inserts a bar that may be there already, or gone: then it is refused, and the board is unchanged.
-pub fn stand_again<K: ProgressTracker, T: TermLike + Drop>(
-    board: &mut Board<K, T>,
-    id: BarId,
-) -> Result<BarId, Refusal>
-    ensures not_member { id.mark ≡ mark_of board.old → record_at id.number board.old ≡ None → (result ≡ Err Refusal.NotMember) × (board.new ≡ board.old) }
-{
-    match board.add(Candidate::Member(id)) {
-        Ok(id) => Ok(id),
-        Err(turned) => Err(turned.refusal),
-    }
 }

@@ -1,26 +1,41 @@
-//! What engines show of fixed lines, also after a failure and over what it left; and how many draws a limiter allows at once.
-ghost use Rattle.std.specs.Prelude.{◌≡◌, ◌⊎◌, ◌++◌, ◌∷◌, [], ℕ, ◌+◌, map, take, replicate, codes, false, IsTrue, IfOk, IfErr};
+//! What engines show of one draw, and of fixed lines, also after a failure and over what it left; and how many draws a limiter allows at once.
+ghost use Rattle.std.specs.Prelude.{◌≡◌, ◌⊎◌, ◌++◌, ◌∷◌, [], ℕ, ◌+◌, map, take, replicate, codes, false, IsTrue, IfOk, IfErr, string_bytes};
 ghost use Rattle.indicatif_text.specs.Columns.{rows_of};
 ghost use Rattle.indicatif_term.specs.Calls.{State};
 ghost use Rattle.indicatif_term.specs.Engines.{Fits, engine_term};
-ghost use Rattle.indicatif_term.specs.Frames.{bar_lines, is_fault};
-ghost use Rattle.indicatif_term.specs.Lists.{Lists, forgotten_lists, opening_lists};
+ghost use Rattle.indicatif_term.specs.Frames.{all_lines, are_plain, bar_lines, is_fault};
+ghost use Rattle.indicatif_term.specs.Lists.{Lists, all_rows, drawn, forgotten_lists, opening_lists};
 ghost use Rattle.indicatif_term.specs.Pictures.{picture_text, row_text};
 ghost use Rattle.indicatif_term.specs.Screen.{Screen};
 ghost use Rattle.indicatif_term.specs.Shows.{Placed, Rests};
 ghost use Rattle.indicatif_term.specs.Terminal.{Terminal, blank_terminal};
-ghost use Rattle.uses.specs.Readings.{StandBelow};
+ghost use Rattle.uses.specs.Readings.{AreTextsOf, StandBelow};
 
 use indicatif_term::cells::InMemoryTerm;
 use indicatif_term::laws::{
-    a_new_terminal_is_an_opening, an_opening_shows_nothing, what_is_known_again,
-    what_is_shown_is_read, what_stands_over_the_rest, where_a_terminal_stands,
+    a_new_terminal_is_an_opening, what_is_known_again, what_is_shown_is_read,
+    what_stands_over_the_rest,
 };
 use indicatif_term::target::{
     Engine, Keep, MultiProgressAlignment, RateLimiter, Segment, TermLike,
 };
 use indicatif_text::columns::Refusal;
+use std::alloc::Global;
 use std::io::ErrorKind;
+
+/// The texts of the rows that bars show on a new terminal of this size.
+pub fn rows_shown(alloc: Global, size: (u16, u16), bars: &[Segment]) -> Result<Vec<String>, Refusal>
+    ensures { IfOk result (λ texts. let frame = map bar_lines bars.now in IsTrue (are_plain (all_lines frame)) →
+        AreTextsOf (map (λ text. string_bytes text) texts.items)
+        (all_rows size.1 (drawn size.1 size.0 false 0 frame opening_lists))) }
+{
+    let mut engine = Engine::new(alloc, InMemoryTerm::new(alloc, size.0, size.1)?);
+    engine.draw(bars, 0, MultiProgressAlignment::Top)?;
+    a_new_terminal_is_an_opening();
+    what_is_shown_is_read();
+    let texts = engine.term().picture()?;
+    Ok(texts)
+}
 
 /// Logs `a.txt` above three lines on a new terminal of 4 rows and 5 columns, and draws two lines in their place. The second of these stands
 /// there already, fills its row and ends with a colour. Nothing is left of the other lines.

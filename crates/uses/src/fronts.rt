@@ -1,4 +1,4 @@
-//! What is proved about shared bars and boards, and about lists and pieces that threads work on.
+//! What is proved about shared bars and boards, about lists and pieces that threads work on, and about what threads add up to.
 ghost use Rattle.std.specs.Prelude.{◌≡◌, ◌≢◌, ◌⊎◌, ◌<◌, ◌+◌, ◌*◌, ◌%◌, ◌^◌, IfOk, IfErr, IfSome, OnOk, Some, Ok, Err, length};
 ghost use Rattle.std.specs.List.{AllZip};
 ghost use Rattle.indicatif_text.specs.declared.refusal.Drawn.TheVariants.{Limited};
@@ -11,7 +11,7 @@ ghost use Rattle.indicatif.specs.Wrap.{inner_of};
 use indicatif::laws::blocks_add_up;
 use indicatif::style::Tracks;
 use indicatif::{
-    Clock, Drawn, Gate, Moves, MultiProgress, ParallelProgressIterator, ProgressBar,
+    Clock, Done, Drawn, Gate, Moves, MultiProgress, ParallelProgressIterator, ProgressBar,
     ProgressBarIter, Refusal, TermLike, run_workers,
 };
 use std::alloc::Global;
@@ -108,4 +108,28 @@ pub fn doubled_pieces<
         ensures { result ≡ x.now * 2 % 2 ^ 32 }
     { x.wrapping_mul(2) };
     run_workers(rt, alloc, pieces, double, gate, bar)
+}
+
+/// What two workers of one sum add, modulo 2^64, whichever adds first.
+pub fn sum_of_two(alloc: Global, first: u64, second: u64) -> Result<u64, Refusal>
+    ensures sum { IfOk result (λ sum. sum ≡ (first + second) % 2 ^ 64) }
+    ensures memory { IfErr result (λ e. e ≡ Refusal.Memory) }
+{
+    let (done, worker) = Done::new(alloc)?;
+    let (mut mine, mut theirs) = worker.split(&done)?;
+    theirs.add(&done, second);
+    mine.add(&done, first);
+    let whole = mine.join(theirs, &done);
+    Ok(done.close(whole))
+}
+
+/// What the only worker of a sum reads once it added a number: that number, and not one more.
+pub fn read_back(alloc: Global, number: u64) -> Result<u64, Refusal>
+    ensures { IfOk result (λ read. read ≡ number) }
+{
+    let (done, mut worker) = Done::new(alloc)?;
+    worker.add(&done, number);
+    let read = worker.total(&done);
+    done.close(worker);
+    Ok(read)
 }

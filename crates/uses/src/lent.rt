@@ -1,5 +1,5 @@
 //! What is proved about a bar or a board that you are lent, without knowing how it was used before.
-ghost use Rattle.std.specs.Prelude.{◌≡◌, ◌≢◌, ◌⊎◌, ◌+◌, ◌%◌, ◌^◌, ℕ, Some, None, Ok, Err, IfOk, IsTrue, IsFalse, is_some, string_bytes, vec_len, if◌then◌else◌};
+ghost use Rattle.std.specs.Prelude.{◌≡◌, ◌⊎◌, ◌+◌, ◌%◌, ◌^◌, ℕ, Some, None, Ok, Err, IfOk, IsFalse, string_bytes, vec_len, if◌then◌else◌};
 ghost use Rattle.std.specs.List.{list_any};
 ghost use Rattle.indicatif_bar.specs.Commands.{BarRecord};
 ghost use Rattle.indicatif_bar.specs.LoneBars.{record_of, lone_terminal};
@@ -9,22 +9,12 @@ ghost use Rattle.indicatif_term.specs.Engines.{is_failure};
 
 use indicatif_bar::laws::what_a_lone_bar_answers;
 use indicatif_bar::lone::{LoneBar, LoneCall};
-use indicatif_bar::state::{BarCommand, BarState};
+use indicatif_bar::state::BarCommand;
 use indicatif_bar::style::ProgressTracker;
-use indicatif_board::multi::{BarId, Board, Call, Candidate};
+use indicatif_board::multi::{BarId, Board, Call};
 use indicatif_term::target::TermLike;
 use indicatif_text::columns::{Drawn, Moment, Refusal};
 use std::io::ErrorKind;
-
-/// One more step, of a bar that may be limited, hidden or behind a terminal that fails.
-pub fn step<K: ProgressTracker, T: TermLike + Drop>(
-    bar: &mut LoneBar<K, T>,
-    now: Moment,
-) -> Result<Drawn, Refusal>
-    ensures { (record_of bar.new).progress.position ≡ ((record_of bar.old).progress.position + 1) % 2 ^ 64 }
-{
-    bar.inc(1, now)
-}
 
 /// Another message, or memory was refused and nothing has changed.
 pub fn say<K: ProgressTracker, T: TermLike + Drop>(
@@ -93,20 +83,6 @@ pub fn play<K: ProgressTracker, T: TermLike + Drop>(
     Ok(answers.len())
 }
 
-/// One more step of a bar on a board that you are lent. Of the bar nothing is known except that the board has it; the other bars are
-/// unchanged.
-pub fn step_on<K: ProgressTracker, T: TermLike + Drop>(
-    board: &mut Board<K, T>,
-    id: BarId,
-    now: Moment,
-) -> Result<Drawn, Refusal>
-    ensures step { (bar : BarRecord K) → id.mark ≡ mark_of board.old → record_at id.number board.old ≡ Some bar →
-        (next : BarRecord K) × (record_at id.number board.new ≡ Some next) × (next.progress.position ≡ (bar.progress.position + 1) % 2 ^ 64) }
-    ensures others { OtherRecordsStay id.number board.old board.new }
-{
-    board.command(id, BarCommand::Inc(1), now)
-}
-
 /// Another message of such a bar, or memory was refused and its record is unchanged; the other bars are unchanged.
 pub fn say_on<K: ProgressTracker, T: TermLike + Drop>(
     board: &mut Board<K, T>,
@@ -119,29 +95,6 @@ pub fn say_on<K: ProgressTracker, T: TermLike + Drop>(
     ensures others { OtherRecordsStay id.number board.old board.new }
 {
     board.command(id, BarCommand::SetMessage(text), now)
-}
-
-/// Whether a board that you are lent has a bar; if not, no command reaches it.
-pub fn answers_for<K: ProgressTracker, T: TermLike + Drop>(board: &Board<K, T>, id: BarId) -> bool
-    ensures own { IsTrue result → id.mark ≡ mark_of board.now → IsTrue (is_some (record_at id.number board.now)) }
-    ensures absent { IsFalse result → id.mark ≡ mark_of board.now → record_at id.number board.now ≡ None }
-{
-    board.bar(id).is_ok()
-}
-
-/// Inserts a bar right after another one, on a board that you are lent. Whatever was done with the board before, another board's anchor
-/// changes nothing.
-pub fn stand_after<K: ProgressTracker, T: TermLike + Drop>(
-    board: &mut Board<K, T>,
-    anchor: BarId,
-    bar: BarState<K>,
-) -> Result<BarId, Refusal>
-    ensures foreign { anchor.mark ≢ mark_of board.old → (result ≡ Err Refusal.ForeignBar) × (board.new ≡ board.old) }
-{
-    match board.insert_after(anchor, Candidate::New(bar)) {
-        Ok(id) => Ok(id),
-        Err(turned) => Err(turned.refusal),
-    }
 }
 
 /// Makes calls of a board that you are lent, and returns their number. A bar that none of them removes, drops or commands keeps its record,

@@ -1,5 +1,5 @@
 //! What receipts of a board's logs say, whichever threads logged.
-ghost use Rattle.std.specs.Prelude.{◌≡◌, ◌<◌, ◌++◌, ℕ, suc, List, Some, IsTrue, IsFalse, IfSome, All, codes, drop, map, take, string_bytes};
+ghost use Rattle.std.specs.Prelude.{◌≡◌, ◌<◌, ◌++◌, suc, List, Some, IsTrue, IsFalse, IfSome, All, codes, drop, map, take, string_bytes};
 ghost use Rattle.indicatif_text.specs.Columns.{Cell};
 ghost use Rattle.std.specs.List.{list_any};
 ghost use Rattle.indicatif_term.specs.Calls.{TermView};

@@ -1,6 +1,5 @@
 //! The rows of a line, the texts of an amount and a range, and a text that is no template.
-ghost use Rattle.std.specs.Prelude.{◌≡◌, ◌⊎◌, ◌↔◌, ◌++◌, ◌∷◌, Ok, Err, IfOk, IfErr, OnOk, IsTrue, length, chars, codes, string_bytes};
-ghost use Rattle.indicatif_text.specs.Columns.{rows_of};
+ghost use Rattle.std.specs.Prelude.{◌≡◌, ◌⊎◌, ◌++◌, ◌∷◌, Ok, Err, IfOk, IfErr, OnOk, codes, string_bytes};
 ghost use Rattle.indicatif_text.specs.Format.{binary_bytes};
 
 use indicatif_text::cases::{bytes, templates};
@@ -8,14 +7,6 @@ use indicatif_text::columns::{Refusal, TemplateState, wrapped, write_ansi_range}
 use indicatif_text::format::HumanBytes;
 use indicatif_text::template::{Template, TemplateError};
 use std::alloc::Global;
-
-/// Whether a line takes one row of a terminal of `width` columns.
-pub fn takes_one_row(line: &str, width: usize) -> Result<bool, Refusal>
-    ensures { IfOk result (λ one. IsTrue one ↔ (length (rows_of width (chars line.now)) ≡ 1)) }
-{
-    let metrics = wrapped(line, width)?;
-    Ok(metrics.height == 1)
-}
 
 /// An amount of a whole, as in `1.50 KiB of 2.00 KiB`.
 pub fn amount(alloc: Global, there: u64, whole: u64) -> Result<String, Refusal>

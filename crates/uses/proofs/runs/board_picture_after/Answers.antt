@@ -14,7 +14,7 @@ use Rattle.indicatif_board.specs.BoardBars.{board_bars}
 use Rattle.indicatif_board.specs.Calls.{answer_of, timed}
 use Rattle.indicatif_board.specs.Multi.{IsIn, known}
 use Rattle.uses.proofs.PictureLemmas.{state_told, any_mapped}
-use Rattle.uses.proofs.boards.picture_after.Goals as goal
+use Rattle.uses.proofs.runs.board_picture_after.Goals as goal
 
 pub returns-in-Some : goal.returns-in-Some
 returns-in-Some g c = λ opening starts.

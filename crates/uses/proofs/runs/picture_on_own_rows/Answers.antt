@@ -14,7 +14,7 @@ use Rattle.indicatif_bar.specs.Lone.{opening_state}
 use Rattle.indicatif_bar.specs.LoneBars.{LoneIsIn, lone_bar, lone_timed, lone_known}
 use Rattle.indicatif_term.specs.OwnRows.{own_view}
 use Rattle.uses.proofs.PictureLemmas.{rows_told}
-use Rattle.uses.proofs.rows.picture_after.Goals as goal
+use Rattle.uses.proofs.runs.picture_on_own_rows.Goals as goal
 
 pub returns-in-Some : goal.returns-in-Some
 returns-in-Some g c = λ opening starts.

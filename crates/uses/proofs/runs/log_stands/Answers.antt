@@ -19,7 +19,7 @@ use Rattle.indicatif_bar.specs.Lone.{LoneState, Log, lone_frame, draw_of_call, o
 use Rattle.indicatif_bar.specs.LoneBars.{LoneIsIn, lone_bar, lone_timed, lone_known}
 use Rattle.uses.proofs.PictureLemmas.{state_told}
 use Rattle.uses.proofs.LogLemmas.{Front, logged_front, log_written, texts_begin, above_grows, front_kept}
-use Rattle.uses.proofs.logs.log_stands.Goals as goal
+use Rattle.uses.proofs.runs.log_stands.Goals as goal
 
 pub returns-in-Some : goal.returns-in-Some
 returns-in-Some g c = λ opening starts.
