@@ -160,7 +160,8 @@ impl Screen {
         Some(limits.halt)
     }
 
-    fn store(&self, bytes: &[u8]) -> io::Result<()> {
+    /// Keeps bytes as taken.
+    pub fn store(&self, bytes: &[u8]) -> io::Result<()> {
         match self.written.try_borrow_mut() {
             Ok(mut written) => Ok(written.extend_from_slice(bytes)?),
             Err(_) => Err(Error::from(ErrorKind::OutOfMemory)),
