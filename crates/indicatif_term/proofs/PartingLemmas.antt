@@ -1,7 +1,6 @@
 -- Where lines of one row part.
-use Rattle.std.proofs.Common.{inl, inr, ◌≡◌, ℕ, zero, suc, ◌+◌, ◌-◌, ◌<◌, ◌≤◌, max, Bool, true, false, ◌||◌, ◌&&◌, if◌then◌else◌, List, [], ◌∷◌, ◌++◌, length, map, refl, sym, ◌∙◌, ap, arith, chars, None, take, drop, take-append-drop}
+use Rattle.std.proofs.Common.{inl, inr, ◌≡◌, ℕ, zero, suc, ◌+◌, ◌-◌, ◌≤◌, max, Bool, true, false, ◌||◌, if◌then◌else◌, List, [], ◌∷◌, ◌++◌, length, map, refl, sym, ◌∙◌, ap, arith, chars, None, take, drop, take-append-drop}
 use Rattle.std.specs.Prelude.{◌==◌, nat_le, nat_lt, IsTrue, is_some, unwrap_or}
-use Rattle.std.proofs.lemmas.Bool.Decides.{nat_tests}
 use Rattle.std.specs.List.{AllByRecursion, list_any}
 use Rattle.std.specs.Str.{IsUtf8, IsCharBoundary}
 use Rattle.std.proofs.Math.Utf8.{encode, encodes, scalars, scalar}
@@ -51,10 +50,6 @@ front_visible (c ∷ front) cs e = elim (cases_Bool (c == 0x1B)) [
 pub ones_front : (xs ys : List ℕ) → AllByRecursion IsOne (xs ++ ys) → AllByRecursion IsOne xs
 ones_front [] ys all = tt
 ones_front (x ∷ xs) ys all = (all.0, ones_front xs ys all.1)
-
-pub ones_back : (xs ys : List ℕ) → AllByRecursion IsOne (xs ++ ys) → AllByRecursion IsOne ys
-ones_back [] ys all = all
-ones_back (x ∷ xs) ys all = ones_back xs ys all.1
 
 pub ones_both : (xs ys : List ℕ) → AllByRecursion IsOne xs → AllByRecursion IsOne ys → AllByRecursion IsOne (xs ++ ys)
 ones_both [] ys a b = b
@@ -168,10 +163,6 @@ pub room_left : (ends : Bool) (olds news gap w n : ℕ) → n ≡ (if ends then 
     (olds ≤ n) × (news ≤ n) × (gap + n ≤ w) × (IsTrue ends → gap + n ≡ w)
 room_left true olds news gap w n e a b = (omega arith, omega arith, omega arith, λ t. omega arith)
 room_left false olds news gap w n e a b = (omega arith, omega arith, omega arith, λ t. absurd (cc))
-
-pub some_left : (ends : Bool) (gap w : ℕ) → (ends && (gap == w)) ≡ false → gap ≤ w → IsTrue ends → gap < w
-some_left true gap w e a t = grind (arith, nat_tests)
-some_left false gap w e a t = absurd (cc)
 
 -- ---- the new line as it is measured
 

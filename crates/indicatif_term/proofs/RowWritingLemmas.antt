@@ -113,11 +113,20 @@ rest_skips ends ink (c ∷ same) os ns gap (suc m) a b d =
     ∙ rest_skips ends ink same os ns (gap + 1) m (omega arith) (omega arith) (omega arith)
     ∙ at_same ends ink os ns (gap + 1 + length same) (gap + suc (length same)) (m - length same) (suc m - suc (length same)) (omega arith) (omega arith)
 
-pub rest_free : (ends : Bool) (ink : Ink) (gap m : ℕ) → rest_bytes ends ink gap (suc m) [] [] ≡ rest_bytes ends ink (gap + m) 1 [] []
+rest_free : (ends : Bool) (ink : Ink) (gap m : ℕ) → rest_bytes ends ink gap (suc m) [] [] ≡ rest_bytes ends ink (gap + m) 1 [] []
 rest_free ends ink gap zero = at_same ends ink [] [] gap (gap + 0) 1 1 (omega arith) refl
 rest_free ends ink gap (suc m) =
     rest_stays ends ink gap (suc m) space space [] [] [] [] (padded_none (suc m) [] refl) (padded_none (suc m) [] refl) (omega arith) (stays_more space ends (suc m) (omega arith))
     ∙ rest_free ends ink (gap + 1) m ∙ at_same ends ink [] [] (gap + 1 + m) (gap + suc m) 1 1 (omega arith) refl
+
+-- where both texts have ended, all but the last one
+pub rest_last : (ends : Bool) (ink : Ink) (os ns : List Inked) (gap left m : ℕ) → os ≡ [] → ns ≡ [] → m < left →
+    rest_bytes ends ink (gap + (left - 1)) (left - (left - 1)) os ns ≡ rest_bytes ends ink (gap + m) (left - m) os ns
+rest_last ends ink os ns gap left m e f h =
+    let k = left - m - 1 in
+    let empty = λ (g l : ℕ). ap (λ xs. rest_bytes ends ink g l xs ns) e ∙ ap (λ xs. rest_bytes ends ink g l [] xs) f in
+    empty (gap + (left - 1)) (left - (left - 1)) ∙ at_same ends ink [] [] (gap + (left - 1)) (gap + m + k) (left - (left - 1)) 1 (omega arith) (omega arith)
+    ∙ sym (rest_free ends ink (gap + m) k) ∙ at_same ends ink [] [] (gap + m) (gap + m) (suc k) (left - m) refl (omega arith) ∙ sym (empty (gap + m) (left - m))
 
 pub none_left : (ends : Bool) (ink : Ink) (gap : ℕ) (olds news : List Inked) → length olds ≤ 0 → length news ≤ 0 → rest_bytes ends ink gap 0 olds news ≡ reset_bytes (colours_of ink)
 none_left ends ink gap [] [] a b = closed_bytes gap (colours_of ink) [] ∙ append-nil (reset_bytes (colours_of ink))

@@ -1,13 +1,12 @@
 -- Where two lines of one row differ, so that only the rest is written.
-use Rattle.std.specs.Prelude.{◌≡◌, ℕ, ◌+◌, ◌-◌, ◌^◌, min, ◌<◌, ◌≤◌, ◌==◌, ◌++◌, Bool, true, false, IsTrue, List, [], map, drop, length, chars, IsCharBoundary}
-use Rattle.std.specs.List.{AllByRecursion, list_any}
+use Rattle.std.specs.Prelude.{◌≡◌, ℕ, ◌+◌, ◌<◌, ◌≤◌, ◌++◌, Bool, false, IsTrue, List, [], map, drop, length, chars, IsCharBoundary}
+use Rattle.std.specs.List.{AllByRecursion}
 use Rattle.indicatif_text.specs.Columns.{Cell, visible, rows_of}
 use Rattle.indicatif_term.specs.Shows.{looks_of}
 use Rattle.indicatif_term.specs.Inside.Edits.{Edit, Tails, AreSingle, IsNarrowChar, plan, repainted, edit_colours}
-use Rattle.indicatif_term.specs.Inside.Inks.{Inked, IsRead, NONE, in_colours, as_painted, painted, read, padded}
+use Rattle.indicatif_term.specs.Inside.Inks.{Inked, NONE, in_colours, as_painted, painted, read, padded}
 use Rattle.indicatif_term.specs.Inside.Changes as drawn
 use Rattle.indicatif_term.specs.declared.engine.parting.Part.{Part}
-use Rattle.indicatif_term.specs.declared.engine.parting.Cut.{Cut}
 use Rattle.indicatif_term.specs.declared.engine.parting.Step.{Step}
 use Rattle.indicatif_term.specs.declared.engine.parting.Step.TheVariants as steps
 
@@ -18,20 +17,6 @@ tail from text = chars (drop from text)
 -- the cells of a text from one of its bytes on
 abbrev pub cells_at : ℕ → List ℕ → List Inked
 cells_at from text = read NONE (tail from text)
-
--- two texts begin alike, without an escape character, and then each has only characters of one column, in colours that the code reads correctly
-pub record IsCut (narrow : Bool) (old new : List ℕ) (p : Cut) : Type 0 where
-  pub own : IsCharBoundary old p.from
-  pub other : IsCharBoundary new p.from
-  pub front : List ℕ
-  pub plain : list_any (λ c. c == 0x1B) front ≡ false
-  pub old_is : chars old ≡ front ++ tail p.from old
-  pub new_is : chars new ≡ front ++ tail p.from new
-  pub olds : p.olds ≡ min (length (visible (tail p.from old))) (2 ^ 64 - 1)
-  pub news : p.news ≡ min (length (visible (tail p.from new))) (2 ^ 64 - 1)
-  pub old_read : IsRead (tail p.from old)
-  pub new_read : IsRead (tail p.from new)
-  pub single : IsTrue narrow → AreSingle (chars new)
 
 -- edits of the cells of a line from one of its bytes on show each character of another in its colours, and leave none open: before that place the two are the same, without colours
 pub record IsRecoloured (from n : ℕ) (es : List Edit) (old new : List ℕ) : Type 0 where

@@ -1,12 +1,12 @@
 -- The rest of a row that is edited.
-use Rattle.std.specs.Prelude.{◌≡◌, ℕ, ◌+◌, ◌-◌, ◌^◌, ◌≤◌, ◌==◌, ◌++◌, min, Bool, false, List, length, chars, IsCharBoundary}
+use Rattle.std.specs.Prelude.{◌≡◌, ℕ, ◌+◌, ◌≤◌, ◌==◌, ◌++◌, Bool, false, List, length, chars, IsCharBoundary}
 use Rattle.std.specs.List.{list_any}
 use Rattle.indicatif_term.specs.Inside.Inks.{Ink, Inked, read}
 use Rattle.indicatif_term.specs.Inside.Edits.{rest_bytes}
 use Rattle.indicatif_term.specs.Inside.Parting.{tail}
 use Rattle.indicatif_term.specs.declared.engine.inks.Colours.{Colours}
 use Rattle.indicatif_term.specs.declared.engine.inks.InkedText.{InkedText}
-use Rattle.indicatif_term.specs.declared.engine.parting.PlainParts.{PlainParts}
+use Rattle.indicatif_term.specs.declared.engine.parting.Parts.{Parts}
 use Rattle.indicatif_term.specs.declared.engine.row_edits.Rest.{Rest}
 
 -- the colours that are open
@@ -27,13 +27,12 @@ pub record HasRoom (r : Rest) : Type 0 where
   pub olds : length (cells r.old) ≤ r.left
   pub news : length (cells r.new) ≤ r.left
 
--- the common prefix of two texts, without an escape character, and its number of characters
-pub record ArePlain (old new : List ℕ) (p : PlainParts) : Type 0 where
-  pub own : IsCharBoundary old p.parts.from
-  pub other : IsCharBoundary new p.parts.from
-  pub own_is : chars p.parts.own.now ≡ tail p.parts.from old
-  pub other_is : chars p.parts.other.now ≡ tail p.parts.from new
-  pub old_is : chars old ≡ chars p.parts.front.now ++ chars p.parts.own.now
-  pub new_is : chars new ≡ chars p.parts.front.now ++ chars p.parts.other.now
-  pub plain : list_any (λ c. c == 0x1B) (chars p.parts.front.now) ≡ false
-  pub count : p.count ≡ min (length (chars p.parts.front.now)) (2 ^ 64 - 1)
+-- the common prefix of two texts, without an escape character, and what follows in each
+pub record ArePlain (old new : List ℕ) (p : Parts) : Type 0 where
+  pub own : IsCharBoundary old (length p.front.now)
+  pub other : IsCharBoundary new (length p.front.now)
+  pub own_is : chars p.own.now ≡ tail (length p.front.now) old
+  pub other_is : chars p.other.now ≡ tail (length p.front.now) new
+  pub old_is : chars old ≡ chars p.front.now ++ chars p.own.now
+  pub new_is : chars new ≡ chars p.front.now ++ chars p.other.now
+  pub plain : list_any (λ c. c == 0x1B) (chars p.front.now) ≡ false

@@ -7,7 +7,7 @@ ghost use Rattle.indicatif_term.specs.Inside.Plans.{IsWithheld};
 ghost use Rattle.indicatif_term.specs.Inside.Layouts.{IsSized};
 
 use crate::engine::layout::metrics_of;
-use crate::engine::parting::{Part, Row, Step, is_narrow_text, parting};
+use crate::engine::parting::{Part, Step, is_narrow_text, parting};
 use crate::engine::remembered::StandingLine;
 use crate::engine::window::Window;
 use indicatif_text::columns::Refusal;
@@ -69,12 +69,7 @@ fn part_of(line: &StandingLine, text: &str, window: Window, waits: bool) -> Opti
     if !line.narrow && !stands.contains(&0x1B) {
         return None;
     }
-    let row = Row {
-        text: line.text.as_str(),
-        last: line.last,
-        narrow: line.narrow,
-    };
-    parting(row, text, window.columns, waits)
+    parting(line, text, window.columns, waits)
 }
 
 /// Whether two texts are short, or begin with the same byte, or end with it. Of others mostly each character differs, so that the line

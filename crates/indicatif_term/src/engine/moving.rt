@@ -1,16 +1,15 @@
 //! Lines written over those that stand there, so that the cursor only moves.
-ghost use Rattle.std.specs.Prelude.{◌≡◌, ◌+◌, ◌-◌, ◌*◌, ◌++◌, ◌∷◌, [], ℕ, List, IsTrue, IfSome, MatchOption, chars, replicate};
+ghost use Rattle.std.specs.Prelude.{◌≡◌, ◌+◌, ◌-◌, ◌*◌, IsTrue, IfSome, chars, replicate};
 ghost use Rattle.indicatif_text.specs.Columns.{visible};
-ghost use Rattle.indicatif_text.specs.Pieces.{shown};
-ghost use Rattle.indicatif_text.specs.PieceLaws.{run_text};
 ghost use Rattle.indicatif_term.specs.Calls.{Writes};
 ghost use Rattle.indicatif_term.specs.Standing.{placed_of, placed};
-ghost use Rattle.indicatif_term.specs.Inside.Moves.{filled_bytes, run_bytes, moved_bytes, joins, IsEven, AreEven};
+ghost use Rattle.indicatif_term.specs.Inside.Moves.{filled_bytes, moved_bytes, joins, IsEven, AreEven};
 
+use crate::engine::inks::{Colours, InkedText, first_cell};
 use crate::engine::remembered::StandingLine;
 use crate::engine::writing::{go_up, put_spaces};
 use crate::target::term_like::TermLike;
-use indicatif_text::columns::{Piece, columns, pieces, width as width_of_char};
+use indicatif_text::columns::{columns, width as width_of_char};
 use std::io;
 
 /// Whether all rows of these lines but the last of each are full, and none of the lines joins the one before it.
@@ -47,30 +46,12 @@ fn columns_of_rows(line: &StandingLine, width: usize) -> Option<usize>
 fn joins(text: &str) -> bool
     ensures { result ≡ joins (visible (chars text.now)) }
 {
-    let mut rest = pieces(text);
-    'pieces: while let Some(piece) = rest.next() {
-        if let Some(c) = first_shown(piece) {
-            return width_of_char(c) == 0;
-        }
-    }
-    false
-}
-
-/// The first character that a line shows of a piece, if this is no colour sequence.
-fn first_shown(piece: Piece<'_>) -> Option<char>
-    ensures { MatchOption result (run_text (shown piece.entry) ≡ []) (λ c. (more : List ℕ) × (run_text (shown piece.entry) ≡ c ∷ more)) }
-{
-    if piece.colour {
-        return None;
-    }
-    first_of(piece.text)
-}
-
-/// The first character of a line's text.
-fn first_of(text: &str) -> Option<char>
-    ensures { MatchOption result (chars text.now ≡ []) (λ c. (more : List ℕ) × (chars text.now ≡ c ∷ more)) }
-{
-    text.chars().next()
+    let ink = Colours {
+        base: "",
+        group: "",
+    };
+    let (first, _) = first_cell(InkedText { text, ink });
+    width_of_char(first) == 0
 }
 
 /// Writes lines over rows, on the last of which the cursor rests, or from its own row on if there are no rows. It goes up to the first of
@@ -85,13 +66,6 @@ pub fn put_over<T: TermLike>(
 {
     go_up(term, taken.saturating_sub(1))?;
     term.write_str("\r")?;
-    put_run(term, lines, width)
-}
-
-/// Writes lines over rows, one behind another, each with the spaces that fill its last row.
-fn put_run<T: TermLike>(term: &mut T, lines: &[StandingLine], width: usize) -> io::Result<()>
-    ensures { Writes (run_bytes width (placed lines.now)) (T.view term.old) (T.view term.new) result }
-{
     for line in lines {
         put_filled(term, line, width)?;
     }

@@ -1,13 +1,13 @@
 //! A part of a row written again, character by character, among cells that stay.
-ghost use Rattle.std.specs.Prelude.{◌≡◌, ◌≤◌, ◌<◌, ◌++◌, ◌==◌, ◌&&◌, not, ℕ, Bool, List, encode_utf8, MatchResult};
+ghost use Rattle.std.specs.Prelude.{◌≡◌, ◌≤◌, ◌<◌, ◌++◌, ◌==◌, ◌&&◌, not, ℕ, Bool, List, length, chars, MatchResult};
 ghost use Rattle.std.specs.IoError.{error_kind};
 ghost use Rattle.indicatif_term.specs.Calls.{Writes, LeadsOn, BreaksOff, RIGHT, move_bytes};
 ghost use Rattle.indicatif_term.specs.Inside.Inks.{NONE, colours_of, in_ink, is_alike, padded};
 ghost use Rattle.indicatif_term.specs.Inside.Edits.{row_bytes, plan, reset_bytes, ink_bytes};
-ghost use Rattle.indicatif_term.specs.Inside.Rests.{HasRoom, ArePlain, ink_of, cells, left_bytes};
+ghost use Rattle.indicatif_term.specs.Inside.Rests.{HasRoom, ink_of, left_bytes};
 
 use crate::engine::inks::{Colours, InkedText, RESET, are_same, first_cell};
-use crate::engine::parting::{PlainParts, plain_split};
+use crate::engine::parting::split;
 use crate::target::term_like::TermLike;
 use std::io;
 
@@ -97,7 +97,7 @@ pub fn close<T: TermLike>(term: &mut T, ink: Colours<'_>) -> io::Result<()>
     term.write_str(RESET)
 }
 
-/// Skips the columns that both texts begin with alike, up to the last one of the row.
+/// Skips the columns that both texts begin with alike, up to the last one of the row; where both end, all but that one, since they are free.
 fn skip<'a>(rest: Rest<'a>) -> Rest<'a>
     requires room { HasRoom rest }
     ensures same { (ends : Bool) → left_bytes ends result ≡ left_bytes ends rest.entry }
@@ -107,54 +107,36 @@ fn skip<'a>(rest: Rest<'a>) -> Rest<'a>
     if !are_same(rest.old.ink, rest.new.ink) {
         return rest;
     }
-    match plain_split(rest.old.text, rest.new.text, false) {
-        Some(parts) => at_end(past(rest, parts)),
-        None => rest,
-    }
-}
-
-/// What is left of the row past the beginning that both texts share, if the row has a column behind it.
-fn past<'a>(rest: Rest<'a>, plain: PlainParts<'a>) -> Rest<'a>
-    requires room { HasRoom rest }
-    requires ink { ink_of rest.old.ink ≡ ink_of rest.new.ink }
-    requires plain { ArePlain rest.old.text.now rest.new.text.now plain }
-    ensures same { (ends : Bool) → left_bytes ends result ≡ left_bytes ends rest.entry }
-    ensures left { result.left ≤ rest.entry.left }
-    ensures room { HasRoom result }
-{
-    if plain.count >= rest.left {
+    let parts = match split(rest.old.text, rest.new.text, false) {
+        Some(parts) => parts,
+        None => return rest,
+    };
+    let count = char_count(parts.front);
+    if count >= rest.left {
         return rest;
     }
+    let ended = parts.own.is_empty() & parts.other.is_empty();
+    let columns = if ended { rest.left - 1 } else { count };
     Rest {
         old: InkedText {
-            text: plain.parts.own,
+            text: parts.own,
             ink: rest.old.ink,
         },
         new: InkedText {
-            text: plain.parts.other,
+            text: parts.other,
             ink: rest.new.ink,
         },
-        left: rest.left - plain.count,
-        gap: rest.gap + plain.count,
+        left: rest.left - columns,
+        gap: rest.gap + columns,
         ink: rest.ink,
     }
 }
 
-/// What is left of the row if both texts end: its last column, since all others are free.
-fn at_end<'a>(rest: Rest<'a>) -> Rest<'a>
-    requires room { HasRoom rest }
-    ensures same { (ends : Bool) → left_bytes ends result ≡ left_bytes ends rest.entry }
-    ensures left { result.left ≤ rest.entry.left }
-    ensures room { HasRoom result }
+/// How many characters a text has.
+fn char_count(text: &str) -> usize
+    ensures { result ≡ length (chars text.now) }
 {
-    if rest.left == 0 || !rest.old.text.is_empty() || !rest.new.text.is_empty() {
-        return rest;
-    }
-    Rest {
-        left: 1,
-        gap: rest.gap + (rest.left - 1),
-        ..rest
-    }
+    text.chars().count()
 }
 
 /// Goes right over columns of the row that stay; none is no call.

@@ -1,10 +1,9 @@
 //! A drawing, written from its first byte to its last.
-ghost use Rattle.std.specs.Prelude.{◌≡◌, ◌<◌, ◌≤◌, ◌+◌, ◌-◌, [], ◌∷◌, ◌++◌, length, replicate, true, false, if◌then◌else◌, not, ◌&&◌, ◌||◌, ◌==◌, nat_lt, is_some};
+ghost use Rattle.std.specs.Prelude.{◌≡◌, ◌<◌, ◌≤◌, ◌+◌, ◌-◌, [], ◌∷◌, ◌++◌, replicate, if◌then◌else◌};
 ghost use Rattle.indicatif_term.specs.Calls.{Writes, UP, DOWN, move_bytes, clear_bytes, anew_bytes};
-ghost use Rattle.indicatif_term.specs.Inside.Bytes.{rows_down, reach_bytes, back_bytes, lines_bytes, next_row};
+ghost use Rattle.indicatif_term.specs.Inside.Bytes.{rows_down, reach_bytes, back_bytes, next_row, Puts};
 ghost use Rattle.indicatif_term.specs.Inside.Writings.{CanWrite, is_inside, is_at_end, lower_lines, begin_bytes, inside_bytes, rest_bytes, writing_bytes};
 ghost use Rattle.indicatif_term.specs.Standing.{texts};
-ghost use Rattle.indicatif_term.specs.Frames.{logged_lines};
 ghost use Rattle.indicatif_term.specs.Inside.Plans.{text_above};
 
 use crate::engine::changing::put_among;
@@ -122,94 +121,47 @@ fn put_rest<T: TermLike>(term: &mut T, writing: &Writing, drawing: &Drawing<'_>)
     requires { CanWrite writing.now.manner drawing.now.lines.now }
     ensures { Writes (rest_bytes writing.now (text_above drawing.now.text) drawing.now.lines.now) (T.view term.old) (T.view term.new) result }
 {
-    let lower = Drawing {
-        text: drawing.text,
-        lines: writing.manner.lower(drawing.lines),
-    };
-    let at_end = writing.is_at_end();
-    put_lower(term, at_end, &lower)?;
-    finish(term, writing, is_below(at_end, &lower))?;
+    let mut ended = writing.is_at_end();
+    put_text(term, &mut ended, drawing.text)?;
+    put_lines(term, &mut ended, writing.manner.lower(drawing.lines))?;
+    new_row(term, writing.ends_below & ended)?;
     put_spaces(term, writing.fill)?;
     term.flush()
 }
 
-/// Writes a text and lines below it, each line on a row of its own: the first one on the cursor's, if that isn't at the end of one.
-fn put_lower<T: TermLike>(term: &mut T, at_end: bool, lower: &Drawing<'_>) -> io::Result<()>
-    ensures { Writes (lines_bytes at_end (text_above lower.now.text ++ texts lower.now.lines.now)) (T.view term.old) (T.view term.new) result }
+/// Writes each line of the text that is logged, if any is, on a row of its own; an empty text is one empty line.
+fn put_text<T: TermLike>(term: &mut T, ended: &mut bool, text: Option<&str>) -> io::Result<()>
+    ensures { Puts ended.old (text_above text.entry) ended.new (T.view term.old) (T.view term.new) result }
 {
-    put_above(term, at_end, lower.text)?;
-    put_lines(term, is_ended(at_end, lower.text), lower.lines)
-}
-
-/// Goes below the row at whose end the cursor is, if any, where the drawing ends below.
-fn finish<T: TermLike>(term: &mut T, writing: &Writing, ended: bool) -> io::Result<()>
-    ensures { Writes (if writing.now.ends_below && ended then next_row else []) (T.view term.old) (T.view term.new) result }
-{
-    let asked = writing.ends_below && ended;
-    new_row(term, asked)
-}
-
-/// Whether the cursor is at the end of a row after a text and lines were written.
-fn is_below(at_end: bool, lower: &Drawing<'_>) -> bool
-    ensures { result ≡ (at_end || nat_lt 0 (length (text_above lower.now.text ++ texts lower.now.lines.now))) }
-{
-    let ended = is_ended(at_end, lower.text);
-    let none = lower.lines.is_empty();
-    ended || !none
-}
-
-/// Whether the cursor is at the end of a row after a text was written, if any was.
-fn is_ended(at_end: bool, text: Option<&str>) -> bool
-    ensures { result ≡ (at_end || nat_lt 0 (length (text_above text.entry))) }
-{
-    match text {
-        Some(_) => true,
-        None => at_end,
-    }
-}
-
-/// Writes the lines of the text that is logged, if any is.
-fn put_above<T: TermLike>(term: &mut T, at_end: bool, text: Option<&str>) -> io::Result<()>
-    ensures { Writes (lines_bytes at_end (text_above text.entry)) (T.view term.old) (T.view term.new) result }
-{
-    match text {
-        Some(text) => put_text(term, at_end, text),
-        None => Ok(()),
-    }
-}
-
-/// Writes each line of the text on a row of its own; an empty text is one empty line.
-fn put_text<T: TermLike>(term: &mut T, at_end: bool, text: &str) -> io::Result<()>
-    ensures { Writes (lines_bytes at_end (logged_lines text.now)) (T.view term.old) (T.view term.new) result }
-{
+    let text = match text {
+        Some(text) => text,
+        None => return Ok(()),
+    };
     if text.is_empty() {
-        return put(term, at_end, "");
+        return put(term, ended, "");
     }
-    let mut ended = at_end;
     for line in text.lines() {
         put(term, ended, line)?;
-        ended = true;
     }
     Ok(())
 }
 
 /// Writes each of these lines on a row of its own.
-fn put_lines<T: TermLike>(term: &mut T, at_end: bool, lines: &[StandingLine]) -> io::Result<()>
-    ensures { Writes (lines_bytes at_end (texts lines.now)) (T.view term.old) (T.view term.new) result }
+fn put_lines<T: TermLike>(term: &mut T, ended: &mut bool, lines: &[StandingLine]) -> io::Result<()>
+    ensures { Puts ended.old (texts lines.now) ended.new (T.view term.old) (T.view term.new) result }
 {
-    let mut ended = at_end;
     for line in lines {
         put(term, ended, &line.text)?;
-        ended = true;
     }
     Ok(())
 }
 
-/// Writes a line on a row of its own: the next one, if the cursor is at the end of one.
-fn put<T: TermLike>(term: &mut T, at_end: bool, line: &str) -> io::Result<()>
-    ensures { Writes (lines_bytes at_end (line.now ∷ [])) (T.view term.old) (T.view term.new) result }
+/// Writes a line on a row of its own: the next one, if the cursor is at the end of one. It is at the end of this one then.
+fn put<T: TermLike>(term: &mut T, ended: &mut bool, line: &str) -> io::Result<()>
+    ensures { Puts ended.old (line.now ∷ []) ended.new (T.view term.old) (T.view term.new) result }
 {
-    new_row(term, at_end)?;
+    new_row(term, *ended)?;
+    *ended = true;
     term.write_str(line)
 }
 

@@ -1,8 +1,7 @@
 use Rattle.std.proofs.Common.{ap, ◌∙◌, chars}
-use Rattle.std.specs.Prelude.{flat_map}
-use Rattle.indicatif_text.specs.PieceLaws.{run_text}
-use Rattle.indicatif_text.proofs.PieceLawLemmas.{runs_are_visible}
+use Rattle.std.specs.Prelude.{◌==◌}
+use Rattle.indicatif_term.proofs.MovedByteLemmas.{first_joins}
 use Rattle.indicatif_term.proofs.engine.moving.joins.Goals as goal
 
-pub pieces-init : goal.pieces-init
-pieces-init c = ap (flat_map run_text) c.pieces-rest.ensures ∙ runs_are_visible (chars c.args.text.now)
+pub returns : goal.returns
+returns c = ap (λ n. n == 0) c.width.ensures ∙ first_joins (chars c.args.text.now) _ c.first_cell-first.result.0 _ (c.first_cell-first.ensures.first 0)

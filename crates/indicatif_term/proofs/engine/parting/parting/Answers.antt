@@ -1,34 +1,55 @@
-use Rattle.std.proofs.Common.{◌≡◌, ◌++◌, ◌+◌, ◌-◌, ◌<◌, ◌∙◌, [], sym, ap, subst, arith, chars, length, map, refl, if◌then◌else◌}
+use Rattle.std.proofs.Common.{◌≡◌, ◌++◌, ◌-◌, ◌<◌, ◌≤◌, ◌∙◌, [], max, sym, ap, subst, arith, chars, length, map, refl, if◌then◌else◌}
+use Rattle.std.specs.Prelude.{IsTrue, string_bytes}
 use Rattle.std.specs.List.{AllByRecursion}
 use Rattle.indicatif_text.specs.Columns.{visible}
-use Rattle.indicatif_term.specs.Inside.Edits.{IsNarrowChar}
-use Rattle.indicatif_term.specs.Inside.Inks.{NONE, in_colours, painted, padded}
+use Rattle.indicatif_term.specs.Inside.Edits.{AreSingle, IsNarrowChar}
+use Rattle.indicatif_term.specs.Inside.Inks.{IsRead, NONE, in_colours, painted, padded}
 use Rattle.indicatif_term.specs.Inside.Parting.{tail, cells_at}
+use Rattle.indicatif_term.specs.Inside.Rests.{ArePlain}
 use Rattle.indicatif_term.proofs.EditPlanLemmas.{plan_repaints}
 use Rattle.indicatif_term.proofs.InkLemmas.{read_painted, read_length, painted_front, padded_length}
-use Rattle.indicatif_term.proofs.PartingLemmas.{parted, room_left, some_left, narrow_behind}
+use Rattle.indicatif_term.proofs.PartingLemmas.{parted, room_left, narrow_behind, ones_front, ones_both}
 use Rattle.indicatif_term.proofs.engine.parting.parting.Goals as goal
+use Rattle.indicatif_term.proofs.engine.parting.parting.Goals.{then-waits, else-waits, else-waits-2-via-then-waits-2+else-left-eq0, else-waits-2-via-else-waits-2}
 
 pub returns : goal.returns
 returns c =
     let w = c.args.width in
     let ends = c.args.waits in
-    let last = c.args.old.last in
-    let old = c.args.old.text.now in
+    let last = c.args.old.now.last in
+    let old = string_bytes c.args.old.now.text in
     let new = c.args.new.now in
-    let cut = c.in_ok-cut.cut in
-    let d = c.in_ok-cut.ensures in
-    let own = tail cut.from old in
-    let other = tail cut.from new in
-    let gap = last - cut.olds in
-    let n = c.columns_left.result in
-    let olds : cut.olds ≡ length (visible own) = omega (arith, d.olds) in
-    let news : cut.news ≡ length (visible other) = omega (arith, d.news) in
-    let room = room_left ends cut.olds cut.news gap w n (c.columns_left.ensures ∙ ap (λ m. if ends then (w - gap) else m) c.max.ensures) (omega arith) (omega arith) in
-    let t = parted w last cut.olds cut.news n (chars old) (chars new) d.front own other d.plain d.old_is d.new_is d.old_read.single d.new_read.single c.requires.row c.requires.last
+    let p = c.in_ok-parts.parts in
+    let d : ArePlain old new p = subst (λ x. ArePlain x new p) c.deref.ensures c.in_ok-parts.ensures in
+    let front = chars p.front.now in
+    let from = length p.front.now in
+    let own = tail from old in
+    let other = tail from new in
+    let m = c.in_ok-olds.olds in
+    let k = c.in_ok-news.news in
+    let gap = last - m in
+    let n = c.if-waits.left in
+    let within : m ≤ last = c.if-olds-old.false in
+    let in_row : last ≤ w = c.if-old-width.false in
+    let old_is : chars old ≡ front ++ own = d.old_is ∙ ap (λ x. front ++ x) d.own_is in
+    let new_is : chars new ≡ front ++ other = d.new_is ∙ ap (λ x. front ++ x) d.other_is in
+    let old_read : IsRead own = subst IsRead d.own_is c.in_ok-olds.ensures.read in
+    let new_read : IsRead other = subst IsRead d.other_is c.in_ok-news.ensures.read in
+    let olds : m ≡ length (visible own) = omega (arith, c.in_ok-olds.ensures.count, ap (λ cs. length (visible cs)) d.own_is) in
+    let news : k ≡ length (visible other) = omega (arith, c.in_ok-news.ensures.count, ap (λ cs. length (visible cs)) d.other_is) in
+    let left : n ≡ (if ends then (w - gap) else max m k) = elim c.if-waits.branch [
+      | then-waits b ↦ rw b.if-waits.true b.left-is
+      | else-waits b ↦ rw b.if-waits.false (b.left-is ∙ b.max-left.ensures)
+    ] in
+    let some : IsTrue ends → 0 < n = elim c.else-waits-2.branch [
+      | else-waits-2-via-then-waits-2+else-left-eq0 b ↦ λ e. let other : n ≡ 0 → ⊥ = b.if-left-eq0.false in omega arith
+      | else-waits-2-via-else-waits-2 b ↦ λ e. absurd (cc (e, b.if-waits-2.false))
+    ] in
+    let room = room_left ends m k gap w n left (omega arith) (omega arith) in
+    let t = parted w last m k n (chars old) (chars new) front own other d.plain old_is new_is old_read.single new_read.single (sym c.requires.line.rows_are ∙ c.requires.row) c.requires.line.last_is
     olds news (omega arith) room.0 room.1 room.2 in
-    let os = cells_at cut.from old in
-    let ns = cells_at cut.from new in
+    let os = cells_at from old in
+    let ns = cells_at from new in
     let a : length (padded n os) ≡ n = padded_length n os (omega (arith, read_length NONE own, olds, room.0)) in
     let b : length (padded n ns) ≡ n = padded_length n ns (omega (arith, read_length NONE other, news, room.1)) in
     let shown = plan_repaints ends NONE (padded n os) (padded n ns) (a ∙ sym b) in
@@ -39,14 +60,15 @@ returns c =
       tails = t.0;
       olds_are = t.1;
       news_are = t.2;
-      narrow = subst (AllByRecursion IsNarrowChar) (sym t.2) (narrow_behind new d.front other c.utf8.new d.new_is d.new_read.single);
-      to_end = λ e. (room.3 e, let some : gap < w = some_left ends gap w (sym c.is_full.ensures ∙ c.if-is_full.false) (omega arith) e in let all : gap + n ≡ w = room.3 e in omega arith);
+      narrow = subst (AllByRecursion IsNarrowChar) (sym t.2) (narrow_behind new front other c.utf8.new new_is new_read.single);
+      to_end = λ e. (room.3 e, some e);
       last_is = omega (arith, news);
-      single = d.single;
+      single = λ e. subst AreSingle (sym d.new_is)
+          (ones_both front (chars p.other.now) (ones_front front (chars p.own.now) (subst AreSingle d.old_is (c.requires.line.single e))) (c.in_ok-news.ensures.single e));
       colours = record {
-        front = d.front;
-        old_is = ap painted d.old_is ∙ painted_front d.front own d.plain ∙ ap (λ x. map (in_colours []) d.front ++ x) (sym (read_painted own d.old_read).0);
-        new_is = ap painted d.new_is ∙ painted_front d.front other d.plain ∙ ap (λ x. map (in_colours []) d.front ++ x) (sym (read_painted other d.new_read).0);
+        front = front;
+        old_is = ap painted old_is ∙ painted_front front own d.plain ∙ ap (λ x. map (in_colours []) front ++ x) (sym (read_painted own old_read).0);
+        new_is = ap painted new_is ∙ painted_front front other d.plain ∙ ap (λ x. map (in_colours []) front ++ x) (sym (read_painted other new_read).0);
         cells = shown.0;
         none_open = shown.1;
       };
