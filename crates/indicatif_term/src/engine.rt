@@ -3,7 +3,7 @@
 //! The rows that an engine has written are of three kinds, from the top: those *above*, which never change again; those *kept*,
 //! of bars that are gone; and the *live* ones, of the last frame. An engine remembers their counts and the lines of the kept
 //! and the live ones, no text that was logged, so what it needs does not grow with that. A draw writes the lines that changed, or of them
-//! only the cells that differ, and leaves those that stay; each hundredth change of a line writes it whole. Else, as for a log,
+//! only the cells that differ, and leaves those that stay; each twenty-fifth that changes a line writes all lines whole. Else, as for a log,
 //! it goes up to the first of the kept and live rows, empties them from there down, goes up again, and writes the new ones in
 //! their place. The rows above stand at every moment.
 //!
@@ -31,7 +31,7 @@
 //! - `renewed`: new lines (`NewLine`) in the place of those that stand.
 //! - `parting`: the byte where two texts of one row part (`Part`, `Step`), before the first escape character or among colours; how many
 //!   characters of one column follow?
-//! - `inks`: a text read cell by cell, with the colour sequences that are open at each (`InkedText`, `Colours`).
+//! - `inks`: a text read cell by cell, with the colour sequences that are open at each (`InkedText`, `Colours`); does it leave any open?
 //!
 //! What is written:
 //!
@@ -70,6 +70,7 @@ pub(crate) mod writing;
 use crate::engine::beside::{Room, height_of, last_column, lines_within};
 use crate::engine::changing::fill_behind;
 use crate::engine::counts::{Counts, Fresh, Keep};
+use crate::engine::inks::leaves_open;
 use crate::engine::layout::{Asked, Laid, plan_drawing, run_of};
 use crate::engine::lines::Segment;
 use crate::engine::moving::are_even;
@@ -84,6 +85,10 @@ use crate::target::{MultiProgressAlignment, ProgressDrawTarget};
 use indicatif_text::columns::Refusal;
 use std::alloc::Global;
 use std::io;
+
+/// How many drawings in a row may leave lines that stay, and edit others, before one writes all lines as a whole: whatever another program
+/// wrote into their rows is gone then.
+const MOST_DRAWINGS: usize = 24;
 
 /// Draws the lines of bars on a terminal, and takes back those that it may still change.
 ///
@@ -115,6 +120,8 @@ pub struct Engine<T: Drop> {
     failed: bool,
     /// Whether draws write lines over those that stand there, where they can.
     moves: bool,
+    /// How many drawings have changed lines since all lines were written as a whole; `MOST_DRAWINGS` where the next one is to do so.
+    drawings: usize,
     ghost some: { ∥ ((l : Lists) × Suits counts failed shown l) ∥₁ },
 }
 
@@ -128,6 +135,7 @@ impl<T: Drop> Drop for Engine<T> {
             spare: _,
             failed: _,
             moves: _,
+            drawings: _,
         } = self;
     }
 }
@@ -164,6 +172,7 @@ impl<T: TermLike + Drop> Engine<T> {
             spare: Spare::new(alloc),
             failed: false,
             moves: false,
+            drawings: 0,
         }
     }
 
@@ -208,6 +217,7 @@ impl<T: TermLike + Drop> Engine<T> {
             spare: _,
             failed: _,
             moves: _,
+            drawings: _,
         } = self;
         term
     }
@@ -268,6 +278,7 @@ impl<T: TermLike + Drop> Engine<T> {
             frame,
             pass,
             bottom: alignment.is_bottom(),
+            whole: self.drawings >= MOST_DRAWINGS,
             shown: &self.shown,
             blanks: old.blanks,
             taken: old.live,
@@ -334,6 +345,7 @@ impl<T: TermLike + Drop> Engine<T> {
             frame,
             pass: 0,
             bottom: alignment.is_bottom(),
+            whole: true,
             shown: &self.shown,
             blanks: 0,
             taken,
@@ -439,9 +451,11 @@ impl<T: TermLike + Drop> Engine<T> {
         ensures moves { engine_moves self.new ≡ engine_moves self.old }
     {
         let from = above.to - above.from;
+        let drawings = drawings_behind(self.drawings, &laid);
         self.shown.put(&mut self.spare, above, laid, width)?;
         self.counts = next;
         self.failed = false;
+        self.drawings = drawings;
         Ok(from)
     }
 
@@ -473,6 +487,7 @@ impl<T: TermLike + Drop> Engine<T> {
             lines: self.shown.behind(from),
         };
         let written = write(&mut self.term, writing, &drawing);
+        self.drawings = drawings_below(self.drawings, text);
         self.ended(written)
     }
 
@@ -493,7 +508,8 @@ impl<T: TermLike + Drop> Engine<T> {
         }
     }
 
-    /// Remembers these counts and lines as the engine's from now on.
+    /// Remembers these counts and lines as the engine's from now on. The colours of lines that were cut aren't known, so the next drawing
+    /// writes all lines as a whole.
     fn remember(&mut self, next: Counts, shown: Remembered)
         requires { ∥ ((l : Lists) × Suits next false shown l) ∥₁ }
         ensures terminal { engine_term self.new ≡ engine_term self.old }
@@ -503,6 +519,7 @@ impl<T: TermLike + Drop> Engine<T> {
         self.counts = next;
         self.shown = shown;
         self.failed = false;
+        self.drawings = MOST_DRAWINGS;
     }
 
     /// Forgets the engine's counts and lines, since the terminal failed.
@@ -741,6 +758,29 @@ impl Before {
             },
             None => whole,
         }
+    }
+}
+
+/// How many drawings have changed lines since all were written as a whole, behind one that this frame is laid out for. Where a line leaves
+/// colours open, they are those of the lines below it, too, so the next drawing is whole.
+fn drawings_behind(drawings: usize, laid: &Laid) -> usize {
+    if laid.leaves_open() {
+        return MOST_DRAWINGS;
+    }
+    if laid.at == 0 {
+        return 0;
+    }
+    if laid.changed.is_empty() && laid.more.is_empty() {
+        return drawings;
+    }
+    drawings.saturating_add(1)
+}
+
+/// The same behind a text that was written above the lines.
+fn drawings_below(drawings: usize, text: Option<&str>) -> usize {
+    match text {
+        Some(text) if leaves_open(text) => MOST_DRAWINGS,
+        _ => drawings,
     }
 }
 

@@ -152,7 +152,6 @@ pub fn below_blanks(spare: &mut Spare, laid: Laid, blanks: usize) -> Result<Laid
             rows: 1,
             last: 0,
             narrow: true,
-            edits: 0,
             step: Step::Whole,
         })?;
     }

@@ -12,23 +12,19 @@ use crate::engine::remembered::StandingLine;
 use crate::engine::window::Window;
 use indicatif_text::columns::Refusal;
 
-/// How often a line is edited at most before it is written as a whole, so that nothing that somebody else wrote into its row stays there.
-const MOST_EDITS: usize = 99;
-
-/// What becomes of a row or some where a line comes: the line's rows, how many columns it takes of the last one, whether each of its
-/// characters takes one, and how often what stands there was edited since it was written as a whole.
+/// What becomes of a row or some where a line comes: the line's rows, how many columns it takes of the last one, and whether each of its
+/// characters takes one.
 #[derive(Clone, Copy, Drop)]
 pub struct Turn {
     pub step: Step,
     pub rows: usize,
     pub last: usize,
     pub narrow: bool,
-    pub edits: usize,
 }
 
 /// What becomes of a line that stands where another text comes. Only lines of one row whose visible characters take one column each are
-/// edited, and aren't measured; so a terminal that takes a character for wider or narrower shows its lines whole. Each hundredth of the
-/// changes of a line writes it as a whole, too. Where the cursor is to wait, edits leave it behind the end of the row.
+/// edited, and aren't measured; so a terminal that takes a character for wider or narrower shows its lines whole. Where the cursor
+/// is to wait, edits leave it behind the end of the row.
 pub fn compare(
     line: &StandingLine,
     text: &str,
@@ -45,28 +41,21 @@ pub fn compare(
             rows: 1,
             last: part.last,
             narrow: line.narrow,
-            edits: line.edits.saturating_add(1),
         }),
         None => measure(text, window),
     }
 }
 
-/// The part of a line that is written, if it hasn't been edited too often. Only lines of one row are looked at. A line that was cut to
-/// another size has no colours in its text, while its cells may have some: so of lines that aren't known to be narrow only those with
-/// colours are edited.
+/// The part of a line that is written. Only lines of one row are looked at.
 fn part_of(line: &StandingLine, text: &str, window: Window, waits: bool) -> Option<Part>
     requires line { IsLine window.columns line.now }
     ensures small { IfSome result (λ p. window.columns ≤ 65535) }
     ensures parted { IfSome result (λ p. (line.now.rows ≡ 1) × Parted window.columns waits line.now.narrow (string_bytes line.now.text) text.now p) }
 {
-    if line.rows != 1 || line.edits >= MOST_EDITS || window.columns > 65535 {
+    if line.rows != 1 || window.columns > 65535 {
         return None;
     }
-    let stands = line.text.as_bytes();
-    if !begin_or_end_alike(stands, text.as_bytes()) {
-        return None;
-    }
-    if !line.narrow && !stands.contains(&0x1B) {
+    if !begin_or_end_alike(line.text.as_bytes(), text.as_bytes()) {
         return None;
     }
     parting(line, text, window.columns, waits)
@@ -94,6 +83,5 @@ pub fn measure(text: &str, window: Window) -> Result<Turn, Refusal>
         rows: metrics.height,
         last: metrics.last_line_width,
         narrow: is_narrow_text(text),
-        edits: 0,
     })
 }

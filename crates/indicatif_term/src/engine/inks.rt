@@ -131,6 +131,19 @@ fn closes(sequence: &str) -> bool
     sequence == RESET
 }
 
+/// Whether a text leaves colours open: whether its last escape character begins another sequence than the one that closes all.
+pub fn leaves_open(text: &str) -> bool {
+    let bytes = text.as_bytes();
+    let mut at = bytes.len();
+    'bytes: while at > 0 {
+        at -= 1;
+        if bytes[at] == 0x1B {
+            return !bytes[at..].starts_with(RESET.as_bytes());
+        }
+    }
+    false
+}
+
 /// How many visible characters a text has, if each takes one column, in colours that are read right.
 pub fn inked_count(text: &str) -> Option<usize>
     ensures count { IfSome result (λ n. n ≡ min (length (visible (chars text.now))) (2 ^ 64 - 1)) }

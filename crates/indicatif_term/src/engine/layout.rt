@@ -14,6 +14,7 @@ ghost use Rattle.indicatif_term.specs.Inside.Owned.{run_length, through, kept_be
 use crate::engine::beside::{Beside, below_blanks};
 use crate::engine::comparing::{Turn, compare, measure};
 use crate::engine::counts::blanks_of;
+use crate::engine::inks::leaves_open;
 use crate::engine::lines::Segment;
 use crate::engine::parting::Step;
 use crate::engine::remembered::{Remembered, StandingLine};
@@ -75,6 +76,28 @@ pub struct Laid {
     pub more: Vec<StandingLine>,
 }
 
+impl Laid {
+    /// Whether a new line leaves colours open.
+    pub fn leaves_open(&self) -> bool {
+        for line in &self.changed {
+            if !line.turn.narrow && leaves_open(&line.text) {
+                return true;
+            }
+        }
+        some_open(&self.more)
+    }
+}
+
+/// Whether some of these lines leaves colours open.
+fn some_open(lines: &[StandingLine]) -> bool {
+    for line in lines {
+        if !line.narrow && leaves_open(&line.text) {
+            return true;
+        }
+    }
+    false
+}
+
 /// What is asked of a drawing: bars, of which the first `pass` are dropped, in the place of what stands.
 #[derive(Clone, Copy)]
 pub struct Asked<'a> {
@@ -82,6 +105,8 @@ pub struct Asked<'a> {
     pub pass: usize,
     /// Whether blank rows above the bars fill the rows that are taken back.
     pub bottom: bool,
+    /// Whether each line is written as a whole, also where it stands already.
+    pub whole: bool,
     /// The lines that are remembered of the terminal, how many blank ones are the first live ones, and how many rows are taken back.
     pub shown: &'a Remembered,
     pub blanks: usize,
@@ -123,20 +148,24 @@ pub fn plan_drawing<T: TermLike>(
     })
 }
 
-/// What stands beside a frame; nothing where a text comes above it.
+/// What stands beside a frame; nothing where a text comes above it, or each line is written as a whole.
 fn beside_of<'a>(text: Option<&str>, asked: Asked<'a>, window: Window) -> Beside<'a>
     ensures right { AreLines window.columns result.lines.now }
     ensures blank { AreBlank result.blanks result.lines.now }
     ensures live { (result.lines.now ≡ []) ⊎ ((asked.entry.shown.now.width ≡ window.columns) × (result.lines.now ≡ live_lines asked.entry.shown.now)) }
     ensures nothing { 0 < length (text_above text.entry) → result.lines.now ≡ [] }
 {
+    if asked.whole {
+        return Beside::nothing();
+    }
     match text {
         Some(_) => Beside::nothing(),
         None => asked.shown.beside(window.columns, asked.blanks),
     }
 }
 
-/// A frame that was laid out, below so many blank lines. Where others stand, it is laid out anew, with nothing beside it.
+/// A frame that was laid out, below so many blank lines. Where others stand, or a new line leaves colours open, which go on in the lines
+/// below it, it is laid out anew, with nothing beside it.
 fn with_blanks(
     spare: &mut Spare,
     laid: Laid,
@@ -149,7 +178,7 @@ fn with_blanks(
     ensures blanks { IfOk result (λ l. l.blanks ≡ blanks) }
     ensures memory { result ≡ Err Refusal.Memory → (0 < length (all_lines (map bar_lines asked.entry.frame.now))) ⊎ (0 < blanks) }
 {
-    if laid.blanks == blanks {
+    if laid.blanks == blanks && !laid.leaves_open() {
         return Ok(laid);
     }
     let laid = beside_nothing(spare, laid, asked, window)?;
@@ -356,7 +385,6 @@ fn lay_below(
         rows: turn.rows,
         last: turn.last,
         narrow: turn.narrow,
-        edits: 0,
         step: Step::Whole,
     })?;
     laid.plan.rows += turn.rows;

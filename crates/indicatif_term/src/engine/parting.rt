@@ -40,6 +40,9 @@ pub fn parting(old: &StandingLine, new: &str, width: usize, waits: bool) -> Opti
     ensures { IfSome result (λ p. Parted width waits old.now.narrow (string_bytes old.now.text) new.now p) }
 {
     let parts = split(&old.text, new, waits)?;
+    if !old.narrow && !is_narrow_text(parts.front) {
+        return None;
+    }
     let olds = column_count(parts.own, old.narrow)?;
     let news = column_count(parts.other, old.narrow)?;
     if olds > old.last || old.last > width {

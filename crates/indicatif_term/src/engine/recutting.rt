@@ -203,7 +203,6 @@ fn line_of(
         rows: 1,
         last,
         narrow: false,
-        edits: 0,
         step: Step::Whole,
     })
 }

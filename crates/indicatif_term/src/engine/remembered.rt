@@ -24,8 +24,6 @@ pub struct StandingLine {
     pub last: usize,
     /// Whether each of its characters takes one column, as far as that was looked at.
     pub narrow: bool,
-    /// How often it was edited since it was written whole.
-    pub edits: usize,
     /// What becomes of it in that drawing.
     pub step: Step,
 }

@@ -62,7 +62,6 @@ fn put_line(lines: &mut [StandingLine], spare: &mut Spare, line: NewLine)
     let before = replace(&mut standing.before, old);
     standing.last = turn.last;
     standing.narrow = turn.narrow;
-    standing.edits = turn.edits;
     standing.step = turn.step;
     spare.store_text(before);
 }

@@ -138,7 +138,6 @@ impl Spare {
             rows: _,
             last: _,
             narrow: _,
-            edits: _,
             step: _,
         } = line;
         if before.capacity() > 0 {

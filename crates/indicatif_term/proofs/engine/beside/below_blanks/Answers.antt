@@ -16,7 +16,7 @@ loop-init c = record { blanks = []; are = no_blanks_yet; more = sym (append-nil 
 pub loop-preserved : goal.loop-preserved
 loop-preserved c =
     let i = c.loop.invariant in
-    let x : StandingLine = record { bar = 0; text = c.take_text.result; before = c.no_text.result; rows = 1; last = 0; narrow = true; edits = 0; step = Whole } in
+    let x : StandingLine = record { bar = 0; text = c.take_text.result; before = c.no_text.result; rows = 1; last = 0; narrow = true; step = Whole } in
     record {
       blanks = i.blanks ++ x ∷ [];
       are = one_blank_more c.loop.counter i.blanks x i.are c.take_text.ensures refl refl refl refl;
