@@ -160,8 +160,8 @@ impl OnScreen {
 
     fn suspend(&mut self, name: &str, text: &str, at: At, got: &mut Got) -> Done {
         let text = unescaped(at.alloc, text)?;
-        let screen = &self.screen;
-        let look = || (screen.look(), screen.feed(text.as_str().as_bytes()));
+        let screen = self.screen.clone()?;
+        let look = move || (screen.look(), screen.feed(text.as_str().as_bytes()));
         let ((look, fed), answer) = match &mut self.drawer {
             Drawer::Lone(bar) => bar.suspend(at.now, look),
             Drawer::Board(board) => board.suspend(at.now, look),
