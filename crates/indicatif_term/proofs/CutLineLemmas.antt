@@ -13,10 +13,10 @@ use Rattle.indicatif_text.specs.Columns.{Cell, Glyph, columns_in, glyphs_of, pie
 use Rattle.indicatif_term.specs.Resizes.{has_place, recut, recut_all}
 use Rattle.indicatif_term.specs.Standing.{texts, standing_rows, AreLines}
 use Rattle.indicatif_term.specs.Inside.Edits.{AreSingle}
-use Rattle.indicatif_term.specs.Inside.Recutting.{piece_text, without_spaces, fitting_count, new_pieces, cut_pieces, cut_line, cut_lines, LineShown, shown_line, shown_lines, row_line, line_bars, cut_bars, Gains, HasMore}
+use Rattle.indicatif_term.specs.Inside.Recutting.{IsFitting, piece_text, without_spaces, fitting_count, new_pieces, cut_pieces, cut_line, cut_lines, LineShown, shown_line, shown_lines, row_line, line_bars, cut_bars, Gains, HasMore}
 use Rattle.indicatif_term.specs.declared.engine.remembered.StandingLine.{StandingLine}
 use Rattle.indicatif_term.specs.declared.engine.recutting.CutLines.{CutLines}
-use Rattle.indicatif_term.proofs.CutPieceLemmas.{more_pieces, more_some, first_piece, all_filtered, all_unspaced, all_in_pieces, IsNarrow, narrow_pieces, only_piece, all_placed, placed_taken, placed_dropped}
+use Rattle.indicatif_term.proofs.CutPieceLemmas.{more_pieces, more_some, first_piece, all_filtered, all_unspaced, all_in_pieces, IsNarrow, narrow_pieces, only_piece, all_placed, placed_taken}
 use Rattle.indicatif_term.proofs.CutTextLemmas.{IsRead, glyphs_read, piece_glyphs, piece_narrow, row_glyphs}
 
 -- ---- a line of one row
@@ -195,40 +195,43 @@ next_row_cut w w' gs some e = ap (map (new_pieces w')) (more_some w gs some ∙ 
 -- ---- the lines of a row, one after another
 
 -- after the line of the first piece those of the others are left
-pub piece_left : (w n : ℕ) (gs : List Glyph) (before now : List LineShown) → n ≡ fitting_count w 0 gs → now ≡ before ++ row_line (filter (has_place w) (take n gs)) ∷ [] →
-    now ++ map row_line (more_pieces w (drop n gs)) ≡ before ++ map row_line (pieces_of w (filter (has_place w) gs))
-piece_left w n gs before now e f =
-    let more = map row_line (more_pieces w (drop n gs)) in
-    ap (λ xs. xs ++ more) f ∙ append_assoc before (row_line (filter (has_place w) (take n gs)) ∷ []) more
-    ∙ ap (λ xs. before ++ xs) (sym (ap (map row_line) (first_piece w gs ∙ ap (λ k. filter (has_place w) (take k gs) ∷ more_pieces w (drop k gs)) (sym e))))
+pub piece_left : (w : ℕ) (cs : List ℕ) (n : ℕ) (before now : List LineShown) → IsFitting w cs n → now ≡ before ++ row_line (filter (has_place w) (glyphs_of (take n cs))) ∷ [] →
+    now ++ map row_line (more_pieces w (glyphs_of (drop n cs))) ≡ before ++ map row_line (pieces_of w (filter (has_place w) (glyphs_of cs)))
+piece_left w cs n before now fits e =
+    let gs = glyphs_of cs in
+    let k = fitting_count w 0 gs in
+    let more = map row_line (more_pieces w (drop k gs)) in
+    ap (λ rest. now ++ map row_line (more_pieces w rest)) fits.rest ∙ ap (λ xs. xs ++ more) (e ∙ ap (λ front. before ++ row_line (filter (has_place w) front) ∷ []) fits.front)
+    ∙ append_assoc before (row_line (filter (has_place w) (take k gs)) ∷ []) more ∙ ap (λ xs. before ++ xs) (sym (ap (map row_line) (first_piece w gs)))
 
-pub next_piece_left : (w n at : ℕ) (gs : List Glyph) (before now : List LineShown) → at < length gs → n ≡ fitting_count w 0 (drop at gs) →
-    now ≡ before ++ row_line (filter (has_place w) (take n (drop at gs))) ∷ [] →
-    now ++ map row_line (more_pieces w (drop (at + n) gs)) ≡ before ++ map row_line (more_pieces w (drop at gs))
-next_piece_left w n at gs before now some e f =
-    ap (λ rest. now ++ map row_line (more_pieces w rest)) (sym (drop-drop n at gs)) ∙ piece_left w n (drop at gs) before now e f
-    ∙ ap (λ ps. before ++ map row_line ps) (sym (more_some w (drop at gs) (omega (arith, some, length-drop at gs))))
+pub next_piece_left : (w n at : ℕ) (cs : List ℕ) (before now : List LineShown) → 0 < length (glyphs_of (drop at cs)) → IsFitting w (drop at cs) n →
+    now ≡ before ++ row_line (filter (has_place w) (glyphs_of (take n (drop at cs)))) ∷ [] →
+    now ++ map row_line (more_pieces w (glyphs_of (drop (at + n) cs))) ≡ before ++ map row_line (more_pieces w (glyphs_of (drop at cs)))
+next_piece_left w n at cs before now some fits e =
+    ap (λ rest. now ++ map row_line (more_pieces w (glyphs_of rest))) (sym (drop-drop n at cs)) ∙ piece_left w (drop at cs) n before now fits e
+    ∙ ap (λ ps. before ++ map row_line ps) (sym (more_some w (glyphs_of (drop at cs)) some))
 
 -- after the rows of one more piece those of the others are left
-pub next_rows_left : (w w' n at : ℕ) (gs : List Glyph) (done all : List (List (List Glyph))) → at < length gs → list_all (has_place w) gs ≡ true → n ≡ fitting_count w 0 (drop at gs) →
-    done ++ rows_left w w' (drop at gs) ≡ all → (done ++ new_pieces w' (take n (drop at gs)) ∷ []) ++ rows_left w w' (drop (at + n) gs) ≡ all
-next_rows_left w w' n at gs done all some placed e f =
-    let rest = drop at gs in
-    let row = new_pieces w' (take n rest) in
-    let left : rows_left w w' rest ≡ row ∷ rows_left w w' (drop n rest) =
-    next_row_cut w w' rest (omega (arith, some, length-drop at gs)) (placed_dropped w at gs placed) ∙ ap (λ k. new_pieces w' (take k rest) ∷ rows_left w w' (drop k rest)) (sym e) in
-    append_assoc done (row ∷ []) (rows_left w w' (drop (at + n) gs))
-    ∙ ap (λ xs. done ++ row ∷ rows_left w w' xs) (sym (drop-drop n at gs)) ∙ ap (λ xs. done ++ xs) (sym left) ∙ f
+pub next_rows_left : (w w' n at : ℕ) (cs : List ℕ) (done all : List (List (List Glyph))) → 0 < length (glyphs_of (drop at cs)) → list_all (has_place w) (glyphs_of (drop at cs)) ≡ true →
+    IsFitting w (drop at cs) n → done ++ rows_left w w' (glyphs_of (drop at cs)) ≡ all →
+    (done ++ new_pieces w' (glyphs_of (take n (drop at cs))) ∷ []) ++ rows_left w w' (glyphs_of (drop (at + n) cs)) ≡ all
+next_rows_left w w' n at cs done all some placed fits f =
+    let gs = glyphs_of (drop at cs) in
+    let row = new_pieces w' (glyphs_of (take n (drop at cs))) in
+    let left : rows_left w w' gs ≡ row ∷ rows_left w w' (glyphs_of (drop (at + n) cs)) =
+    next_row_cut w w' gs some placed ∙ ap (λ xs. new_pieces w' xs ∷ rows_left w w' (drop (fitting_count w 0 gs) gs)) (sym fits.front)
+    ∙ ap (λ xs. row ∷ rows_left w w' xs) (sym fits.rest ∙ ap glyphs_of (drop-drop n at cs)) in
+    append_assoc done (row ∷ []) (rows_left w w' (glyphs_of (drop (at + n) cs))) ∙ ap (λ xs. done ++ xs) (sym left) ∙ f
 
-none_behind : (at : ℕ) (gs : List Glyph) → length gs ≤ at → drop at gs ≡ []
-none_behind at gs h = nil_from_length (drop at gs) (omega (arith, h, length-drop at gs))
+none_behind : (at : ℕ) (cs : List ℕ) → length cs ≤ at → drop at cs ≡ []
+none_behind at cs h = nil_from_length (drop at cs) (omega (arith, h, length-drop at cs))
 
 -- behind the last one none is left
-pub no_piece_left : (w at : ℕ) (gs : List Glyph) (now all : List LineShown) → length gs ≤ at → now ++ map row_line (more_pieces w (drop at gs)) ≡ all → now ≡ all
-no_piece_left w at gs now all h e = sym (append-nil now) ∙ ap (λ rest. now ++ map row_line (more_pieces w rest)) (sym (none_behind at gs h)) ∙ e
+pub no_piece_left : (w at : ℕ) (cs : List ℕ) (now all : List LineShown) → length cs ≤ at → now ++ map row_line (more_pieces w (glyphs_of (drop at cs))) ≡ all → now ≡ all
+no_piece_left w at cs now all h e = sym (append-nil now) ∙ ap (λ rest. now ++ map row_line (more_pieces w (glyphs_of rest))) (sym (none_behind at cs h)) ∙ e
 
-pub no_row_left : (w w' at : ℕ) (gs : List Glyph) (done all : List (List (List Glyph))) → length gs ≤ at → done ++ rows_left w w' (drop at gs) ≡ all → done ≡ all
-no_row_left w w' at gs done all h e = sym (append-nil done) ∙ ap (λ rest. done ++ rows_left w w' rest) (sym (none_behind at gs h)) ∙ e
+pub no_row_left : (w w' at : ℕ) (cs : List ℕ) (done all : List (List (List Glyph))) → length cs ≤ at → done ++ rows_left w w' (glyphs_of (drop at cs)) ≡ all → done ≡ all
+no_row_left w w' at cs done all h e = sym (append-nil done) ∙ ap (λ rest. done ++ rows_left w w' (glyphs_of rest)) (sym (none_behind at cs h)) ∙ e
 
 -- ---- the bars of the lines
 

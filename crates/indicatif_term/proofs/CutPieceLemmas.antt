@@ -1,9 +1,8 @@
 -- Glyphs cut into pieces one after another.
-use Rattle.std.proofs.Common.{◌≡◌, ℕ, zero, suc, ◌+◌, ◌-◌, ◌<◌, ◌≤◌, Bool, true, false, List, [], ◌∷◌, ◌++◌, filter, length, take, drop, get_or, refl, sym, ◌∙◌, ap, arith, append_assoc, append-nil, take_all, length-drop, inl, inr}
+use Rattle.std.proofs.Common.{◌≡◌, ℕ, zero, suc, ◌+◌, ◌-◌, ◌<◌, ◌≤◌, Bool, true, List, [], ◌∷◌, ◌++◌, filter, length, take, drop, refl, sym, ◌∙◌, ap, arith, append_assoc, append-nil, take_all, length-drop, inl, inr}
 use Rattle.std.specs.Prelude.{nat_le}
 use Rattle.std.specs.List.{AllByRecursion, list_all}
-use Rattle.std.proofs.lemmas.Bool.{cases_Bool, cond_both, leb-true, le-leb, lt-leb, and_parts}
-use Rattle.std.proofs.lemmas.List.Folds.{list_all_at}
+use Rattle.std.proofs.lemmas.Bool.{cases_Bool, cond_both, leb-true, le-leb, and_parts}
 use Rattle.std.proofs.lemmas.List.Sums.{sum_by-append, sum_by-cons}
 use Rattle.indicatif_text.specs.Columns.{Glyph, glyph_width, columns_in, pieces_of, pieces_after}
 use Rattle.indicatif_term.specs.Resizes.{has_place}
@@ -75,44 +74,6 @@ fitting_columns w c (g ∷ gs) h = elim (cases_Bool (has_place w g)) [
   | inr e ↦ rw e (rw e (fitting_columns w c gs h))
 ]
 
--- ---- counting from an index
-
-pub drop_next : (gs : List Glyph) (i : ℕ) (g : Glyph) → i < length gs → get_or gs i g ≡ g → drop i gs ≡ g ∷ drop (i + 1) gs
-drop_next [] i g h at = absurd (omega arith)
-drop_next (x ∷ gs) zero g h at = ap (λ y. y ∷ gs) at
-drop_next (x ∷ gs) (suc i) g h at = drop_next gs i g (omega arith) at ∙ ap (λ k. g ∷ drop k (x ∷ gs)) (let k : suc (i + 1) ≡ suc i + 1 = omega arith in k)
-
--- one glyph more
-pub count_more : (w taken n : ℕ) (gs : List Glyph) (i : ℕ) (g : Glyph) → i < length gs → get_or gs i g ≡ g → has_place w g ≡ true → taken + glyph_width g ≤ w →
-    n ≡ i + fitting_count w taken (drop i gs) → n ≡ (i + 1) + fitting_count w (taken + glyph_width g) (drop (i + 1) gs)
-count_more w taken n gs i g h at e room is =
-    let test : nat_le (taken + glyph_width g) w ≡ true = le-leb (taken + glyph_width g) w room in
-    let one : fitting_count w taken (g ∷ drop (i + 1) gs) ≡ suc (fitting_count w (taken + glyph_width g) (drop (i + 1) gs)) = rw (e, test) refl in
-    omega (arith, is, ap (fitting_count w taken) (drop_next gs i g h at), one)
-
-pub count_ends : (w taken n : ℕ) (gs : List Glyph) (i : ℕ) (g : Glyph) → i < length gs → get_or gs i g ≡ g → has_place w g ≡ true → w < taken + glyph_width g →
-    n ≡ i + fitting_count w taken (drop i gs) → i ≡ n
-count_ends w taken n gs i g h at e full is =
-    let test : nat_le (taken + glyph_width g) w ≡ false = lt-leb (taken + glyph_width g) w full in
-    let one : fitting_count w taken (g ∷ drop (i + 1) gs) ≡ 0 = rw (e, test) refl in
-    omega (arith, is, ap (fitting_count w taken) (drop_next gs i g h at), one)
-
--- ---- spaces at the end
-
-pub none_left : (gs : List Glyph) → list_all is_space gs ≡ true → without_spaces gs ≡ []
-none_left [] e = refl
-none_left (g ∷ gs) e = rw e refl
-
-pub last_left : (gs : List Glyph) (n : ℕ) (g : Glyph) → n < length gs → g ≡ get_or gs n g → is_space g ≡ false → list_all is_space (drop (suc n) gs) ≡ true → take (suc n) gs ≡ without_spaces gs
-last_left [] n g h at e rest = absurd (omega arith)
-last_left (x ∷ gs) zero g h at e rest =
-    let here : is_space x ≡ false = ap is_space (sym at) ∙ e in
-    let some : list_all is_space (x ∷ gs) ≡ false = list_all_at is_space (x ∷ gs) zero g h here in
-    rw some (ap (λ ys. x ∷ ys) (sym (none_left gs rest)))
-last_left (x ∷ gs) (suc n) g h at e rest =
-    let some : list_all is_space (x ∷ gs) ≡ false = list_all_at is_space (x ∷ gs) (suc n) g h (ap is_space (sym at) ∙ e) in
-    rw some (ap (λ ys. x ∷ ys) (last_left gs n g (omega arith) at e rest))
-
 -- ---- what holds of all glyphs holds of all glyphs of the pieces
 
 module _ (P : Glyph → Type 0) where
@@ -174,22 +135,6 @@ placed_dropped w zero gs e = e
 placed_dropped w (suc n) [] e = refl
 placed_dropped w (suc n) (g ∷ gs) e = let p = and_parts (has_place w g) (list_all (has_place w) gs) e in placed_dropped w n gs p.1
 
--- ---- columns that are taken so far
-
-pub taken_columns : (w i : ℕ) (gs : List Glyph) (g : Glyph) → i < length gs → get_or gs i g ≡ g → has_place w g ≡ true →
-    columns_in (filter (has_place w) (take i gs)) + glyph_width g ≤ columns_in (filter (has_place w) gs)
-taken_columns w i [] g h at e = absurd (omega arith)
-taken_columns w zero (x ∷ gs) g h at e =
-    let here : has_place w x ≡ true = ap (has_place w) at ∙ e in
-    let all : columns_in (x ∷ filter (has_place w) gs) ≡ glyph_width x + columns_in (filter (has_place w) gs) = sum_by-cons glyph_width x (filter (has_place w) gs) in
-    rw here (let same : glyph_width x ≡ glyph_width g = ap (λ y. glyph_width y) at in omega (arith, all, same))
-taken_columns w (suc i) (x ∷ gs) g h at e = elim (cases_Bool (has_place w x)) [
-  | inl here ↦
-      let more : columns_in (filter (has_place w) (take i gs)) + glyph_width g ≤ columns_in (filter (has_place w) gs) = taken_columns w i gs g (omega arith) at e in
-      rw here (omega (arith, more, sum_by-cons glyph_width x (filter (has_place w) gs), sum_by-cons glyph_width x (filter (has_place w) (take i gs))))
-  | inr none ↦ rw none (taken_columns w i gs g (omega arith) at e)
-]
-
 -- what stands behind the first n
-pub rest_of : (n : ℕ) (gs : List Glyph) → take (length gs - n) (drop n gs) ≡ drop n gs
-rest_of n gs = take_all (length gs - n) (drop n gs) (omega (arith, length-drop n gs))
+pub rest_of : {A : Type 0} (n : ℕ) (xs : List A) → take (length xs - n) (drop n xs) ≡ drop n xs
+rest_of n xs = take_all (length xs - n) (drop n xs) (omega (arith, length-drop n xs))

@@ -20,7 +20,6 @@
 //!   `Fresh`, the rows that are reached for the first time.
 //! - `remembered`: `Remembered`, the lines in those rows: the live ones, those of kept rows, and new ones in their place or below.
 //! - `recutting`: the remembered lines at another size (`CutLines`): each row's glyphs are cut into lines of one row; and the counts of those.
-//! - `joined`: `JoinedChar`, such a glyph: a character of a text and its joiners.
 //!
 //! What differs:
 //!
@@ -54,7 +53,6 @@ pub(crate) mod changing;
 pub(crate) mod comparing;
 pub(crate) mod counts;
 pub(crate) mod inks;
-pub(crate) mod joined;
 pub(crate) mod layout;
 pub(crate) mod lines;
 pub(crate) mod moving;

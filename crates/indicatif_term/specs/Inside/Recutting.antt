@@ -1,7 +1,8 @@
 -- Lines that are wrapped again: each of their rows becomes lines of one row.
-use Rattle.std.specs.Prelude.{false, ◌≡◌, ℕ, ◌+◌, ◌-◌, Bool, ◌&&◌, ◌==◌, nat_le, List, [], ◌∷◌, ◌++◌, map, filter, flat_map, length, suc, ◌≤◌, chars, string_bytes, sum, min, drop, replicate, if◌then◌else◌}
+use Rattle.std.specs.Prelude.{false, ◌≡◌, ℕ, ◌+◌, ◌-◌, Bool, ◌&&◌, ◌==◌, nat_le, List, [], ◌∷◌, ◌++◌, map, filter, flat_map, length, suc, ◌<◌, ◌≤◌, chars, string_bytes, sum, min, take, drop, replicate, if◌then◌else◌}
+use Rattle.std.specs.Int.{is_in_range}
 use Rattle.std.specs.List.{list_all}
-use Rattle.indicatif_text.specs.Columns.{Cell, Glyph, glyph_width, columns_in, glyphs_of, pieces_of, visible}
+use Rattle.indicatif_text.specs.Columns.{Cell, Glyph, width_of, glyph_width, columns_in, glyphs_of, pieces_of, visible}
 use Rattle.indicatif_term.specs.Pictures.{is_empty}
 use Rattle.indicatif_term.specs.Lists.{Lists, all_rows, live_height}
 use Rattle.indicatif_term.specs.Resizes.{has_place, recut, recut_all, recut_lists}
@@ -46,6 +47,22 @@ abbrev pub fitting_count : ℕ → ℕ → List Glyph → ℕ
 fitting_count w c [] = 0
 fitting_count w c (g ∷ gs) =
     if has_place w g then (if nat_le (c + glyph_width g) w then suc (fitting_count w (c + glyph_width g) gs) else 0) else suc (fitting_count w c gs)
+
+-- whether a row of w columns has place for a character without its joiners
+abbrev pub fits_alone : ℕ → ℕ → Bool
+fits_alone w c = is_in_range 1 w (width_of c)
+
+-- whether a character goes into a line of a row: a joiner does where the character before it does
+abbrev pub keeps : ℕ → Bool → ℕ → Bool
+keeps w before c = if width_of c == 0 then before else fits_alone w c
+
+-- the first n of these characters are those of the glyphs that fit into a row of w columns
+pub record IsFitting (w : ℕ) (cs : List ℕ) (n : ℕ) : Type 0 where
+  pub within : n ≤ length cs
+  pub some : 0 < length cs → 0 < n
+  pub front : glyphs_of (take n cs) ≡ take (fitting_count w 0 (glyphs_of cs)) (glyphs_of cs)
+  pub rest : glyphs_of (drop n cs) ≡ drop (fitting_count w 0 (glyphs_of cs)) (glyphs_of cs)
+  pub more : n < length cs → 0 < length (glyphs_of (drop n cs))
 
 -- the pieces that a row of these glyphs becomes
 abbrev pub new_pieces : ℕ → List Glyph → List (List Glyph)

@@ -1,18 +1,19 @@
 //! Lines that are cut anew where a terminal gets another width: each of their rows becomes lines of one row. And the counts of those rows.
-ghost use Rattle.std.specs.Prelude.{◌≡◌, ℕ, ◌+◌, ◌<◌, ◌≤◌, ◌∷◌, ◌++◌, [], true, map, filter, length, sum, take, string_bytes, IfOk, IfErr, OnOk};
+ghost use Rattle.std.specs.Prelude.{◌≡◌, ℕ, ◌+◌, ◌<◌, ◌≤◌, ◌∷◌, ◌++◌, [], true, map, filter, length, sum, take, chars, string_bytes, IfOk, IfErr, OnOk};
 ghost use Rattle.std.specs.List.{list_all};
-ghost use Rattle.indicatif_text.specs.Columns.{columns_in};
+ghost use Rattle.indicatif_text.specs.Columns.{columns_in, glyphs_of, visible};
+ghost use Rattle.indicatif_text.specs.PieceLaws.{run_text};
+ghost use Rattle.indicatif_text.specs.Pieces.{shown};
 ghost use Rattle.indicatif_term.specs.Lists.{Lists, live_rows};
 ghost use Rattle.indicatif_term.specs.Counts.{CountsOf};
 ghost use Rattle.indicatif_term.specs.Resizes.{has_place, recut_lists, settled_whole};
 ghost use Rattle.indicatif_term.specs.Standing.{texts, IsLine, AreLines};
-ghost use Rattle.indicatif_term.specs.Inside.Recutting.{is_space, without_spaces, fitting_count, new_pieces, cut_pieces, cut_line, cut_lines, line_bars, cut_bars, Gains, shown_line, shown_lines, row_line, HasMore, row_heights, end_row};
+ghost use Rattle.indicatif_term.specs.Inside.Recutting.{guarded_char, without_spaces, fits_alone, keeps, IsFitting, new_pieces, cut_pieces, cut_line, cut_lines, line_bars, cut_bars, Gains, shown_line, shown_lines, row_line, HasMore, row_heights, end_row};
 
 use crate::engine::counts::Counts;
-use crate::engine::joined::{JoinedChar, joined_chars};
 use crate::engine::parting::Step;
 use crate::engine::remembered::{Remembered, StandingLine};
-use indicatif_text::columns::Refusal;
+use indicatif_text::columns::{Piece, Refusal, pieces, width as width_of_char};
 use std::alloc::Global;
 
 /// The width that a terminal leaves, and the one that it gets.
@@ -71,48 +72,47 @@ impl CutLines {
         ensures owned { OnOk result (Gains line.now.bar self.old.lines.items self.new.lines.items) }
         ensures memory { IfErr result (λ e. e ≡ Refusal.Memory) }
     {
-        let glyphs = joined_chars(alloc, &line.text)?;
-        self.add_rows(alloc, line.bar, &glyphs, widths)
+        let seen = visible_chars(alloc, &line.text)?;
+        self.add_rows(alloc, line.bar, &seen, widths)
     }
 
-    /// Cuts the rows of a remembered line. Refused: `Memory`.
+    /// Cuts the rows of a remembered line, by its visible characters. Refused: `Memory`.
     fn add_rows(
         &mut self,
         alloc: Global,
         bar: u64,
-        glyphs: &[JoinedChar],
+        seen: &[char],
         widths: Widths,
     ) -> Result<(), Refusal>
-        requires placed { list_all (has_place widths.from) glyphs.now ≡ true }
-        ensures added { OnOk result (HasMore self.old self.new (cut_pieces widths.from widths.to glyphs.now)) }
+        requires placed { list_all (has_place widths.from) (glyphs_of seen.now) ≡ true }
+        ensures added { OnOk result (HasMore self.old self.new (cut_pieces widths.from widths.to (glyphs_of seen.now))) }
         ensures owned { OnOk result (Gains bar self.old.lines.items self.new.lines.items) }
         ensures memory { IfErr result (λ e. e ≡ Refusal.Memory) }
     {
-        let mut at = self.add_first_row(alloc, bar, glyphs, widths)?;
-        while at < glyphs.len() {
-            let next = self.add_first_row(alloc, bar, &glyphs[at..], widths)?;
+        let mut at = self.add_first_row(alloc, bar, seen, widths)?;
+        while at < seen.len() {
+            let next = self.add_first_row(alloc, bar, &seen[at..], widths)?;
             at += next;
         }
         Ok(())
     }
 
-    /// Cuts the first row of glyphs, and says how many of them that has. Refused: `Memory`.
+    /// Cuts the first row of characters, and says how many of them that has. Refused: `Memory`.
     fn add_first_row(
         &mut self,
         alloc: Global,
         bar: u64,
-        glyphs: &[JoinedChar],
+        seen: &[char],
         widths: Widths,
     ) -> Result<usize, Refusal>
-        ensures count { IfOk result (λ n. n ≡ fitting_count widths.from 0 glyphs.now) }
-        ensures within { IfOk result (λ n. n ≤ length glyphs.now) }
-        ensures added { IfOk result (λ n. HasMore self.old self.new (new_pieces widths.to (take n glyphs.now) ∷ [])) }
+        ensures fitting { IfOk result (λ n. IsFitting widths.from seen.now n) }
+        ensures added { IfOk result (λ n. HasMore self.old self.new (new_pieces widths.to (glyphs_of (take n seen.now)) ∷ [])) }
         ensures owned { OnOk result (Gains bar self.old.lines.items self.new.lines.items) }
         ensures memory { IfErr result (λ e. e ≡ Refusal.Memory) }
     {
-        let count = fitting_count(glyphs, widths.from);
+        let count = fitting_count(seen, widths.from);
         let before = self.lines.len();
-        cut_row(alloc, bar, &mut self.lines, &glyphs[..count], widths.to)?;
+        cut_row(alloc, bar, &mut self.lines, &seen[..count], widths.to)?;
         self.heights.push(self.lines.len() - before)?;
         Ok(count)
     }
@@ -140,10 +140,10 @@ fn cut_row(
     alloc: Global,
     bar: u64,
     lines: &mut Vec<StandingLine>,
-    row: &[JoinedChar],
+    row: &[char],
     width: usize,
 ) -> Result<(), Refusal>
-    ensures cut { OnOk result (shown_lines lines.new.items ≡ shown_lines lines.old.items ++ map row_line (new_pieces width row.now)) }
+    ensures cut { OnOk result (shown_lines lines.new.items ≡ shown_lines lines.old.items ++ map row_line (new_pieces width (glyphs_of row.now))) }
     ensures owned { OnOk result (Gains bar lines.old.items lines.new.items) }
     ensures memory { IfErr result (λ e. e ≡ Refusal.Memory) }
 {
@@ -156,44 +156,40 @@ fn cut_row(
     Ok(())
 }
 
-/// Adds one more line, of as many glyphs from the front as go into a row; and says how many they are. Refused: `Memory`.
+/// Adds one more line, of as many characters from the front as go into a row; and says how many they are. Refused: `Memory`.
 fn push_piece(
     alloc: Global,
     bar: u64,
     lines: &mut Vec<StandingLine>,
-    glyphs: &[JoinedChar],
+    seen: &[char],
     width: usize,
 ) -> Result<usize, Refusal>
-    ensures count { IfOk result (λ n. n ≡ fitting_count width 0 glyphs.now) }
-    ensures within { IfOk result (λ n. n ≤ length glyphs.now) }
-    ensures pushed { IfOk result (λ n. shown_lines lines.new.items ≡ shown_lines lines.old.items ++ row_line (filter (has_place width) (take n glyphs.now)) ∷ []) }
+    ensures fitting { IfOk result (λ n. IsFitting width seen.now n) }
+    ensures pushed { IfOk result (λ n. shown_lines lines.new.items ≡ shown_lines lines.old.items ++ row_line (filter (has_place width) (glyphs_of (take n seen.now))) ∷ []) }
     ensures owned { OnOk result (Gains bar lines.old.items lines.new.items) }
     ensures memory { IfErr result (λ e. e ≡ Refusal.Memory) }
 {
-    let count = fitting_count(glyphs, width);
-    let line = line_of(alloc, bar, &glyphs[..count], width)?;
+    let count = fitting_count(seen, width);
+    let line = line_of(alloc, bar, &seen[..count], width)?;
     lines.push(line)?;
     Ok(count)
 }
 
-/// The line of one row that has those of the glyphs for which a row has place. Refused: `Memory`.
-fn line_of(
-    alloc: Global,
-    bar: u64,
-    glyphs: &[JoinedChar],
-    width: usize,
-) -> Result<StandingLine, Refusal>
-    requires fits { columns_in (filter (has_place width) glyphs.now) ≤ width }
-    ensures line { IfOk result (λ l. shown_line l ≡ row_line (filter (has_place width) glyphs.now)) }
+/// The line of one row that has those of the characters for which a row has place, with their joiners. Refused: `Memory`.
+fn line_of(alloc: Global, bar: u64, seen: &[char], width: usize) -> Result<StandingLine, Refusal>
+    requires fits { columns_in (filter (has_place width) (glyphs_of seen.now)) ≤ width }
+    ensures line { IfOk result (λ l. shown_line l ≡ row_line (filter (has_place width) (glyphs_of seen.now))) }
     ensures bar { IfOk result (λ l. l.bar ≡ bar) }
     ensures memory { IfErr result (λ e. e ≡ Refusal.Memory) }
 {
     let mut text = String::new(alloc);
     let mut last = 0_usize;
-    for glyph in glyphs {
-        if glyph.has_place(width) {
-            glyph.push_onto(&mut text)?;
-            last += glyph.columns();
+    let mut kept = false;
+    for c in seen {
+        kept = keeps(*c, width, kept);
+        if kept {
+            push_guarded(&mut text, *c)?;
+            last += width_of_char(*c);
         }
     }
     Ok(StandingLine {
@@ -207,38 +203,103 @@ fn line_of(
     })
 }
 
-/// How many glyphs from the front go into a row; those that no row has place for go along.
-fn fitting_count(glyphs: &[JoinedChar], width: usize) -> usize
-    ensures count { result ≡ fitting_count width 0 glyphs.now }
-    ensures within { result ≤ length glyphs.now }
+/// Whether a row has place for a character: a joiner goes where the character before it does.
+fn keeps(c: char, width: usize, before: bool) -> bool
+    ensures { result ≡ keeps width before c }
+{
+    if width_of_char(c) == 0 {
+        return before;
+    }
+    fits_alone(c, width)
+}
+
+/// Whether a character takes columns, and no more than a row has.
+fn fits_alone(c: char, width: usize) -> bool
+    ensures { result ≡ fits_alone width c }
+{
+    let columns = width_of_char(c);
+    1 <= columns && columns <= width
+}
+
+/// How many characters from the front go into a row; joiners, and those that no row has place for, go along.
+fn fitting_count(seen: &[char], width: usize) -> usize
+    ensures { IsFitting width seen.now result }
 {
     let mut taken = 0_usize;
-    for at in 0..glyphs.len() {
-        let glyph = &glyphs[at];
-        if glyph.has_place(width) {
-            let columns = glyph.columns();
+    for at in 0..seen.len() {
+        let c = seen[at];
+        if fits_alone(c, width) {
+            let columns = width_of_char(c);
             if columns > width - taken {
                 return at;
             }
             taken += columns;
         }
     }
-    glyphs.len()
+    seen.len()
 }
 
-/// How many glyphs there are up to the last one that is no space.
-fn used_count(row: &[JoinedChar]) -> usize
+/// How many characters there are up to the last one that is no space.
+fn used_count(row: &[char]) -> usize
     ensures within { result ≤ length row.now }
-    ensures used { take result row.now ≡ without_spaces row.now }
+    ensures used { glyphs_of (take result row.now) ≡ without_spaces (glyphs_of row.now) }
 {
     let mut used = row.len();
     while used > 0 {
-        if !row[used - 1].is_space() {
+        if row[used - 1] != ' ' {
             return used;
         }
         used -= 1;
     }
     0
+}
+
+/// The characters of a text outside colour sequences. Refused: `Memory`.
+fn visible_chars(alloc: Global, text: &str) -> Result<Vec<char>, Refusal>
+    ensures read { IfOk result (λ cs. cs.items ≡ visible (chars text.now)) }
+    ensures memory { IfErr result (λ e. e ≡ Refusal.Memory) }
+{
+    let mut seen = Vec::new(alloc);
+    let mut rest = pieces(text);
+    'pieces: while let Some(piece) = rest.next() {
+        push_run(&mut seen, piece)?;
+    }
+    Ok(seen)
+}
+
+/// Appends the characters of a piece, if it is no colour sequence. Refused: `Memory`.
+fn push_run(seen: &mut Vec<char>, piece: Piece<'_>) -> Result<(), Refusal>
+    ensures pushed { OnOk result (seen.new.items ≡ seen.old.items ++ run_text (shown piece.entry)) }
+    ensures memory { IfErr result (λ e. e ≡ Refusal.Memory) }
+{
+    if piece.colour {
+        return Ok(());
+    }
+    push_chars(seen, piece.text)
+}
+
+/// Appends the characters of a text. Refused: `Memory`.
+fn push_chars(seen: &mut Vec<char>, text: &str) -> Result<(), Refusal>
+    ensures pushed { OnOk result (seen.new.items ≡ seen.old.items ++ chars text.now) }
+    ensures memory { IfErr result (λ e. e ≡ Refusal.Memory) }
+{
+    for c in text.chars() {
+        seen.push(c)?;
+    }
+    Ok(())
+}
+
+/// Appends a character to a text, so that it begins no colour sequence. Refused: `Memory`.
+fn push_guarded(text: &mut String, c: char) -> Result<(), Refusal>
+    ensures pushed { OnOk result (chars (string_bytes text.new) ≡ chars (string_bytes text.old) ++ guarded_char c) }
+    ensures memory { IfErr result (λ e. e ≡ Refusal.Memory) }
+{
+    if c == '\u{1b}' {
+        text.push_str("\u{1b}\u{1b}[m")?;
+    } else {
+        text.push(c)?;
+    }
+    Ok(())
 }
 
 impl Counts {

@@ -1,7 +1,8 @@
-use Rattle.std.proofs.Common.{◌≡◌, ◌∙◌, ◌++◌, ◌∷◌, [], ◌<◌, filter, take, drop, map, ap, arith, length, length-drop, ◌-◌}
-use Rattle.indicatif_text.specs.Columns.{pieces_of}
+use Rattle.std.proofs.Common.{◌≡◌, ◌∙◌, ◌++◌, ◌∷◌, [], ◌<◌, filter, take, drop, map, ap, subst, arith, length, length-drop, ◌-◌}
+use Rattle.std.proofs.lemmas.List.{drop-drop}
+use Rattle.indicatif_text.specs.Columns.{glyphs_of, pieces_of}
 use Rattle.indicatif_term.specs.Resizes.{has_place}
-use Rattle.indicatif_term.specs.Inside.Recutting.{shown_lines, row_line, fitting_count}
+use Rattle.indicatif_term.specs.Inside.Recutting.{IsFitting, shown_lines, row_line}
 use Rattle.indicatif_term.proofs.CutPieceLemmas.{rest_of}
 use Rattle.indicatif_term.proofs.CutLineLemmas.{piece_left, next_piece_left, no_piece_left, gains_more}
 use Rattle.indicatif_term.proofs.engine.recutting.cut_row.Goals as goal
@@ -12,8 +13,9 @@ loop-at-init c =
     let used = take c.used_count.result c.args.row.now in
     let before = shown_lines c.args.lines.now.items in
     record {
-      within = c.in_ok-at.ensures.within;
-      left_is = piece_left w c.in_ok-at.at used before (shown_lines c.push_piece.new.lines.items) c.in_ok-at.ensures.count c.in_ok-at.ensures.pushed
+      within = c.in_ok-at.ensures.fitting.within;
+      more = c.in_ok-at.ensures.fitting.more;
+      left_is = piece_left w used c.in_ok-at.at before (shown_lines c.push_piece.new.lines.items) c.in_ok-at.ensures.fitting c.in_ok-at.ensures.pushed
           ∙ ap (λ gs. before ++ map row_line (pieces_of w (filter (has_place w) gs))) c.used_count.ensures.used;
       owned = c.in_ok-at.ensures.owned;
     }
@@ -26,11 +28,12 @@ loop-at-preserved c =
     let n = c.in_ok-next.next in
     let same : take (length used - at) (drop at used) ≡ drop at used = rest_of at used in
     let some : at < length used = c.loop-at-test.true in
+    let fits : IsFitting w (drop at used) n = subst (λ cs. IsFitting w cs n) same c.in_ok-next.ensures.fitting in
     record {
-      within = omega (arith, c.in_ok-next.ensures.within, ap length same, length-drop at used, some);
-      left_is = next_piece_left w n at used (shown_lines c.loop-at.lines.items) (shown_lines c.push_piece-in-loop-at.new.lines.items) some
-          (c.in_ok-next.ensures.count ∙ ap (fitting_count w 0) same)
-          (c.in_ok-next.ensures.pushed ∙ ap (λ gs. shown_lines c.loop-at.lines.items ++ row_line (filter (has_place w) (take n gs)) ∷ []) same)
+      within = omega (arith, fits.within, length-drop at used, some);
+      more = λ h. subst (λ cs. 0 < length (glyphs_of cs)) (drop-drop n at used) (fits.more (omega (arith, length-drop at used, h)));
+      left_is = next_piece_left w n at used (shown_lines c.loop-at.lines.items) (shown_lines c.push_piece-in-loop-at.new.lines.items) (c.loop-at.invariant.more some) fits
+          (c.in_ok-next.ensures.pushed ∙ ap (λ cs. shown_lines c.loop-at.lines.items ++ row_line (filter (has_place w) (glyphs_of (take n cs))) ∷ []) same)
           ∙ c.loop-at.invariant.left_is;
       owned = gains_more c.args.bar c.args.lines.now.items c.loop-at.lines.items c.push_piece-in-loop-at.new.lines.items c.loop-at.invariant.owned c.in_ok-next.ensures.owned;
     }

@@ -1,4 +1,5 @@
-use Rattle.std.proofs.Common.{◌≡◌, ◌≤◌, ◌-◌, ◌++◌, length, drop, map}
+use Rattle.std.proofs.Common.{◌≡◌, ◌<◌, ◌≤◌, ◌-◌, ◌++◌, length, drop, map}
+use Rattle.indicatif_text.specs.Columns.{glyphs_of}
 use Rattle.indicatif_term.specs.Inside.Recutting.{shown_lines, row_line, new_pieces, Gains}
 use Rattle.indicatif_term.proofs.CutPieceLemmas.{more_pieces}
 use Rattle.indicatif_term.proofs.engine.recutting.cut_row.Given as goal
@@ -6,7 +7,9 @@ use Rattle.indicatif_term.proofs.engine.recutting.cut_row.Given as goal
 abbrev pub invariant-loop-at : goal.invariant-loop-at
 invariant-loop-at l = record {
   within : l.at ≤ length l.used;
-  left_is : shown_lines l.lines.items ++ map row_line (more_pieces l.width (drop l.at l.used)) ≡ shown_lines l.fn.lines.items ++ map row_line (new_pieces l.width l.fn.row);
+  more : l.at < length l.used → 0 < length (glyphs_of (drop l.at l.used));
+  left_is : shown_lines l.lines.items ++ map row_line (more_pieces l.width (glyphs_of (drop l.at l.used)))
+      ≡ shown_lines l.fn.lines.items ++ map row_line (new_pieces l.width (glyphs_of l.fn.row));
   owned : Gains l.bar l.fn.lines.items l.lines.items;
 }
 

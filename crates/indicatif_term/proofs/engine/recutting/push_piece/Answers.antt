@@ -1,5 +1,5 @@
-use Rattle.std.proofs.Common.{◌≤◌, filter, take, subst, sym, arith}
-use Rattle.indicatif_text.specs.Columns.{columns_in}
+use Rattle.std.proofs.Common.{◌≤◌, filter, subst, sym, arith}
+use Rattle.indicatif_text.specs.Columns.{columns_in, glyphs_of}
 use Rattle.indicatif_term.specs.Resizes.{has_place}
 use Rattle.indicatif_term.proofs.CutPieceLemmas.{fitting_columns}
 use Rattle.indicatif_term.proofs.CutLineLemmas.{gains_one}
@@ -8,9 +8,8 @@ use Rattle.indicatif_term.proofs.engine.recutting.push_piece.Goals as goal
 pub line_of-requires : goal.line_of-requires
 line_of-requires c =
     let w = c.args.width in
-    let gs = c.args.glyphs.now in
     record {
-      fits = subst (λ n. columns_in (filter (has_place w) (take n gs)) ≤ w) (sym c.fitting_count-count.ensures.count) (omega (arith, fitting_columns w 0 gs (omega arith)));
+      fits = subst (λ gs. columns_in (filter (has_place w) gs) ≤ w) (sym c.fitting_count-count.ensures.front) (omega (arith, fitting_columns w 0 (glyphs_of c.args.seen.now) (omega arith)));
     }
 
 pub returns-clause-owned : goal.returns-clause-owned

@@ -1,20 +1,30 @@
-use Rattle.std.proofs.Common.{◌≡◌, ◌∙◌, ◌-◌, suc, false, take, drop, sym, ap, arith}
-use Rattle.std.specs.List.{list_all}
-use Rattle.indicatif_term.specs.Inside.Recutting.{is_space}
-use Rattle.indicatif_term.proofs.CutPieceLemmas.{last_left, none_left}
+use Rattle.std.proofs.Common.{◌≡◌, ◌∙◌, ◌+◌, ◌-◌, ◌++◌, ◌∷◌, [], take, sym, ap, arith}
+use Rattle.std.proofs.lemmas.Bool.{ne_eqb}
+use Rattle.std.proofs.lemmas.List.{take_more}
+use Rattle.indicatif_text.specs.Columns.{glyphs_of}
+use Rattle.indicatif_term.specs.Inside.Recutting.{without_spaces}
+use Rattle.indicatif_term.proofs.CutCharLemmas.{one_space, one_other}
 use Rattle.indicatif_term.proofs.engine.recutting.used_count.Goals as goal
 
-pub returns-then-not-is_space-clause-used : goal.returns-then-not-is_space-clause-used
-returns-then-not-is_space-clause-used c =
+pub loop-used-preserved : goal.loop-used-preserved
+loop-used-preserved c =
     let row = c.args.row.now in
     let n = c.loop-used.used - 1 in
-    let next : c.loop-used.used ≡ suc n = omega arith in
-    let g = c.index-row-used.result in
-    let shown : is_space g ≡ false = cc (c.is_space.ensures, c.if-not-is_space.true) in
-    ap (λ k. take k row) next
-    ∙ last_left row n g (omega (arith, c.loop-used.invariant.within)) c.index-row-used.is shown (ap (λ k. list_all is_space (drop k row)) (sym next) ∙ c.loop-used.invariant.spaces)
+    let x = c.index-row-used.result in
+    let suc_is : c.loop-used.used ≡ n + 1 = omega arith in
+    let next : take c.loop-used.used row ≡ take n row ++ 0x20 ∷ [] =
+    ap (λ k. take k row) suc_is ∙ take_more row n x (omega (arith, c.loop-used.invariant.within)) ∙ ap (λ d. take n row ++ d ∷ []) (sym c.index-row-used.is ∙ c.if-row-used-ne32.false) in
+    record {
+      within = omega (arith, c.loop-used.invariant.within);
+      same = sym (one_space (take n row)) ∙ ap (λ xs. without_spaces (glyphs_of xs)) (sym next) ∙ c.loop-used.invariant.same;
+    }
 
-pub returns-clause-used : goal.returns-clause-used
-returns-clause-used c =
-    let none : c.loop-used.used ≡ 0 = omega arith in
-    sym (none_left c.args.row.now (ap (λ k. list_all is_space (drop k c.args.row.now)) (sym none) ∙ c.loop-used.invariant.spaces))
+pub returns-then-row-used-ne32-clause-used : goal.returns-then-row-used-ne32-clause-used
+returns-then-row-used-ne32-clause-used c =
+    let row = c.args.row.now in
+    let n = c.loop-used.used - 1 in
+    let x = c.index-row-used.result in
+    let suc_is : c.loop-used.used ≡ n + 1 = omega arith in
+    let next : take c.loop-used.used row ≡ take n row ++ x ∷ [] =
+    ap (λ k. take k row) suc_is ∙ take_more row n x (omega (arith, c.loop-used.invariant.within)) ∙ ap (λ d. take n row ++ d ∷ []) (sym c.index-row-used.is) in
+    ap glyphs_of next ∙ sym (one_other (take n row) x (ne_eqb x 0x20 c.if-row-used-ne32.true)) ∙ ap (λ xs. without_spaces (glyphs_of xs)) (sym next) ∙ c.loop-used.invariant.same

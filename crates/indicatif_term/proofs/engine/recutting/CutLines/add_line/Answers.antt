@@ -10,6 +10,6 @@ pub add_rows-requires : goal.add_rows-requires
 add_rows-requires c =
     let w = c.args.widths.from in
     record {
-      placed = subst (λ gs. list_all (has_place w) gs ≡ true) (sym (c.deref-2.ensures.value ∙ c.in_ok-glyphs.ensures.read ∙ ap (λ t. glyphs_of (visible (chars t))) c.deref.ensures))
+      placed = subst (λ cs. list_all (has_place w) (glyphs_of cs) ≡ true) (sym (c.deref-2.ensures.value ∙ c.in_ok-seen.ensures.read ∙ ap (λ t. visible (chars t)) c.deref.ensures))
           (line_placed w (chars (string_bytes c.args.line.now.text)) c.requires.standing.narrow);
     }

@@ -2,7 +2,7 @@ use Rattle.std.proofs.Common.{ap, ◌∙◌, ◌++◌, chars}
 use Rattle.std.specs.Prelude.{flat_map}
 use Rattle.indicatif_text.specs.PieceLaws.{run_text}
 use Rattle.indicatif_text.proofs.PieceLawLemmas.{runs_are_visible}
-use Rattle.indicatif_term.proofs.engine.joined.visible_chars.Goals as goal
+use Rattle.indicatif_term.proofs.engine.recutting.visible_chars.Goals as goal
 
 pub pieces-init : goal.pieces-init
 pieces-init c =

@@ -5,7 +5,7 @@ use Rattle.std.specs.Str.{chars}
 use Rattle.std.proofs.lemmas.Str.{IsUtf8-string_bytes, chars-append}
 use Rattle.std.proofs.lemmas.Bool.{eq-eqb, ne_eqb}
 use Rattle.indicatif_text.proofs.DraftLemmas.{chars_one}
-use Rattle.indicatif_term.proofs.engine.joined.push_guarded.Goals as goal
+use Rattle.indicatif_term.proofs.engine.recutting.push_guarded.Goals as goal
 
 spelled : chars (0x1B ∷ 0x1B ∷ 0x5B ∷ 0x6D ∷ []) ≡ 0x1B ∷ 0x1B ∷ 0x5B ∷ 0x6D ∷ []
 unfolding chars

@@ -2,7 +2,7 @@ use Rattle.std.proofs.Common.{◌≡◌, List, ℕ, [], ◌∷◌, ◌++◌, ◌
 use Rattle.std.specs.Str.Iter.{chars_rest}
 use Rattle.std.proofs.lemmas.Iterator.Consumers.{YieldsList-end}
 use Rattle.std.proofs.lemmas.Iterator.{YieldsList-from_chars}
-use Rattle.indicatif_term.proofs.engine.joined.push_chars.Goals as goal
+use Rattle.indicatif_term.proofs.engine.recutting.push_chars.Goals as goal
 
 same : (xs : List ℕ) → map (λ x. x) xs ≡ xs
 same [] = refl
