@@ -196,12 +196,15 @@ pub fn narrow_count(text: &str) -> Option<usize>
     Some(count)
 }
 
-/// Whether a character takes one column, where the one before it does: bars have long runs of the same.
+/// Whether a character takes one column, where the one before it does: bars have long runs of the same, and most others are printable ASCII.
 fn is_narrow(c: char, before: char) -> bool
     requires { width_of before ≡ 1 }
     ensures { IsTrue result → width_of c ≡ 1 }
 {
     if c == before {
+        return true;
+    }
+    if c >= ' ' && c <= '~' {
         return true;
     }
     width(c) == 1
