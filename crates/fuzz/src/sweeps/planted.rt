@@ -76,7 +76,7 @@ impl Planted {
         for (at, step) in self.kind.script().iter().enumerate() {
             let said = match self.at.contains(&at) {
                 true => self.body.make(play, player),
-                false => player.make(*step),
+                false => player.make(play.alloc, *step),
             };
             play.notes((Some(at), *step), said, player.order())?;
         }
@@ -94,7 +94,7 @@ impl Body {
                 Wire(play.record.clone()?).write(bytes.as_bytes()).ok();
             }
             Body::Makes(step) => {
-                player.make(*step).ok();
+                player.make(play.alloc, *step).ok();
             }
         }
         Err(Refusal::Memory)

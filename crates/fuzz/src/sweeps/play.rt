@@ -79,7 +79,7 @@ impl Play {
 
     /// Has a player make a call, and notes what it does.
     pub fn takes<R: Runs>(&mut self, player: &mut Player<R>, turn: Turn) -> Held {
-        let said = player.make(turn.1);
+        let said = player.make(self.alloc, turn.1);
         self.notes(turn, said, player.order())
     }
 

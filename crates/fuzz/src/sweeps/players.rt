@@ -82,7 +82,7 @@ type Items = ProgressBarIter<Range<u64>, OwnedBar<NoTracker, Behind, StepClock>>
 
 /// Makes the calls of a script.
 pub enum Player<R: Runs> {
-    Board(Box<OnBoard>, Global),
+    Board(Box<OnBoard>),
     Bar(Box<OnBar>),
     Shared(OnShared<R>),
     Loop(Box<Items>),
@@ -91,7 +91,7 @@ pub enum Player<R: Runs> {
 impl<R: Runs> Drop for Player<R> {
     fn drop(self) {
         match self {
-            Player::Board(..) => (),
+            Player::Board(_) => (),
             Player::Bar(_) => (),
             Player::Shared(_) => (),
             Player::Loop(_) => (),
@@ -121,15 +121,15 @@ impl<R: Runs> Player<R> {
             _ => {
                 let mut board = Box::new(alloc, OnBoard::new(alloc, target, MARK))?;
                 board.set_move_cursor(matches!(play.kind, Kind::Moving));
-                Player::Board(board, alloc)
+                Player::Board(board)
             }
         })
     }
 
     /// Makes a call.
-    pub fn make(&mut self, step: Step) -> Said {
+    pub fn make(&mut self, alloc: Global, step: Step) -> Said {
         match self {
-            Player::Board(board, alloc) => local::of_board(board, *alloc, step),
+            Player::Board(board) => local::of_board(board, alloc, step),
             Player::Bar(bar) => local::of_bar(bar, step),
             Player::Shared(board) => board.make(step),
             Player::Loop(items) => {
@@ -150,7 +150,7 @@ impl<R: Runs> Player<R> {
     /// The numbers of its bars in order; none if it can't tell them.
     pub fn order(&self) -> &[u64] {
         match self {
-            Player::Board(board, _) => board.order(),
+            Player::Board(board) => board.order(),
             Player::Bar(_) | Player::Shared(_) | Player::Loop(_) => &[],
         }
     }

@@ -47,9 +47,10 @@ impl WholeFrames {
         frame: &[Segment],
         alignment: MultiProgressAlignment,
     ) -> Answer {
-        let all = self.kept.saturating_add(self.live.len());
+        let live = self.live.len();
+        let all = self.kept.saturating_add(live);
         let above = match call {
-            Call::Draw(_) => self.replace(self.live.len(), None, frame, alignment)?,
+            Call::Draw(_) => self.replace(live, None, frame, alignment)?,
             Call::Log(text) => self.replace(all, Some(text.as_str()), frame, alignment)?,
             Call::Clear => self.replace(all, None, &[], alignment)?,
             Call::Keep(bar) => return Ok(Some(self.keep(*bar)?)),
