@@ -1,9 +1,11 @@
-//! Pieces and lists that threads work on: gates, counts, and a bar of the tests' own.
-use crate::checks::{Granted, Runtime};
-use indicatif::{Drawn, Gate, Moves, Refusal};
+//! Gates, and counts.
+use crate::checks::Granted;
+use indicatif::Gate;
+use std::alloc::Global;
+use std::process::Abort;
 use std::sync::atomic::{AtomicU64, Ordering};
 use std::thread::sleep;
-use std::time::Duration;
+use std::time::{Clock, Duration};
 
 /// Lets every piece pass. (This is the example of `Gate`.)
 #[derive(Drop)]
@@ -13,31 +15,59 @@ impl Gate for Open {
     fn pass(&self, piece: usize) {}
 }
 
+/// Counts how many pass, how many are at work, and the most that were at work at the same time.
+#[derive(Drop)]
+pub struct AtWork {
+    pub passed: AtomicU64,
+    now: AtomicU64,
+    pub most: AtomicU64,
+}
+
+impl AtWork {
+    /// Before the first piece.
+    pub fn new() -> AtWork {
+        AtWork {
+            passed: AtomicU64::new(0),
+            now: AtomicU64::new(0),
+            most: AtomicU64::new(0),
+        }
+    }
+
+    /// A piece is at its last item.
+    pub fn leave(&self) {
+        self.now.fetch_sub(1, Ordering::SeqCst);
+    }
+}
+
+impl Gate for AtWork {
+    fn pass(&self, piece: usize) {
+        self.passed.fetch_add(1, Ordering::SeqCst);
+        let others = self.now.fetch_add(1, Ordering::SeqCst);
+        self.most
+            .fetch_max(others.wrapping_add(1), Ordering::SeqCst);
+    }
+}
+
 /// `count` counts of 0.
-pub fn counts<R: Runtime>(rt: &R, count: u32) -> Vec<AtomicU64> {
-    let mut counts = Vec::new(rt.alloc());
+pub fn counts<R: Abort>(rt: &R, alloc: Global, count: u32) -> Vec<AtomicU64> {
+    let mut counts = Vec::new(alloc);
     for _ in 0..count {
         counts.push(AtomicU64::new(0)).granted(rt);
     }
     counts
 }
 
-/// Counts of each piece how often it passes; how many are at work, and the most that were at work at the same time.
+/// Counts of each piece how often it passes.
 #[derive(Drop)]
 pub struct Roll {
     passed: Vec<AtomicU64>,
-    at_work: AtomicU64,
-    pub most: AtomicU64,
 }
 
 impl Roll {
     /// For the given number of pieces.
-    pub fn of<R: Runtime>(rt: &R, pieces: u32) -> Roll {
-        Roll {
-            passed: counts(rt, pieces),
-            at_work: AtomicU64::new(0),
-            most: AtomicU64::new(0),
-        }
+    pub fn of<R: Abort>(rt: &R, alloc: Global, pieces: u32) -> Roll {
+        let passed = counts(rt, alloc, pieces);
+        Roll { passed }
     }
 
     /// How often this piece has passed.
@@ -47,11 +77,6 @@ impl Roll {
             None => 0,
         }
     }
-
-    /// A piece is at its last item.
-    pub fn leave(&self) {
-        self.at_work.fetch_sub(1, Ordering::SeqCst);
-    }
 }
 
 impl Gate for Roll {
@@ -59,9 +84,6 @@ impl Gate for Roll {
         if let Some(passed) = self.passed.get(piece) {
             passed.fetch_add(1, Ordering::SeqCst);
         }
-        let others = self.at_work.fetch_add(1, Ordering::SeqCst);
-        self.most
-            .fetch_max(others.wrapping_add(1), Ordering::SeqCst);
     }
 }
 
@@ -70,18 +92,18 @@ const PATIENCE: u32 = 10_000;
 
 /// Holds each piece until all have come, or for a limited time.
 #[derive(Drop)]
-pub struct Meeting<R> {
-    rt: R,
+pub struct Meeting<C> {
+    clock: C,
     all: u64,
     come: AtomicU64,
     pub saw_all: AtomicU64,
 }
 
-impl<R: Runtime> Meeting<R> {
+impl<C: Clock> Meeting<C> {
     /// For `all` pieces.
-    pub fn of(rt: R, all: u64) -> Meeting<R> {
+    pub fn of(clock: C, all: u64) -> Meeting<C> {
         Meeting {
-            rt,
+            clock,
             all,
             come: AtomicU64::new(0),
             saw_all: AtomicU64::new(0),
@@ -89,7 +111,7 @@ impl<R: Runtime> Meeting<R> {
     }
 }
 
-impl<R: Runtime> Gate for Meeting<R> {
+impl<C: Clock + Sync> Gate for Meeting<C> {
     fn pass(&self, piece: usize) {
         self.come.fetch_add(1, Ordering::SeqCst);
         for _ in 0..PATIENCE {
@@ -97,71 +119,11 @@ impl<R: Runtime> Gate for Meeting<R> {
                 self.saw_all.fetch_add(1, Ordering::SeqCst);
                 return;
             }
-            sleep(&self.rt, Duration::from_millis(1));
+            sleep(&self.clock, Duration::from_millis(1));
         }
     }
 
     fn needs_all_at_once(&self) -> bool {
         true
     }
-}
-
-// ---- a bar whose position can be read, and which keeps its advances
-
-/// A bar without a length, so that finishing leaves its position.
-#[derive(Drop)]
-pub struct Stepped {
-    pub position: u64,
-    pub finished: bool,
-    pub steps: Vec<u64>,
-    pub stops_within_blocks: bool,
-}
-
-impl Moves for Stepped {
-    ghost use Rattle.std.specs.Prelude.{Some, None};
-
-    ghost stands = { λ bar. Some (record { position = bar.position; finished = bar.finished; ends_at = None }) };
-
-    fn advance(&mut self, n: u64) -> Result<Drawn, Refusal> {
-        self.position = self.position.wrapping_add(n);
-        self.steps.push(n)?;
-        Ok(Drawn::Limited)
-    }
-
-    fn place(&mut self, place: u64) -> Result<Drawn, Refusal> {
-        self.position = place;
-        Ok(Drawn::Limited)
-    }
-
-    fn finish(&mut self) -> Result<Drawn, Refusal> {
-        self.finished = true;
-        Ok(Drawn::Yes)
-    }
-
-    fn stops_within_blocks(&self) -> bool {
-        self.stops_within_blocks
-    }
-
-    fn position(&self) -> u64 {
-        self.position
-    }
-
-    fn finished(&self) -> bool {
-        self.finished
-    }
-}
-
-/// A bar at 0, without advances.
-pub fn new_bar<R: Runtime>(rt: &R) -> Stepped {
-    Stepped {
-        position: 0,
-        finished: false,
-        steps: Vec::new(rt.alloc()),
-        stops_within_blocks: false,
-    }
-}
-
-/// Twice an item.
-pub fn twice(x: &u32) -> u32 {
-    x.wrapping_mul(2)
 }
