@@ -1,4 +1,4 @@
-//! Tests as rows of data: how rows are read and spelled, and how files of them are played.
+//! Tests as rows of data: how rows are read and spelled, and how files of them are played; and scripts of calls on terminals that fail.
 //!
 //! A row is a line: a step, ` -> `, and its result. A step without a result may lack both. Lines that are empty or begin with `#` are
 //! skipped.
@@ -10,11 +10,13 @@
 //! - `boards`: calls of a board, their answers, and readings of a board.
 //! - `replay`: whether a new board that makes the calls of a history does the same.
 //! - `screen`: a terminal to draw on, whose writes fail if a row asks for it.
+//! - `judged`: scripts on terminals that fail, and a judge of what was written.
 #![tactic(auto)]
 
 pub mod boards;
 pub mod commands;
 pub mod got;
+pub mod judged;
 pub mod lone;
 pub mod play;
 pub mod replay;

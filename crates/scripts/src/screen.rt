@@ -11,23 +11,32 @@ use std::io;
 use std::io::{Error, ErrorKind, Write};
 use std::rc::Rc;
 
+/// How a call of the writer that takes nothing ends.
+#[derive(Clone, Copy)]
+enum Halt {
+    /// It took no byte.
+    Nothing,
+    /// A failure of this kind.
+    Failure(ErrorKind),
+}
+
 /// How the writer fails.
-#[derive(Clone, Copy, Default)]
+#[derive(Clone, Copy)]
 struct Limits {
-    /// The most bytes that a call takes, if there is a most.
-    takes: Option<usize>,
+    /// The most bytes that a call takes.
+    takes: usize,
     /// How many calls from now on the one that fails is; none if it is 0.
     fails_call: u64,
     /// The number of bytes after which calls halt.
     halts_at: u64,
-    /// How they fail; if they don't, they take nothing.
-    halt: Option<ErrorKind>,
+    /// How they do.
+    halt: Halt,
     /// How many calls halt.
     halts: u64,
 }
 
 /// How much the writer got so far.
-#[derive(Clone, Copy, Default)]
+#[derive(Clone, Copy)]
 struct Counts {
     bytes: u64,
     writes: u64,
@@ -66,11 +75,23 @@ impl Look {
 impl Screen {
     /// A screen with nothing on it, whose writer never fails.
     pub fn new(alloc: Global, rows: u16, cols: u16) -> Result<Rc<Screen>, Refusal> {
+        let limits = Limits {
+            takes: usize::MAX,
+            fails_call: 0,
+            halts_at: 0,
+            halt: Halt::Nothing,
+            halts: 0,
+        };
+        let counts = Counts {
+            bytes: 0,
+            writes: 0,
+            flushes: 0,
+        };
         let screen = Screen {
             cells: RefCell::new(Cells::new(alloc, rows, cols)?),
             written: RefCell::new(Vec::new(alloc)),
-            limits: Cell::new(Limits::default()),
-            counts: Cell::new(Counts::default()),
+            limits: Cell::new(limits),
+            counts: Cell::new(counts),
         };
         Ok(Rc::new(alloc, screen)?)
     }
@@ -117,33 +138,42 @@ impl Screen {
     /// Fails if this is the call of the writer that has to.
     fn admit(&self) -> io::Result<()> {
         let mut limits = self.limits.get();
-        let fails = limits.fails_call == 1;
-        limits.fails_call = limits.fails_call.saturating_sub(1);
-        self.limits.set(limits);
-        match fails {
-            true => Err(Error::from(ErrorKind::BrokenPipe)),
-            false => Ok(()),
+        if limits.fails_call == 0 {
+            return Ok(());
         }
+        limits.fails_call -= 1;
+        self.limits.set(limits);
+        if limits.fails_call == 0 {
+            return Err(Error::from(ErrorKind::BrokenPipe));
+        }
+        Ok(())
     }
 
-    /// Whether this call of the writer halts.
-    fn halts(&self) -> bool {
+    /// How this call of the writer halts, if it does.
+    fn halted(&self) -> Option<Halt> {
         let mut limits = self.limits.get();
-        let halts = limits.halts > 0 && self.counts.get().bytes == limits.halts_at;
-        limits.halts = limits.halts.saturating_sub(u64::from(halts));
+        if limits.halts == 0 || self.counts.get().bytes != limits.halts_at {
+            return None;
+        }
+        limits.halts -= 1;
         self.limits.set(limits);
-        halts
+        Some(limits.halt)
     }
 
     /// Keeps bytes as taken.
     pub fn store(&self, bytes: &[u8]) -> io::Result<()> {
-        self.written.try_borrow_mut()?.extend_from_slice(bytes)?;
-        Ok(())
+        match self.written.try_borrow_mut() {
+            Ok(mut written) => Ok(written.extend_from_slice(bytes)?),
+            Err(_) => Err(Error::from(ErrorKind::OutOfMemory)),
+        }
     }
 
     /// Puts bytes on the screen.
     pub fn feed(&self, bytes: &[u8]) -> io::Result<()> {
-        match self.cells.try_borrow_mut()?.feed(bytes) {
+        let Ok(mut cells) = self.cells.try_borrow_mut() else {
+            return Err(Error::from(ErrorKind::OutOfMemory));
+        };
+        match cells.feed(bytes) {
             Ok(()) => Ok(()),
             Err(_) => Err(Error::from(ErrorKind::OutOfMemory)),
         }
@@ -178,12 +208,11 @@ impl Write for Wire {
         counts.writes = counts.writes.saturating_add(1);
         self.0.counts.set(counts);
         self.0.admit()?;
-        let Limits { takes, halt, .. } = self.0.limits.get();
-        match (self.0.halts(), halt) {
-            (true, None) => Ok(0),
-            (true, Some(kind)) => Err(Error::from(kind)),
-            (false, _) => {
-                let taken = buf.len().min(takes.unwrap_or(usize::MAX));
+        match self.0.halted() {
+            Some(Halt::Nothing) => Ok(0),
+            Some(Halt::Failure(kind)) => Err(Error::from(kind)),
+            None => {
+                let taken = buf.len().min(self.0.limits.get().takes);
                 self.0.take(&buf[..taken])?;
                 Ok(taken)
             }
@@ -254,10 +283,7 @@ pub fn look_at(screen: &Screen, step: &str, at: At, got: &mut Got) -> Result<boo
         }
         ("row_count", "") => got.number(screen.contents()?.as_str().split('\n').count()),
         ("row", row) => push_row(screen, number(row)?, got)?,
-        ("feed", text) => {
-            let fed = screen.feed(&unescaped_bytes(at.alloc, text)?);
-            fed.ok().ok_or(Bad::Step)?
-        }
+        ("feed", text) => feed(screen, &unescaped_bytes(at.alloc, text)?)?,
         ("ends", text) => push_ends(screen, unescaped(at.alloc, text)?.as_str(), got)?,
         (name, rest) => return limit(screen, name, rest),
     }
@@ -314,13 +340,21 @@ fn are_last(rows: &[String], text: &str) -> bool {
     true
 }
 
+/// `feed TEXT`: bytes from elsewhere.
+fn feed(screen: &Screen, bytes: &[u8]) -> Result<(), Bad> {
+    match screen.feed(bytes) {
+        Ok(()) => Ok(()),
+        Err(_) => Err(Bad::Step),
+    }
+}
+
 /// `takes N`: a call of the writer takes at most N bytes. `fails_call N`: the Nth of its calls from now on fails, flushes included. `halts
 /// AT KIND TIMES`: calls halt after AT bytes. Whether the step is one of these.
 fn limit(screen: &Screen, name: &str, rest: &str) -> Result<bool, Bad> {
     let mut words = Words::of(rest);
     let mut limits = screen.limits.get();
     match name {
-        "takes" => limits.takes = Some(words.number()?),
+        "takes" => limits.takes = words.number()?,
         "fails_call" => limits.fails_call = words.number()?,
         "halts" => {
             limits.halts_at = words.number()?;
@@ -333,12 +367,12 @@ fn limit(screen: &Screen, name: &str, rest: &str) -> Result<bool, Bad> {
     Ok(true)
 }
 
-/// How a call that halts fails, by a word.
-fn halt_of(word: &str) -> Result<Option<ErrorKind>, Bad> {
+/// The way to halt of a word.
+fn halt_of(word: &str) -> Result<Halt, Bad> {
     match word {
-        "nothing" => Ok(None),
-        "BrokenPipe" => Ok(Some(ErrorKind::BrokenPipe)),
-        "Interrupted" => Ok(Some(ErrorKind::Interrupted)),
+        "nothing" => Ok(Halt::Nothing),
+        "BrokenPipe" => Ok(Halt::Failure(ErrorKind::BrokenPipe)),
+        "Interrupted" => Ok(Halt::Failure(ErrorKind::Interrupted)),
         _ => Err(Bad::Step),
     }
 }
