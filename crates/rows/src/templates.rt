@@ -1,12 +1,13 @@
 //! Templates, and the words of styles.
 use indicatif_text::columns::Style;
 use indicatif_text::template::{Alignment, Part, Template};
-use scripts::got::{Bad, Done, Got};
-use scripts::row::{At, headed, unescaped};
+use scripts::got::{Bad, Got};
+use scripts::row::{At, headed};
+use scripts::spelling::unescaped;
 
 /// Appends the parts of `parse TEMPLATE`, separated by ` | `: `L TEXT`, `N` for a newline, or `P KEY ALIGNMENT WIDTH ! STYLE STYLE`, with
 /// `-` for what isn't there and styles as the numbers that they write.
-pub fn parsed(rest: &str, at: At, got: &mut Got) -> Done {
+pub fn parsed(rest: &str, at: At, got: &mut Got) -> Result<(), Bad> {
     let text = unescaped(at.alloc, rest)?;
     match Template::parse(at.alloc, text.as_str()) {
         Ok(template) => push_parts(&template, at, got),
@@ -14,11 +15,18 @@ pub fn parsed(rest: &str, at: At, got: &mut Got) -> Done {
     }
 }
 
-fn push_parts(template: &Template, at: At, got: &mut Got) -> Done {
+fn push_parts(template: &Template, at: At, got: &mut Got) -> Result<(), Bad> {
+    let mut follows = false;
     for part in template.parts() {
-        got.between(" | ");
+        if follows {
+            got.text(" | ");
+        }
+        follows = true;
         match part {
-            Part::Literal(text) => got.number(format_args!("L {text}")),
+            Part::Literal(text) => {
+                got.text("L ");
+                got.text(text);
+            }
             Part::NewLine => got.text("N"),
             Part::Placeholder {
                 key,
@@ -28,8 +36,9 @@ fn push_parts(template: &Template, at: At, got: &mut Got) -> Done {
                 style,
                 alternative,
             } => {
-                got.number(format_args!("P {key} {} ", sign_of(align)));
-                got.optional(width);
+                got.text("P ");
+                got.text(key);
+                push_layout(align, width, got);
                 got.text(if truncate { " !" } else { " -" });
                 push_numbers(style, at, got)?;
                 push_numbers(alternative, at, got)?;
@@ -39,16 +48,20 @@ fn push_parts(template: &Template, at: At, got: &mut Got) -> Done {
     Ok(())
 }
 
-fn sign_of(align: Alignment) -> char {
-    match align {
-        Alignment::Left => '<',
-        Alignment::Center => '^',
-        Alignment::Right => '>',
+fn push_layout(align: Alignment, width: Option<u16>, got: &mut Got) {
+    got.text(match align {
+        Alignment::Left => " < ",
+        Alignment::Center => " ^ ",
+        Alignment::Right => " > ",
+    });
+    match width {
+        None => got.text("-"),
+        Some(width) => got.number(width),
     }
 }
 
 /// Appends the numbers of a style, separated by commas: those that it writes around an empty text, except the last.
-fn push_numbers(style: Option<Style>, at: At, got: &mut Got) -> Done {
+fn push_numbers(style: Option<Style>, at: At, got: &mut Got) -> Result<(), Bad> {
     let mut written = String::new(at.alloc);
     if let Some(style) = style {
         style.apply_to(true, "", &mut written)?;
@@ -58,17 +71,18 @@ fn push_numbers(style: Option<Style>, at: At, got: &mut Got) -> Done {
 }
 
 fn push_sequences(written: &str, got: &mut Got) {
-    let mut parting = " ";
+    let mut is_first = true;
     for sequence in written.split('m') {
         match sequence.strip_prefix("\x1b[") {
             None | Some("0") => (),
             Some(number) => {
-                got.number(format_args!("{parting}{number}"));
-                parting = ",";
+                got.text(if is_first { " " } else { "," });
+                got.text(number);
+                is_first = false;
             }
         }
     }
-    if parting == " " {
+    if is_first {
         got.text(" -");
     }
 }
@@ -78,7 +92,7 @@ fn push_sequences(written: &str, got: &mut Got) {
 /// - `painted WORDS TEXT`, `unpainted WORDS TEXT`: a text in this style, with colours and without.
 /// - `opened WORDS`: whether sequences are written, and the text.
 /// - `same_style WORDS WORDS`; `no_style WORDS`: whether the style is that of no words.
-pub fn styled(name: &str, rest: &str, at: At, got: &mut Got) -> Done {
+pub fn styled(name: &str, rest: &str, at: At, got: &mut Got) -> Result<(), Bad> {
     let (words, rest) = headed(rest);
     let style = Style::from_dotted_str(words);
     match name {

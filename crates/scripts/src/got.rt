@@ -32,9 +32,6 @@ impl<V: Drop> From<AllocFailed<V>> for Bad {
     }
 }
 
-/// A step that was made, or why it has no result.
-pub type Done = Result<(), Bad>;
-
 /// The results of steps, as one text, separated by `; `. If a step has none, the text says why. Want of memory is kept, and makes the row
 /// differ.
 #[derive(Drop)]
@@ -112,27 +109,10 @@ impl Got {
     }
 
     /// Appends a number, or `-`.
-    pub fn optional<D: Display + Drop>(&mut self, value: Option<D>) {
-        self.number_or(value, "-");
-    }
-
-    /// Appends a number, or this text if there is none.
-    pub fn number_or<D: Display + Drop>(&mut self, value: Option<D>, none: &str) {
+    pub fn optional(&mut self, value: Option<u64>) {
         match value {
             Some(value) => self.number(value),
-            None => self.text(none),
-        }
-    }
-
-    /// Appends two numbers: a row and a column, or rows and columns.
-    pub fn pair(&mut self, (one, other): (u16, u16)) {
-        self.number(format_args!("{one} {other}"));
-    }
-
-    /// Appends this text, unless the step has no result yet: it stands between the parts of a result.
-    pub fn between(&mut self, parting: &str) {
-        if !self.is_new {
-            self.text(parting);
+            None => self.text("-"),
         }
     }
 
@@ -192,9 +172,11 @@ impl Got {
 
     /// Appends numbers, separated by spaces.
     pub fn numbers(&mut self, numbers: &[u64]) {
+        let mut parting = "";
         for number in numbers {
-            self.between(" ");
+            self.text(parting);
             self.number(*number);
+            parting = " ";
         }
     }
 

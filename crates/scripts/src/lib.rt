@@ -4,7 +4,8 @@
 //! skipped.
 //!
 //! - `play`: files of rows: which steps a row makes, and which rows agree; each that differs is printed, with its file and its line.
-//! - `row`: the step of a line and its expected result; words, moments, numbers and escapes of a step.
+//! - `row`: the step of a line and its expected result; words and moments of a step.
+//! - `spelling`: numbers and escapes.
 //! - `got`: the result of a step, or why it has none.
 //! - `commands`: commands of a bar. `lone`: calls of a lone bar, and readings of a bar.
 //! - `boards`: calls of a board, their answers, and readings of a board.
@@ -22,4 +23,4 @@ pub mod play;
 pub mod replay;
 pub mod row;
 pub mod screen;
-mod spelling;
+pub mod spelling;

@@ -160,8 +160,7 @@ impl Screen {
         Some(limits.halt)
     }
 
-    /// Keeps bytes as taken.
-    pub fn store(&self, bytes: &[u8]) -> io::Result<()> {
+    fn store(&self, bytes: &[u8]) -> io::Result<()> {
         match self.written.try_borrow_mut() {
             Ok(mut written) => Ok(written.extend_from_slice(bytes)?),
             Err(_) => Err(Error::from(ErrorKind::OutOfMemory)),

@@ -7,9 +7,9 @@ ghost use Rattle.tokio.specs.Io.Moved.{count_moved};
 use futures::stream::Stream;
 use futures::task::{Context, Poll};
 use scripts::got::Bad;
-use scripts::row::{number, unescaped};
+use scripts::spelling::{number, unescaped};
 use std::alloc::Global;
-use std::io::{self, BufRead, Cursor, Error, ErrorKind, IsTerminal, Read, Seek, SeekFrom, Write};
+use std::io::{self, BufRead, Cursor, ErrorKind, Read, Seek, SeekFrom, Write};
 use tokio::io::{AsyncRead, AsyncWrite};
 
 /// The effect of a call.
@@ -28,19 +28,19 @@ pub enum Answer {
 pub struct Scripted {
     bytes: Cursor<Vec<u8>>,
     written: Vec<u8>,
-    pub answers: Vec<Answer>,
+    answers: Vec<Answer>,
     calls: usize,
-    /// How many bytes it still takes; then writes fail.
-    pub room: usize,
-    pub is_flush_failing: bool,
-    pub is_terminal: bool,
 }
 
 /// `TEXT`, `#N` (N bytes that are 0, 1, 2 and so on, modulo 256) or `*N` (N times `x`); after `, ` the effects of the calls.
 pub fn script_of(alloc: Global, rest: &str) -> Result<Scripted, Bad> {
     let (text, answers) = rest.split_once(", ").unwrap_or((rest, ""));
-    let bytes = bytes_of(alloc, text)?;
-    Ok(Scripted::new(alloc, bytes, answers_of(alloc, answers)?))
+    Ok(Scripted {
+        bytes: Cursor::new(bytes_of(alloc, text)?),
+        written: Vec::new(alloc),
+        answers: answers_of(alloc, answers)?,
+        calls: 0,
+    })
 }
 
 fn bytes_of(alloc: Global, text: &str) -> Result<Vec<u8>, Bad> {
@@ -61,8 +61,10 @@ fn counting(alloc: Global, count: u32) -> Result<Vec<u8>, Bad> {
 
 fn answers_of(alloc: Global, words: &str) -> Result<Vec<Answer>, Bad> {
     let mut answers = Vec::new(alloc);
-    for word in words.split_whitespace() {
-        answers.push(answer_of(word)?)?;
+    for word in words.split(' ') {
+        if !word.is_empty() {
+            answers.push(answer_of(word)?)?;
+        }
     }
     Ok(answers)
 }
@@ -95,19 +97,6 @@ pub fn kind_name(kind: ErrorKind) -> &'static str {
 }
 
 impl Scripted {
-    /// One that gives these bytes, and takes any.
-    pub fn new(alloc: Global, bytes: Vec<u8>, answers: Vec<Answer>) -> Scripted {
-        Scripted {
-            bytes: Cursor::new(bytes),
-            written: Vec::new(alloc),
-            answers,
-            calls: 0,
-            room: usize::MAX,
-            is_flush_failing: false,
-            is_terminal: false,
-        }
-    }
-
     /// The effect of the next call.
     fn answer(&mut self) -> Answer {
         let at = self.calls;
@@ -124,7 +113,7 @@ impl Scripted {
     {
         match self.written.extend_from_slice(bytes) {
             Ok(()) => Ok(bytes.len()),
-            Err(_) => Err(Error::from(ErrorKind::OutOfMemory)),
+            Err(_) => Err(io::Error::from(ErrorKind::OutOfMemory)),
         }
     }
 
@@ -139,9 +128,9 @@ fn count_of(answer: Answer, room: usize) -> io::Result<usize>
     ensures { IfOk result (λ n. n ≤ room) }
 {
     match answer {
-        Answer::Pending => Err(Error::from(ErrorKind::WouldBlock)),
+        Answer::Pending => Err(io::Error::from(ErrorKind::WouldBlock)),
         Answer::Bytes(count) => Ok(room.min(count)),
-        Answer::Fails(kind) => Err(Error::from(kind)),
+        Answer::Fails(kind) => Err(io::Error::from(kind)),
     }
 }
 
@@ -171,25 +160,12 @@ impl Seek for Scripted {
 
 impl Write for Scripted {
     fn write(&mut self, buf: &[u8]) -> io::Result<usize> {
-        if self.room == 0 {
-            return Err(Error::from(ErrorKind::StorageFull));
-        }
-        let count = count_of(self.answer(), buf.len().min(self.room))?;
-        self.room = self.room.saturating_sub(count);
+        let count = count_of(self.answer(), buf.len())?;
         self.store(&buf[..count])
     }
 
     fn flush(&mut self) -> io::Result<()> {
-        match self.is_flush_failing {
-            true => Err(Error::from(ErrorKind::StorageFull)),
-            false => Ok(()),
-        }
-    }
-}
-
-impl IsTerminal for Scripted {
-    fn is_terminal(&self) -> bool {
-        self.is_terminal
+        Ok(())
     }
 }
 
@@ -226,7 +202,7 @@ impl Scripted {
         match self.answer() {
             Answer::Pending => cx.yield_now(),
             Answer::Bytes(count) => Poll::Ready(Ok(room.min(count))),
-            Answer::Fails(kind) => Poll::Ready(Err(Error::from(kind))),
+            Answer::Fails(kind) => Poll::Ready(Err(io::Error::from(kind))),
         }
     }
 }
