@@ -104,7 +104,7 @@ def plain(text):
     """Code without comments, white space and commas before a bracket; a test's checks as asserts and `?`, the runtime by value."""
     text = re.sub(r",([)\]}])", r"\1", spaceless(text))
     text = re.sub(r'\.(granted\(&?rt|expect\(&?rt,"granted")\)', "?", text)
-    text = re.sub(r"\bholds!\(\*?rt;", "assert!(", re.sub(r"\bsame!\(\*?rt;", "assert_eq!(", text))
+    text = re.sub(r"\bholds!\([&*]?rt;", "assert!(", re.sub(r"\bsame!\([&*]?rt;", "assert_eq!(", text))
     text = re.sub(r"(assert(?:_eq)?!\()rt;", r"\1", text)
     return re.sub(r"(?<![\w.])[&*]?rt\b", "rt", text).replace("rt.alloc()", "alloc")
 

@@ -11,7 +11,7 @@ for crate in crates/*/; do
     [ -z "$laid_out" ] || { printf '%s %s\n' "$crate" "$laid_out"; bad=1; }
 done
 python3 tools/pages.py || bad=1
-python3 tools/edits/check.py || bad=1
+python3 tools/edits.py check || bad=1
 git ls-files -z 'crates/*.rt' 'crates/*.antt' 'crates/rows/data/*.txt' 'docs/*.md' README.md | python3 -c '
 import sys
 bad = 0

@@ -27,33 +27,31 @@ fn a_thousand_times(done: &Done, mut worker: BarWorker) -> Worked
 
 #[test]
 fn two_threads_add_a_thousand_times(rt: HostRuntime) {
-    let rt = &rt;
-    let (done, worker) = Done::new(rt.alloc()).expect(rt, "granted");
-    let (mine, theirs) = worker.split(&done).expect(rt, "granted");
+    let (done, worker) = Done::new(rt.alloc()).expect(&rt, "granted");
+    let (mine, theirs) = worker.split(&done).expect(&rt, "granted");
     let (mine, theirs) = join(
-        rt,
+        &rt,
         || a_thousand_times(&done, mine),
         || a_thousand_times(&done, theirs),
     );
-    holds!(rt; mine.total >= 1000 && theirs.total >= 1000);
-    holds!(rt; mine.total == 2000 || theirs.total == 2000);
+    holds!(&rt; mine.total >= 1000 && theirs.total >= 1000);
+    holds!(&rt; mine.total == 2000 || theirs.total == 2000);
     let worker = mine.worker.join(theirs.worker, &done);
-    same!(rt; done.close(worker), 2000);
+    same!(&rt; done.close(worker), 2000);
 }
 
 /// Each worker reads what both have added, anew each time.
 #[test]
 fn a_total_is_read_from_the_shared_word(rt: HostRuntime) {
-    let rt = &rt;
     let alloc = rt.alloc();
-    let (done, mut worker) = Done::new(alloc).expect(rt, "granted");
+    let (done, mut worker) = Done::new(alloc).expect(&rt, "granted");
     worker.add(&done, 5);
-    let (mut first, mut second) = worker.split(&done).expect(rt, "granted");
+    let (mut first, mut second) = worker.split(&done).expect(&rt, "granted");
     first.add(&done, 5);
-    same!(rt; second.total(&done), 10);
+    same!(&rt; second.total(&done), 10);
     second.add(&done, 2);
-    same!(rt; second.total(&done), 12);
-    same!(rt; first.total(&done), 12);
+    same!(&rt; second.total(&done), 12);
+    same!(&rt; first.total(&done), 12);
     let worker = second.join(first, &done);
-    same!(rt; done.close(worker), 12);
+    same!(&rt; done.close(worker), 12);
 }

@@ -1,8 +1,7 @@
 //! The tests' own runtime, which passes everything on to the machine's. It counts its copies, and refuses another one on request.
-use crate::checks::Granted;
+use crate::checks::{Granted, Runtime};
 use std::alloc::{AllocError, Global};
 use std::io;
-use std::process::Abort;
 use std::sync::atomic::{AtomicU64, Ordering};
 use std::sync::{Arc, Wait};
 use std::thread::Threads;
@@ -16,7 +15,7 @@ pub struct Count {
 }
 
 impl Count {
-    /// How many texts there are.
+    /// How many copies there are.
     pub fn living(&self) -> u64 {
         self.living.load(Ordering::SeqCst)
     }
@@ -34,21 +33,18 @@ pub struct Lent<R: Drop> {
 }
 
 /// The first copy, and the count.
-pub fn first<R: Copy + Drop + Abort>(rt: R, alloc: Global) -> (Lent<R>, Arc<Count, Global>) {
-    let rt = &rt;
+pub fn first<R: Runtime>(rt: &R) -> (Lent<R>, Arc<Count, Global>) {
     let count = Count {
         living: AtomicU64::new(1),
         refusing: AtomicU64::new(0),
     };
-    let count = Arc::new(alloc, count).granted(rt);
+    let count = Arc::new(rt.alloc(), count).granted(rt);
     let own = Arc::try_clone(&count).granted(rt);
-    (
-        Lent {
-            rt: *rt,
-            count: own,
-        },
-        count,
-    )
+    let lent = Lent {
+        rt: *rt,
+        count: own,
+    };
+    (lent, count)
 }
 
 impl<R: Copy + Drop> Clone for Lent<R> {

@@ -22,10 +22,8 @@ fn added(alloc: Global, board: &mut Many) -> Result<Vec<BarId>, Refusal> {
     for _ in 0..BARS {
         let style = ProgressStyle::with_template(alloc, "{pos}")?;
         let bar = BarState::styled(alloc, style, Some(1), 0)?;
-        match board.add(Candidate::New(bar)) {
-            Ok(bar) => bars.push(bar)?,
-            Err(turned) => return Err(turned.refusal),
-        }
+        let bar = board.add(Candidate::New(bar));
+        bars.push(bar.map_err(|turned| turned.refusal)?)?;
     }
     Ok(bars)
 }
@@ -45,13 +43,12 @@ fn finished(board: &mut Many, bars: &[BarId]) -> Result<u64, Refusal> {
 /// Each of twenty thousand bars is finished and drawn, in a time that doesn't depend on all of them at each draw.
 #[test]
 fn twenty_thousand_bars(rt: HostRuntime) {
-    let rt = &rt;
     let alloc = rt.alloc();
     let target = ProgressDrawTarget::term_like(Term::new(Vec::new(alloc), 24, 80));
     let mut board = Board::new(alloc, target, 1);
-    let bars = added(alloc, &mut board).granted(rt);
-    let mut clock = MachineClock::new(*rt);
+    let bars = added(alloc, &mut board).granted(&rt);
+    let mut clock = MachineClock::new(rt);
     let begun = clock.now();
-    same!(rt; finished(&mut board, bars.as_slice()), Ok(BARS));
-    holds!(rt; clock.now().saturating_sub(begun) < BOUND);
+    same!(&rt; finished(&mut board, bars.as_slice()), Ok(BARS));
+    holds!(&rt; clock.now().saturating_sub(begun) < BOUND);
 }

@@ -1,22 +1,15 @@
 //! Lists in threads: the blocks by which a bar advances, and what a shared bar shows within one.
-use crate::checks::Granted;
-use crate::fronts::{Bar, another_of};
-use crate::gates::{Meeting, counts};
-use crate::stepped::{bar_at, twice};
-use indicatif::{
-    Drawn, Gate, Moves, ParallelProgressIterator, ProgressBar, ProgressDrawTarget, Refusal, Setup,
-    StepClock,
-};
-use std::alloc::Global;
-use std::process::Abort;
-use std::sync::Wait;
+use crate::checks::{Granted, Runtime};
+use crate::fronts::{Bar, another_of, hidden};
+use crate::gates::{Meeting, Stepped, are_once, counts, new_bar, twice};
+use indicatif::{Drawn, Gate, Moves, ParallelProgressIterator, ProgressBar, Refusal};
 use std::sync::atomic::{AtomicU64, Ordering};
-use std::thread::{Threads, available_parallelism, sleep};
-use std::time::{Clock, Duration};
+use std::thread::{available_parallelism, sleep};
+use std::time::Duration;
 
 /// The numbers below `count`.
-fn numbers<R: Abort>(rt: &R, alloc: Global, count: u32) -> Vec<u32> {
-    let mut items = Vec::new(alloc);
+fn numbers<R: Runtime>(rt: &R, count: u32) -> Vec<u32> {
+    let mut items = Vec::new(rt.alloc());
     for k in 0..count {
         items.push(k).granted(rt);
     }
@@ -24,10 +17,10 @@ fn numbers<R: Abort>(rt: &R, alloc: Global, count: u32) -> Vec<u32> {
 }
 
 /// Doubles `count` items: their bar goes to the end of the list by these steps. It isn't finished.
-fn goes_by<R: Threads + Sync + Abort>(rt: &R, alloc: Global, count: u32, steps: &[u64]) {
-    let items = numbers(rt, alloc, count);
-    let list = items.as_slice().progress_with(bar_at(alloc, 0));
-    let (made, bar) = list.map_collect(rt, alloc, twice);
+fn goes_by<R: Runtime>(rt: &R, count: u32, steps: &[u64]) {
+    let items = numbers(rt, count);
+    let list = items.as_slice().progress_with(new_bar(rt));
+    let (made, bar) = list.map_collect(rt, rt.alloc(), twice);
     same!(rt; made.granted(rt).len(), count as usize);
     same!(rt; bar.steps.as_slice(), steps);
     same!(rt; bar.position, u64::from(count));
@@ -38,37 +31,31 @@ fn goes_by<R: Threads + Sync + Abort>(rt: &R, alloc: Global, count: u32, steps: 
 /// longer than a block moves its bar by a tenth at a time: of 2,000 items by 200. One item is a block.
 #[test]
 fn blocks_and_tenths(rt: HostRuntime) {
-    let rt = &rt;
-    let alloc = rt.alloc();
-    goes_by(rt, alloc, 10_000, &[4096, 4096, 1808]);
-    goes_by(rt, alloc, 4097, &[4096, 1]);
-    goes_by(rt, alloc, 2000, &[200; 10]);
-    goes_by(rt, alloc, 1, &[1]);
+    goes_by(&rt, 10_000, &[4096, 4096, 1808]);
+    goes_by(&rt, 4097, &[4096, 1]);
+    goes_by(&rt, 2000, &[200; 10]);
+    goes_by(&rt, 1, &[1]);
 }
 
 /// Two items are worked on at the same time: each sees that the other has begun. (With one processor, or if their number is unknown, they
 /// are worked on one after another.)
 #[test]
 fn pieces_of_a_list_run_at_the_same_time(rt: HostRuntime) {
-    let rt = &rt;
     let alloc = rt.alloc();
-    let gate = Meeting::of(*rt, 2);
+    let gate = Meeting::of(rt, 2);
     let items = [0usize, 1];
-    let list = items.as_slice().progress_with(bar_at(alloc, 0));
-    let (made, bar) = list.map_collect(rt, alloc, |item: &usize| gate.pass(*item));
-    same!(rt; (made.granted(rt).len(), bar.position), (2, 2));
-    if has_processors(rt) {
-        same!(rt; gate.saw_all.load(Ordering::SeqCst), 2);
-        same!(rt; bar.steps.as_slice(), [2].as_slice());
+    let list = items.as_slice().progress_with(new_bar(&rt));
+    let (made, bar) = list.map_collect(&rt, alloc, |item: &usize| gate.pass(*item));
+    same!(&rt; (made.granted(&rt).len(), bar.position), (2, 2));
+    if has_processors(&rt) {
+        same!(&rt; gate.saw_all.load(Ordering::SeqCst), 2);
+        same!(&rt; bar.steps.as_slice(), [2].as_slice());
     }
 }
 
 /// Whether the machine reports more than one processor.
-fn has_processors<R: Threads>(rt: &R) -> bool {
-    match available_parallelism(rt) {
-        Ok(count) => count.get() > 1,
-        Err(_) => false,
-    }
+fn has_processors<R: Runtime>(rt: &R) -> bool {
+    matches!(available_parallelism(rt), Ok(count) if count.get() > 1)
 }
 
 /// Does nothing with an item.
@@ -79,49 +66,33 @@ fn meet(times: &AtomicU64) {
     times.fetch_add(1, Ordering::SeqCst);
 }
 
-/// Whether each of these counts is 1.
-fn are_met_once(counts: &[AtomicU64]) -> bool {
-    for times in counts {
-        if times.load(Ordering::SeqCst) != 1 {
-            return false;
-        }
-    }
-    true
-}
-
 #[test]
 fn each_item_is_met_once(rt: HostRuntime) {
-    let rt = &rt;
-    let alloc = rt.alloc();
-    let met = counts(rt, alloc, 10_000);
-    let list = met.as_slice().progress_with(bar_at(alloc, 0));
-    let (answer, bar) = list.for_each(rt, |item: &AtomicU64| meet(item));
-    same!(rt; answer, Ok(()));
-    same!(rt; bar.steps.as_slice(), [4096, 4096, 1808].as_slice());
-    holds!(rt; are_met_once(met.as_slice()));
+    let met = counts(&rt, 10_000);
+    let list = met.as_slice().progress_with(new_bar(&rt));
+    let (answer, bar) = list.for_each(&rt, |item: &AtomicU64| meet(item));
+    same!(&rt; answer, Ok(()));
+    same!(&rt; bar.steps.as_slice(), [4096, 4096, 1808].as_slice());
+    holds!(&rt; are_once(met.as_slice()));
 }
 
-/// A bar that may stop within a block, and shows the threads its position.
+/// A bar that may stop within a block, so its type doesn't state where it stands.
 #[derive(Drop)]
-struct Telling<'a> {
-    place: &'a AtomicU64,
-    steps: Vec<u64>,
+struct Loose {
+    bar: Stepped,
 }
 
-impl Moves for Telling<'_> {
+impl Moves for Loose {
     fn advance(&mut self, n: u64) -> Result<Drawn, Refusal> {
-        self.steps.push(n)?;
-        self.place.fetch_add(n, Ordering::SeqCst);
-        Ok(Drawn::Limited)
+        self.bar.advance(n)
     }
 
     fn place(&mut self, place: u64) -> Result<Drawn, Refusal> {
-        self.place.store(place, Ordering::SeqCst);
-        Ok(Drawn::Limited)
+        self.bar.place(place)
     }
 
     fn finish(&mut self) -> Result<Drawn, Refusal> {
-        Ok(Drawn::Limited)
+        self.bar.finish()
     }
 
     fn stops_within_blocks(&self) -> bool {
@@ -129,11 +100,11 @@ impl Moves for Telling<'_> {
     }
 
     fn position(&self) -> u64 {
-        self.place.load(Ordering::SeqCst)
+        self.bar.position
     }
 
     fn finished(&self) -> bool {
-        false
+        self.bar.finished
     }
 }
 
@@ -154,18 +125,12 @@ fn stood_at(steps: &[u64], places: &[u64]) -> bool {
 /// bar meets no item.)
 #[test]
 fn a_bar_that_stops_within_blocks_stops_behind_each(rt: HostRuntime) {
-    let rt = &rt;
-    let alloc = rt.alloc();
-    let numbers = numbers(rt, alloc, 10_000);
-    let place = AtomicU64::new(0);
-    let bar = Telling {
-        place: &place,
-        steps: Vec::new(alloc),
-    };
+    let (alloc, numbers) = (rt.alloc(), numbers(&rt, 10_000));
+    let bar = Loose { bar: new_bar(&rt) };
     let list = numbers.as_slice().progress_with(bar);
-    let (made, bar) = list.map_collect(rt, alloc, |x: &u32| x.wrapping_mul(2));
-    same!(rt; made.granted(rt).len(), 10_000);
-    holds!(rt; stood_at(bar.steps.as_slice(), &[4096, 8192, 10_000]));
+    let (made, bar) = list.map_collect(&rt, alloc, |x: &u32| x.wrapping_mul(2));
+    same!(&rt; made.granted(&rt).len(), 10_000);
+    holds!(&rt; stood_at(bar.bar.steps.as_slice(), &[4096, 8192, 10_000]));
 }
 
 /// How many milliseconds this item of a list watches a bar. Threads whose items take different times don't end together.
@@ -173,23 +138,13 @@ fn patience(item: u32) -> u32 {
     (item % 7).saturating_mul(5).saturating_add(5)
 }
 
-/// A hidden shared bar of 40.
-fn shared_bar<R: Wait + Copy + Clone + Drop + Abort>(rt: R, alloc: Global) -> Bar<R> {
-    let rt = &rt;
-    let setup = Setup {
-        target: ProgressDrawTarget::hidden(),
-        clock: StepClock { next: 0, step: 1 },
-    };
-    ProgressBar::new(*rt, alloc, 40, setup).expect(rt, "granted")
-}
-
 /// Whether this item, while it watches a shared bar, sees it within a block of four.
-fn sees_within<R: Wait + Clone + Drop, C: Clock>(clock: &C, bar: &Bar<R>, item: u32) -> bool {
+fn sees_within<R: Runtime>(rt: &R, bar: &Bar<R>, item: u32) -> bool {
     for _ in 0..patience(item) {
         if bar.position() % 4 != 0 {
             return true;
         }
-        sleep(clock, Duration::from_millis(1));
+        sleep(rt, Duration::from_millis(1));
     }
     false
 }
@@ -198,18 +153,17 @@ fn sees_within<R: Wait + Clone + Drop, C: Clock>(clock: &C, bar: &Bar<R>, item: 
 /// bar of any type that stops within blocks is moved by the same calls.) Another list goes on with it from there, and finishes nothing.
 #[test]
 fn a_shared_bar_moves_within_a_block(rt: HostRuntime) {
-    let rt = &rt;
     let alloc = rt.alloc();
-    let items = numbers(rt, alloc, 40);
-    let bar = shared_bar(*rt, alloc);
-    let list = items.as_slice().progress_with(another_of(rt, &bar));
-    let (seen, owner) = list.map_collect(rt, alloc, |item: &u32| sees_within(rt, &bar, *item));
-    holds!(rt; seen.granted(rt).contains(&true));
-    same!(rt; bar.position(), 40);
+    let items = numbers(&rt, 40);
+    let bar = ProgressBar::new(rt, alloc, 40, hidden()).expect(&rt, "granted");
+    let list = items.as_slice().progress_with(another_of(&rt, &bar));
+    let (seen, owner) = list.map_collect(&rt, alloc, |item: &u32| sees_within(&rt, &bar, *item));
+    holds!(&rt; seen.granted(&rt).contains(&true));
+    same!(&rt; bar.position(), 40);
     let list = items.as_slice().progress_with(owner);
-    let (answer, owner) = list.for_each(rt, pass_over);
-    same!(rt; answer, Ok(()));
+    let (answer, owner) = list.for_each(&rt, pass_over);
+    same!(&rt; answer, Ok(()));
     owner.bar.release();
-    same!(rt; bar.position(), 80);
-    holds!(rt; !bar.is_finished());
+    same!(&rt; bar.position(), 80);
+    holds!(&rt; !bar.is_finished());
 }

@@ -1,14 +1,10 @@
 //! A rate that follows: keys of the last seconds.
-use crate::checks::Granted;
-use indicatif::{
-    BarState, LastSeconds, LineType, Moment, ProgressStyle, Rate, Recent, RecentKey, Sample,
-};
-use std::alloc::Global;
-use std::convert::AsStr;
-use std::process::Abort;
+use crate::checks::{Granted, Runtime, is_line};
+use indicatif::{BarState, LastSeconds, Moment, ProgressStyle, Rate, Recent, RecentKey, Sample};
 
 /// A bar of a hundred, made at moment 0, in the style of a template with these two keys.
-fn hundred<R: Abort>(rt: &R, alloc: Global) -> BarState<Recent> {
+fn hundred(rt: &impl Runtime) -> BarState<Recent> {
+    let alloc = rt.alloc();
     let style = ProgressStyle::with_template(alloc, "{per_sec} {eta}").granted(rt);
     let style = style
         .with_key("per_sec", Recent::new(RecentKey::PerSec))
@@ -19,9 +15,8 @@ fn hundred<R: Abort>(rt: &R, alloc: Global) -> BarState<Recent> {
 }
 
 /// Ends the test if the bar's line is another one.
-fn shows<R: Abort>(rt: &R, bar: &BarState<Recent>, now: Moment, wanted: &str) {
-    let lines = bar.lines(now, 80).granted(rt);
-    same!(rt; lines.first().is_some_and(|line: &LineType| line.as_str() == wanted), true);
+fn shows(rt: &impl Runtime, bar: &BarState<Recent>, now: Moment, wanted: &str) {
+    is_line(rt, &bar.lines(now, 80).granted(rt), wanted);
 }
 
 /// A tenth of a second, and a second.
@@ -33,62 +28,37 @@ const SECOND: u64 = 1_000_000_000;
 /// shows its mean, and one that is reset nothing yet.
 #[test]
 fn a_rate_follows(rt: HostRuntime) {
-    let rt = &rt;
-    let mut bar = hundred(rt, rt.alloc());
-    shows(rt, &bar, SECOND, "0/s 0s");
+    let mut bar = hundred(&rt);
+    shows(&rt, &bar, SECOND, "0/s 0s");
     for step in 1..91u64 {
         bar.set_position(step, step.saturating_mul(TENTH));
     }
-    shows(rt, &bar, 90 * TENTH, "10/s 1s");
+    shows(&rt, &bar, 90 * TENTH, "10/s 1s");
     bar.set_position(91, 10 * SECOND);
-    shows(rt, &bar, 10 * SECOND, "6.25/s 1s");
+    shows(&rt, &bar, 10 * SECOND, "6.25/s 1s");
     bar.set_position(92, 11 * SECOND);
     bar.set_position(93, 12 * SECOND);
-    shows(rt, &bar, 12 * SECOND, "1/s 7s");
-    shows(rt, &bar, 14 * SECOND, "0.5/s 14s");
+    shows(&rt, &bar, 12 * SECOND, "1/s 7s");
+    shows(&rt, &bar, 14 * SECOND, "0.5/s 14s");
     bar.finish(12 * SECOND);
-    shows(rt, &bar, 12 * SECOND, "8.3333/s 0s");
+    shows(&rt, &bar, 12 * SECOND, "8.3333/s 0s");
     bar.reset(20 * SECOND);
-    shows(rt, &bar, 21 * SECOND, "0/s 0s");
-}
-
-/// The text of a bar with one key at two thousand bytes of ten thousand, a second after its first tick.
-fn text_of<R: Abort>(rt: &R, alloc: Global, key: RecentKey, wanted: &str) {
-    let style = ProgressStyle::with_template(alloc, "{x}").granted(rt);
-    let style = style.with_key("x", Recent::new(key)).granted(rt);
-    let mut bar = BarState::styled(alloc, style, Some(10_000), 0).granted(rt);
-    bar.set_position(0, SECOND);
-    bar.set_position(2_000, 2 * SECOND);
-    shows(rt, &bar, 2 * SECOND, wanted);
-}
-
-#[test]
-fn rates_in_their_forms(rt: HostRuntime) {
-    let rt = &rt;
-    let alloc = rt.alloc();
-    text_of(rt, alloc, RecentKey::PerSec, "2,000/s");
-    text_of(rt, alloc, RecentKey::BytesPerSec, "1.95 KiB/s");
-    text_of(rt, alloc, RecentKey::DecimalBytesPerSec, "2.00 kB/s");
-    text_of(rt, alloc, RecentKey::Eta, "4s");
-    text_of(rt, alloc, RecentKey::EtaPrecise, "00:00:04");
+    shows(&rt, &bar, 21 * SECOND, "0/s 0s");
 }
 
 /// Three steps in two seconds are 1.5 a second, and six take four seconds. (`measures.txt` has others.)
 #[test]
 fn rates_as_whole_numbers(rt: HostRuntime) {
-    let rt = &rt;
     let rate = Rate {
         steps: 3,
         nanos: 2_000_000_000,
     };
-    same!(rt; rate.steps_a_second(), 1);
-    same!(rt; rate.time_for(6), 4_000_000_000);
+    same!(&rt; (rate.steps_a_second(), rate.time_for(6)), (1, 4_000_000_000));
 }
 
 /// Two samples: where they count from, and steps that went back.
 #[test]
 fn samples_of_the_last_seconds(rt: HostRuntime) {
-    let rt = &rt;
     let seconds = LastSeconds::starting(Sample {
         steps: 0,
         moment: 0,
@@ -99,11 +69,11 @@ fn samples_of_the_last_seconds(rt: HostRuntime) {
     };
     let seconds = seconds.go_on(now);
     let rate = seconds.rate(now);
-    same!(rt; (rate.steps, rate.nanos), (3_000, 2_000_000_000));
+    same!(&rt; (rate.steps, rate.nanos), (3_000, 2_000_000_000));
     let sample = Sample {
         steps: 3,
         moment: 2_000_000_000,
     };
     let rate = seconds.go_on(sample).rate(sample);
-    same!(rt; (rate.steps, rate.nanos), (0, 1));
+    same!(&rt; (rate.steps, rate.nanos), (0, 1));
 }

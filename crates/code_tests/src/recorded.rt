@@ -1,39 +1,86 @@
-//! Boards that keep their history: beside a ticker, and two of one id. (Threads share them in `receipts`, `log_bridge` and `fuzz`.)
-use crate::checks::Granted;
-use crate::fronts::{Bar, Shared, bar_on, recorded};
-use crate::replays::{Kind, counted, replays};
-use crate::tickers::{tick_off, ticks_on, waits};
-use indicatif::{Drawn, ProgressDrawTarget, ProgressFinish, Refusal};
+//! Boards that keep their history: what they have kept, and two of one id. (Threads share them in `receipts`, `log_bridge` and `fuzz`; tickers are
+//! in rows of data.)
+use crate::checks::{Granted, Runtime};
+use crate::fronts::{Bar, Shared, bar_on, recorded, target};
+use crate::tickers::MILLISECOND;
+use indicatif::style::Tracks;
+use indicatif::{
+    Call, InMemoryTerm, MultiProgress, NoTracker, ProgressDrawTarget, ProgressFinish, RecordReader,
+    Recorded, Refusal, Size, StepClock,
+};
+use scripts::replay::is_one_run;
+use std::alloc::Global;
 use std::process::Abort;
-use std::sync::Wait;
 
-/// How often the bars' tickers ticked, and how often one was enabled and disabled.
-fn of_tickers<R: Wait + Copy + Clone + Drop>(board: &Shared<R>) -> (u64, u64, u64) {
-    (
-        counted(board, Kind::TickerTick),
-        counted(board, Kind::Ticker(true)),
-        counted(board, Kind::Ticker(false)),
-    )
+/// The size of the terminals.
+const SIZE: Option<Size> = Some(Size {
+    columns: 10,
+    rows: 4,
+});
+
+/// Counts calls: the logs of a text above all bars, or, without a text, all calls.
+#[derive(Drop)]
+struct Counted<'a> {
+    log: Option<&'a str>,
 }
 
-/// A board that is suspended beside a ticker draws again; the history has the ticker's ticks, and no more once it is disabled. The board's
-/// `Debug` shows its name.
-#[test]
-fn a_pause_beside_a_ticker(rt: HostRuntime) {
-    let rt = &rt;
-    let alloc = rt.alloc();
-    let board = recorded(*rt, alloc);
-    let bar = bar_on(&board, *rt, alloc, "all");
-    same!(rt; bar.enable_steady_tick(1_000_000), Ok(()));
-    holds!(rt; ticks_on(rt, &bar, 0));
-    same!(rt; board.suspend(|| 7u8), (7, Ok(Drawn::Yes)));
-    same!(rt; tick_off(&bar), Ok(()));
-    let ticked = bar.ticks();
-    waits(rt);
-    same!(rt; of_tickers(&board), (ticked, 1, 1));
-    replays(*rt, &board, alloc);
-    let text = format!(in alloc; "{board:?}").granted(rt);
-    same!(rt; text.as_str(), "MultiProgress");
+impl RecordReader<InMemoryTerm, NoTracker> for Counted<'_> {
+    type Found = u64;
+
+    fn read(self, record: Option<&Recorded<NoTracker, InMemoryTerm>>) -> u64 {
+        match record {
+            Some(recorded) if recorded.opening().size == SIZE => count(recorded, self.log),
+            _ => 0,
+        }
+    }
+}
+
+fn count(recorded: &Recorded<NoTracker, InMemoryTerm>, log: Option<&str>) -> u64 {
+    let mut found: u64 = 0;
+    for entry in recorded.entries() {
+        found = found.saturating_add(match (&entry.call, log) {
+            (Call::Log(text), Some(wanted)) => u64::from(text.as_str() == wanted),
+            (_, log) => u64::from(log.is_none()),
+        });
+    }
+    found
+}
+
+/// How many calls a board has kept, on a terminal of 4 rows and 10 columns.
+pub fn kept<R: Runtime>(board: &Shared<R>) -> u64 {
+    board.with_record(Counted { log: None })
+}
+
+/// How often it has logged this text.
+pub fn logged<R: Runtime>(board: &Shared<R>, text: &str) -> u64 {
+    board.with_record(Counted { log: Some(text) })
+}
+
+/// A new board makes the kept calls with the same answers, and then shows the same rows.
+#[derive(Drop)]
+struct RunsAgain<R: Abort + Drop> {
+    rt: R,
+    alloc: Global,
+}
+
+impl<R: Abort + Drop, K: Tracks> RecordReader<InMemoryTerm, K> for RunsAgain<R> {
+    type Found = ();
+
+    fn read(self, record: Option<&Recorded<K, InMemoryTerm>>) {
+        let rt = &self.rt;
+        let recorded = record.expect(rt, "a history");
+        let target = target(self.alloc).granted(rt);
+        same!(rt; is_one_run(self.alloc, recorded, target), Ok(true));
+    }
+}
+
+/// Ends the test if what a board has kept isn't one run: a new board that makes those calls gives the same answers, and shows the same.
+pub fn replays<R: Runtime, K: Tracks>(
+    rt: &R,
+    board: &MultiProgress<InMemoryTerm, StepClock, R, K>,
+) {
+    let (rt, alloc) = (*rt, rt.alloc());
+    board.with_record(RunsAgain { rt, alloc });
 }
 
 // ---- two boards of one id
@@ -41,12 +88,12 @@ fn a_pause_beside_a_ticker(rt: HostRuntime) {
 const LOST: Option<Refusal> = Some(Refusal::NotMember);
 
 /// Another owner of a bar, which a builder drops.
-fn owner<R: Wait + Copy + Clone + Drop + Abort>(rt: &R, bar: &Bar<R>) -> Bar<R> {
+fn owner<R: Runtime>(rt: &R, bar: &Bar<R>) -> Bar<R> {
     bar.clone().expect(rt, "granted")
 }
 
 /// The board of this bar hasn't it: each command is refused, also one that asks for no draw.
-fn is_lost<R: Wait + Copy + Clone + Drop + Abort>(rt: &R, bar: &Bar<R>) {
+fn is_lost<R: Runtime>(rt: &R, bar: &Bar<R>) {
     same!(rt; bar.tick().err(), LOST);
     same!(rt; owner(rt, bar).with_position(3).err(), LOST);
     same!(rt; owner(rt, bar).with_finish(ProgressFinish::AndLeave).err(), LOST);
@@ -58,15 +105,12 @@ fn is_lost<R: Wait + Copy + Clone + Drop + Abort>(rt: &R, bar: &Bar<R>) {
 /// Removing the other board's bar removes the bar here that has its number.
 #[test]
 fn a_bar_that_its_board_has_lost(rt: HostRuntime) {
-    let rt = &rt;
-    let alloc = rt.alloc();
-    let (board, twin) = (recorded(*rt, alloc), recorded(*rt, alloc));
-    let bar = bar_on(&board, *rt, alloc, "a");
-    let other = bar_on(&twin, *rt, alloc, "b");
-    same!(rt; board.remove(&other), Ok(()));
-    is_lost(rt, &bar);
-    same!(rt; bar.enable_steady_tick(1_000_000_000).err(), LOST);
-    let target = ProgressDrawTarget::hidden();
-    same!(rt; bar.set_draw_target(target).err(), LOST);
-    same!(rt; board.add(bar).err(), LOST);
+    let (board, twin) = (recorded(&rt), recorded(&rt));
+    let bar = bar_on(&rt, &board, "a");
+    let other = bar_on(&rt, &twin, "b");
+    same!(&rt; board.remove(&other), Ok(()));
+    is_lost(&rt, &bar);
+    same!(&rt; bar.enable_steady_tick(MILLISECOND).err(), LOST);
+    same!(&rt; bar.set_draw_target(ProgressDrawTarget::hidden()).err(), LOST);
+    same!(&rt; board.add(bar).err(), LOST);
 }

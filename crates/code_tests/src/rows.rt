@@ -59,8 +59,7 @@ const FILES: &[(&str, (u64, u64, u64))] = &[
 
 #[test]
 fn files_of_rows(rt: HostRuntime) {
-    let rt = &rt;
     for (text, wanted) in FILES {
-        same!(rt; (*text, told(*rt, text).ok()), (*text, Some(*wanted)));
+        same!(&rt; (*text, told(rt, text).ok()), (*text, Some(*wanted)));
     }
 }

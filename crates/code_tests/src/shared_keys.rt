@@ -3,9 +3,9 @@
 ghost use Rattle.std.specs.Prelude.{◌-◌, decimal};
 ghost use Rattle.indicatif_bar.specs.Trackers.{telling};
 
-use crate::checks::Granted;
+use crate::checks::{Granted, Runtime};
 use crate::fronts::{bar_shows, board_shows, target};
-use crate::replays::replays;
+use crate::recorded::replays;
 use indicatif::style::ProgressTracker;
 use indicatif::{
     InMemoryTerm, Moment, MultiProgress, ProgressBar, ProgressState, ProgressStyle, Refusal, Setup,
@@ -13,8 +13,6 @@ use indicatif::{
 };
 use itoa::Buffer;
 use std::alloc::Global;
-use std::process::Abort;
-use std::sync::Wait;
 use std::thread;
 
 /// Says how many of the steps are left.
@@ -63,11 +61,11 @@ fn style(alloc: Global) -> Result<ProgressStyle<Left>, Refusal> {
     Ok(style)
 }
 
-fn files<R: Wait + Copy + Clone + Drop + Abort>(rt: R, alloc: Global) -> Keyed<R> {
-    let rt = &rt;
-    let setup = setup(alloc).granted(rt);
-    let style = style(alloc).granted(rt);
-    let bar = ProgressBar::styled(*rt, alloc, style, Some(10), setup).expect(rt, "granted");
+fn files<R: Runtime>(rt: &R) -> Keyed<R> {
+    let setup = setup(rt.alloc()).granted(rt);
+    let style = style(rt.alloc()).granted(rt);
+    let bar = ProgressBar::styled(*rt, rt.alloc(), style, Some(10), setup);
+    let bar = bar.expect(rt, "granted");
     holds!(rt; bar.set_message("files").is_ok());
     bar
 }
@@ -79,66 +77,58 @@ const SHOWN: &[(u64, &str)] = &[(12, "files 0"), (3, "files 7"), (0, "files 10")
 /// thread moves the bar, and the key with it. A style that is set later, and one that was read from the bar, have the key too.
 #[test]
 fn what_is_left(rt: HostRuntime) {
-    let rt = &rt;
-    let bar = files(*rt, rt.alloc());
-    same!(rt; bar.length(), Some(10));
-    let other = bar.clone().expect(rt, "granted");
+    let bar = files(&rt);
+    same!(&rt; bar.length(), Some(10));
+    let other = bar.clone().expect(&rt, "granted");
     for (position, wanted) in SHOWN {
-        holds!(rt; other.set_position(*position).is_ok());
-        bar_shows(rt, &bar, wanted);
+        holds!(&rt; other.set_position(*position).is_ok());
+        bar_shows(&rt, &bar, wanted);
     }
-    let moved = thread::spawn(rt, move || other.inc(4)).granted(rt);
-    holds!(rt; moved.join(rt).is_ok());
-    bar_shows(rt, &bar, "files 6");
-    let style = bar.style().granted(rt);
-    let style = style.template("{left} of 10").granted(rt);
-    holds!(rt; bar.set_style(style).is_ok());
-    holds!(rt; bar.set_position(1).is_ok());
-    bar_shows(rt, &bar, "9 of 10");
+    let moved = thread::spawn(&rt, move || other.inc(4)).granted(&rt);
+    holds!(&rt; moved.join(&rt).is_ok());
+    bar_shows(&rt, &bar, "files 6");
+    let style = bar.style().granted(&rt);
+    let style = style.template("{left} of 10").granted(&rt);
+    holds!(&rt; bar.set_style(style).is_ok());
+    holds!(&rt; bar.set_position(1).is_ok());
+    bar_shows(&rt, &bar, "9 of 10");
 }
 
 /// A bar that a board makes, in that style.
-fn made_by<R: Wait + Copy + Clone + Drop + Abort>(
-    board: &Several<R>,
-    rt: R,
-    alloc: Global,
-) -> Keyed<R> {
-    let rt = &rt;
+fn made_by<R: Runtime>(rt: &R, board: &Several<R>) -> Keyed<R> {
     let bar = board.new_bar(10).expect(rt, "granted");
-    let style = style(alloc).granted(rt);
+    let style = style(rt.alloc()).granted(rt);
     holds!(rt; bar.set_style(style).is_ok());
     holds!(rt; bar.set_message("a").is_ok());
     bar
 }
 
 /// The second of a board's two bars moves by 2.
-fn shows_two<R: Wait + Copy + Clone + Drop + Abort>(rt: R, alloc: Global, board: &Several<R>) {
-    let rt = &rt;
-    let first = made_by(board, *rt, alloc);
-    let second = board.add(files(*rt, alloc)).expect(rt, "granted");
+fn shows_two<R: Runtime>(rt: &R, board: &Several<R>) {
+    let first = made_by(rt, board);
+    let second = board.add(files(rt)).expect(rt, "granted");
     holds!(rt; first.tick().is_ok());
     holds!(rt; second.inc(2).is_ok());
     board_shows(rt, board, "a 10\nfiles 8");
 }
 
 /// A board without a history; and one whose history has the keys.
-fn shows_both<R: Wait + Copy + Clone + Drop + Abort>(rt: R, alloc: Global) {
-    let rt = &rt;
+fn shows_both<R: Runtime>(rt: &R, alloc: Global) {
     let board: Several<R> = MultiProgress::keyed(
         *rt,
         alloc,
         setup(alloc).expect(rt, "granted"),
         1,
     ).expect(rt, "granted");
-    shows_two(*rt, alloc, &board);
+    shows_two(rt, &board);
     let setup = setup(alloc).expect(rt, "granted");
     let board = MultiProgress::keyed_recorded(*rt, alloc, setup, 1);
     let board: Several<R> = board.expect(rt, "granted");
-    shows_two(*rt, alloc, &board);
-    replays(*rt, &board, alloc);
+    shows_two(rt, &board);
+    replays(rt, &board);
 }
 
 #[test]
 fn on_a_board(rt: HostRuntime) {
-    shows_both(rt, rt.alloc());
+    shows_both(&rt, rt.alloc());
 }

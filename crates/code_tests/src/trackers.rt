@@ -1,113 +1,68 @@
-//! Your own keys of a template.
+//! Your own keys of a template: names of keys; and tests of the crate `indicatif` 0.18.6, each under its own name and with its own values.
 ghost use Rattle.std.specs.Prelude.{false, true, [], ◌++◌, if◌then◌else◌, codes, decimal, unwrap_or};
 
-use crate::checks::Granted;
-use crate::spare_lines::is_shown;
+use crate::checks::{Granted, Runtime, is_line};
+use crate::documented::records::{Always, saying};
 use indicatif::style::ProgressTracker;
-use indicatif::{BarState, FnTracker, Moment, ProgressState, ProgressStyle, Refusal, TellsText};
+use indicatif::{BarState, FnTracker, Moment, ProgressState, ProgressStyle, Refusal};
 use std::alloc::Global;
-use std::process::Abort;
 
-/// Gives this text.
-#[derive(Drop)]
-pub struct Says {
-    pub alloc: Global,
-    pub text: &'static str,
-}
+/// A style with keys that give always the same text.
+type Look = ProgressStyle<FnTracker<Always>>;
 
-impl TellsText for Says {
-    ghost told_text = { λ says p now. says.text.now };
-
-    fn tell(&self, _state: &ProgressState, _now: Moment) -> Result<String, Refusal> {
-        Ok(String::from_str(self.alloc, self.text)?)
+/// A style with this template, with colours or without, and keys with these names and texts.
+fn styled(rt: &impl Runtime, of: (&str, bool), keys: &[(&str, &str)]) -> Look {
+    let alloc = rt.alloc();
+    let style = ProgressStyle::with_template(alloc, of.0).expect(rt, "granted");
+    let mut style = style.with_colors(of.1).expect(rt, "granted");
+    for (name, text) in keys {
+        style = style
+            .with_key(*name, saying(rt, *text))
+            .expect(rt, "granted");
     }
-}
-
-/// A key with that text.
-pub type Telling = FnTracker<Says>;
-
-// ---- styles and bars
-
-/// A style with this template, with colours or without.
-pub fn look<K: ProgressTracker>(
-    rt: &impl Abort,
-    alloc: Global,
-    (template, colours): (&str, bool),
-) -> ProgressStyle<K> {
-    let style = ProgressStyle::with_template(alloc, template).expect(rt, "granted");
-    style.with_colors(colours).expect(rt, "granted")
-}
-
-// ---- a text that stays
-
-/// The style with a tracker with this name that writes this text.
-pub fn saying(
-    rt: &impl Abort,
-    alloc: Global,
-    look: ProgressStyle<Telling>,
-    (name, text): (&str, &'static str),
-) -> ProgressStyle<Telling> {
-    let tracker = FnTracker::new(alloc, Says { alloc, text }).granted(rt);
-    look.with_key(name, tracker).expect(rt, "granted")
-}
-
-// ---- names of keys
-
-/// Trackers with the names of keys, and two with one name.
-fn named(rt: &impl Abort, alloc: Global) -> ProgressStyle<Telling> {
-    let look = look(rt, alloc, ("{pos}{wide_msg}{t}", false));
-    let look = saying(rt, alloc, look, ("pos", "p"));
-    let look = saying(rt, alloc, look, ("wide_msg", "w"));
-    let look = saying(rt, alloc, look, ("t", "1"));
-    saying(rt, alloc, look, ("t", "2"))
+    style
 }
 
 /// Ends the test if the one line of a bar of 10 in this style is another, on 80 columns.
-pub fn shows_line(rt: &impl Abort, alloc: Global, look: ProgressStyle<Telling>, wanted: &str) {
-    let bar = BarState::styled(alloc, look, Some(10), 0).expect(rt, "granted");
-    is_shown(rt, &bar.lines(0, 80).granted(rt), wanted);
+fn shows_line(rt: &impl Runtime, look: Look, wanted: &str) {
+    let bar = BarState::styled(rt.alloc(), look, Some(10), 0).expect(rt, "granted");
+    is_line(rt, &bar.lines(0, 80).granted(rt), wanted);
 }
 
 /// A tracker comes before a key with its name, and before an earlier tracker with its name.
 #[test]
 fn names_of_trackers(rt: HostRuntime) {
-    let rt = &rt;
-    let alloc = rt.alloc();
-    let look = named(rt, alloc);
-    let clone = look.try_clone().expect(rt, "granted");
-    shows_line(rt, alloc, look, "pw2");
-    shows_line(rt, alloc, clone, "pw2");
+    let keys = [("pos", "p"), ("wide_msg", "w"), ("t", "1"), ("t", "2")];
+    let look = styled(&rt, ("{pos}{wide_msg}{t}", false), keys.as_slice());
+    let clone = look.try_clone().expect(&rt, "granted");
+    shows_line(&rt, look, "pw2");
+    shows_line(&rt, clone, "pw2");
 }
 
-// ---- tests of the crate `indicatif` 0.18.6, each under its own name and with its own values
-
-/// Ends the test if the keys `foo` and `bar` give another line for a template.
-fn expands<R: Abort>(rt: &R, alloc: Global, template: &str, wanted: &str) {
-    let look = look(rt, alloc, (template, false));
-    let look = saying(rt, alloc, look, ("foo", "FOO"));
-    let look = saying(rt, alloc, look, ("bar", "BAR"));
-    shows_line(rt, alloc, look, wanted);
-}
+// ---- tests of the crate
 
 #[test]
 fn test_expand_template(rt: HostRuntime) {
-    let rt = &rt;
-    let alloc = rt.alloc();
-    expands(rt, alloc, "{{ {foo} {bar} }}", "{ FOO BAR }");
-    let json = r#"{ "foo": "{foo}", "bar": {bar} }"#;
-    expands(rt, alloc, json, r#"{ "foo": "FOO", "bar": BAR }"#);
+    let table = [
+        ("{{ {foo} {bar} }}", "{ FOO BAR }"),
+        (
+            r#"{ "foo": "{foo}", "bar": {bar} }"#,
+            r#"{ "foo": "FOO", "bar": BAR }"#,
+        ),
+    ];
+    for (template, wanted) in table {
+        let keys = [("foo", "FOO"), ("bar", "BAR")];
+        shows_line(&rt, styled(&rt, (template, false), keys.as_slice()), wanted);
+    }
 }
 
 /// Ends the test if the key `foo` gives another line for a template, with colours or without.
-fn expands_flags<R: Abort>(rt: &R, alloc: Global, template: (&str, bool), wanted: &str) {
-    let look = look(rt, alloc, template);
-    let look = saying(rt, alloc, look, ("foo", "XXX"));
-    shows_line(rt, alloc, look, wanted);
+fn expands_flags(rt: &impl Runtime, template: (&str, bool), wanted: &str) {
+    shows_line(rt, styled(rt, template, &[("foo", "XXX")]), wanted);
 }
 
 #[test]
 fn test_expand_template_flags(rt: HostRuntime) {
-    let rt = &rt;
     let table: &[(&str, &str)] = &[
         ("{foo:5}", "XXX  "),
         ("{foo:.red.on_blue}", "\u{1b}[31m\u{1b}[44mXXX\u{1b}[0m"),
@@ -118,15 +73,14 @@ fn test_expand_template_flags(rt: HostRuntime) {
         ),
     ];
     for (template, wanted) in table {
-        expands_flags(rt, rt.alloc(), (*template, true), *wanted);
+        expands_flags(&rt, (*template, true), *wanted);
     }
 }
 
 /// The crate has colours for each of two streams; here a style has colours or not.
 #[test]
 fn test_stderr_colors(rt: HostRuntime) {
-    let rt = &rt;
-    expands_flags(rt, rt.alloc(), ("{foo:.red.on_blue}", false), "XXX");
+    expands_flags(&rt, ("{foo:.red.on_blue}", false), "XXX");
 }
 
 /// The length and the position at the last tick since the last reset, if there was one.
@@ -170,7 +124,8 @@ impl ProgressTracker for TestTracker {
 }
 
 /// A bar of 1 that shows such a tracker.
-fn tested<R: Abort>(rt: &R, alloc: Global) -> BarState<TestTracker> {
+fn tested(rt: &impl Runtime) -> BarState<TestTracker> {
+    let alloc = rt.alloc();
     let tracker = TestTracker {
         alloc,
         ticked: false,
@@ -184,18 +139,17 @@ fn tested<R: Abort>(rt: &R, alloc: Global) -> BarState<TestTracker> {
 }
 
 /// Ends the test if the bar's one line is another one, on 16 columns.
-fn is_line<R: Abort>(rt: &R, bar: &BarState<TestTracker>, wanted: &str) {
-    is_shown(rt, &bar.lines(0, 16).granted(rt), wanted);
+fn shows(rt: &impl Runtime, bar: &BarState<TestTracker>, wanted: &str) {
+    is_line(rt, &bar.lines(0, 16).granted(rt), wanted);
 }
 
 #[test]
 fn test_stateful_tracker(rt: HostRuntime) {
-    let rt = &rt;
-    let mut bar = tested(rt, rt.alloc());
-    is_line(rt, &bar, "{  }");
+    let mut bar = tested(&rt);
+    shows(&rt, &bar, "{  }");
     bar.inc(1, 0);
-    is_line(rt, &bar, "{ 1 1 }");
+    shows(&rt, &bar, "{ 1 1 }");
     bar.reset(0);
-    is_line(rt, &bar, "{  }");
+    shows(&rt, &bar, "{  }");
     bar.finish_and_clear(0);
 }

@@ -51,9 +51,8 @@ const STARTED: &[(&[&[u8]], &[&str])] = &[
 
 #[test]
 fn words_behind_the_name(rt: HostRuntime) {
-    let rt = &rt;
     for (started, wanted) in STARTED {
-        let words = words(&(Started(started), rt.alloc())).granted(rt);
-        are_words(rt, &words, wanted);
+        let words = words(&(Started(started), rt.alloc())).granted(&rt);
+        are_words(&rt, &words, wanted);
     }
 }

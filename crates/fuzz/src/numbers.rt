@@ -1,8 +1,10 @@
 //! Random numbers by a seed.
 ghost use Rattle.std.specs.Prelude.{◌<◌};
 
+use indicatif_text::columns::Refusal;
 use rand_core::utils::NextWord;
 use rand_pcg::Pcg32;
+use std::alloc::Global;
 
 /// Numbers one after another, determined by a seed and the number of a stream.
 #[derive(Drop)]
@@ -31,12 +33,6 @@ impl Numbers {
         if count == 0 { 0 } else { word % count }
     }
 
-    /// A number of columns, from 0 up to this one.
-    pub fn size(&mut self, most: u16) -> u16 {
-        let [low, high, _, _] = self.next().to_le_bytes();
-        u16::from_le_bytes([low, high]) % most.saturating_add(1).max(1)
-    }
-
     /// True once in `count` times.
     pub fn one_in(&mut self, count: usize) -> bool {
         self.below(count) == 0
@@ -46,5 +42,14 @@ impl Numbers {
     pub fn piece_of<'a>(&mut self, pieces: &'a str) -> &'a str {
         let at = self.below(pieces.split('|').count());
         pieces.split('|').nth(at).unwrap_or("")
+    }
+
+    /// At most `most` of these texts, which are parted by bars, one after another.
+    pub fn joined(&mut self, alloc: Global, pieces: &str, most: usize) -> Result<String, Refusal> {
+        let mut text = String::new(alloc);
+        for _ in 0..self.below(most.saturating_add(1)) {
+            text.push_str(self.piece_of(pieces))?;
+        }
+        Ok(text)
     }
 }

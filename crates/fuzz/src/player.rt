@@ -1,8 +1,9 @@
 //! The calls of a thread.
+use crate::faults::settled;
 use crate::numbers::Numbers;
 use indicatif::machine::MachineClock;
 use indicatif::{
-    Change, Drawn, InMemoryTerm, MultiProgress, MultiProgressAlignment, ProgressBar, Refusal,
+    Change, InMemoryTerm, MultiProgress, MultiProgressAlignment, ProgressBar, Refusal,
 };
 use std::sync::Wait;
 use std::thread::{Threads, sleep};
@@ -55,36 +56,20 @@ impl<R: Plays> Player<'_, R> {
                 logged = logged.wrapping_add(1);
             }
             let pick = numbers.below(self.bars.len().saturating_sub(1));
-            self.makes(deed, pick, step)?;
+            if let Some(bar) = self.bars.get(pick) {
+                self.makes(deed, bar, step)?;
+            }
         }
         Ok(logged)
     }
 
-    /// Makes the call with this number below 20, of a bar that another number picks.
-    fn makes(&self, deed: usize, pick: usize, step: u64) -> Result<(), Refusal> {
-        let Some(bar) = self.bars.get(pick) else {
-            return Ok(());
-        };
-        match deed {
-            2 => bar.enable_steady_tick(OFTEN),
-            3 => bar.disable_steady_tick(),
-            11 => self.comes_and_goes(),
-            12 => self.in_and_out(),
-            15 => self.tosses(),
-            16 => self.board.set_alignment(MultiProgressAlignment::Bottom),
-            17 => self.board.set_alignment(MultiProgressAlignment::Top),
-            _ => {
-                self.draws(deed, bar, step)?;
-                Ok(())
-            }
-        }
-    }
-
-    /// Makes one of the other calls, which draw.
-    fn draws(&self, deed: usize, bar: &Bar<R>, step: u64) -> Result<Drawn, Refusal> {
-        match deed {
+    /// Makes the call with this number below 20, of a bar if it is one of a bar.
+    fn makes(&self, deed: usize, bar: &Bar<R>, step: u64) -> Result<(), Refusal> {
+        settled(match deed {
             0 => self.board.println(self.text("log", step)?.as_str()),
             1 => bar.println(self.text("log", step)?.as_str()),
+            2 => return bar.enable_steady_tick(OFTEN),
+            3 => return bar.disable_steady_tick(),
             4 => bar.set_message(self.text("m", step)?.as_str()),
             5 => self.board.suspend(|| 1u8).1,
             6 => self.board.clear(),
@@ -92,14 +77,19 @@ impl<R: Plays> Player<'_, R> {
             8 => bar.reset(),
             9 => bar.set_length(step),
             10 => bar.suspend(|| 1u8).1,
+            11 => return self.comes_and_goes(),
+            12 => return self.in_and_out(),
             13 => bar.finish_and_clear(),
             14 => bar.update(|state| Change {
                 pos: Some(state.pos().wrapping_add(1)),
                 len: None,
             }),
+            15 => return self.tosses(),
+            16 => return self.board.set_alignment(MultiProgressAlignment::Bottom),
+            17 => return self.board.set_alignment(MultiProgressAlignment::Top),
             18 => bar.force_draw(),
             _ => bar.inc(1),
-        }
+        })
     }
 
     /// A text of this thread at this step.

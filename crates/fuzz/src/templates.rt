@@ -1,11 +1,10 @@
 //! Random templates, and the lines of bars in their styles.
-use crate::law::{Held, Law};
+use crate::faults::{Fault, Held, Tally};
 use crate::numbers::Numbers;
 use indicatif_bar::state::BarState;
 use indicatif_bar::style::{NoTracker, ProgressStyle};
 use indicatif_term::target::LineType;
 use indicatif_text::columns::{Moment, pieces};
-use indicatif_text::template::{Part, Template};
 use std::alloc::Global;
 use std::convert::AsStr;
 
@@ -18,23 +17,10 @@ const PIECES: &str =
 /// Those of messages: small letters, wide characters, zero-width characters after a letter, colours, tabs and newlines.
 const SAID: &str = "a|b|cd|efghij| |国|e\u{301}|\u{1B}[31m|\u{1B}[0m|\t|\n|z";
 
-/// At most `most` of these pieces, one after another.
-fn joined(
-    alloc: Global,
-    numbers: &mut Numbers,
-    (pieces, most): (&str, usize),
-) -> Result<String, Law> {
-    let mut text = String::new(alloc);
-    for _ in 0..numbers.below(most.saturating_add(1)) {
-        text.push_str(numbers.piece_of(pieces))?;
-    }
-    Ok(text)
-}
-
 type Bar = Box<BarState<NoTracker>>;
 
 /// A bar in some state, with some clusters and some texts of its spinner.
-fn bar_by(alloc: Global, numbers: &mut Numbers) -> Result<Bar, Law> {
+fn bar_by(alloc: Global, numbers: &mut Numbers) -> Result<Bar, Fault> {
     let style = ProgressStyle::default_bar(alloc)?;
     let style = style.progress_chars(numbers.piece_of("=>-|=-|国国国|国国"))?;
     let ticks = ["-", "", "国", "ab"];
@@ -52,8 +38,8 @@ fn bar_by(alloc: Global, numbers: &mut Numbers) -> Result<Bar, Law> {
 
 /// Changes a bar's state.
 fn tell(alloc: Global, numbers: &mut Numbers, bar: &mut Bar) -> Held {
-    bar.with_message(joined(alloc, numbers, (SAID, 8))?.as_str(), 0)?;
-    bar.with_prefix(joined(alloc, numbers, (SAID, 8))?.as_str(), 0)?;
+    bar.with_message(numbers.joined(alloc, SAID, 8)?.as_str(), 0)?;
+    bar.with_prefix(numbers.joined(alloc, SAID, 8)?.as_str(), 0)?;
     bar.with_tab_width(numbers.below(6), 0)?;
     bar.with_position(numbers.below(12) as u64, 0);
     for _ in 0..numbers.below(3) {
@@ -63,7 +49,7 @@ fn tell(alloc: Global, numbers: &mut Numbers, bar: &mut Bar) -> Held {
 }
 
 /// The lines without their colours, each followed by a newline. None has a newline or a tab.
-fn visible(alloc: Global, lines: &[LineType]) -> Result<String, Law> {
+fn visible(alloc: Global, lines: &[LineType]) -> Result<String, Fault> {
     let mut text = String::new(alloc);
     for line in lines {
         push_visible(line.as_str(), &mut text)?;
@@ -72,7 +58,7 @@ fn visible(alloc: Global, lines: &[LineType]) -> Result<String, Law> {
 }
 
 fn push_visible(line: &str, text: &mut String) -> Held {
-    Law::Line.holds(!line.contains('\n') && !line.contains('\t'))?;
+    Fault::Line.unless(!line.contains('\n') && !line.contains('\t'))?;
     for piece in pieces(line) {
         if !piece.colour {
             text.push_str(piece.text)?;
@@ -80,49 +66,15 @@ fn push_visible(line: &str, text: &mut String) -> Held {
     }
     Ok(text.push('\n')?)
 }
-/// How much the visible lines with colours may differ from those without.
+
+/// Whether the visible lines with colours differ from those without at most by an empty line at the end, and by white space if that may be.
 ///
-/// A wide message drops the white space at its end if nothing follows it in its line of the template. Colours after it count: those of its
-/// own placeholder, or of an empty one.
-#[derive(Drop)]
-enum Leave {
-    /// By an empty line at the end. What follows the last newline is a line if it isn't empty, and colours alone are enough for that.
-    LastLine,
-    /// Also by more white space.
-    WhiteSpace,
-}
-
-impl Leave {
-    /// What a template may change: only the last line if it has no wide message, or if each line ends in its own character.
-    fn of(template: &Template) -> Leave {
-        let mut has_wide_message = false;
-        let mut each_ends_in_text = true;
-        let mut ends_in_text = false;
-        for part in template.parts() {
-            match part {
-                Part::Literal(_) => ends_in_text = true,
-                Part::Placeholder { key, .. } => {
-                    has_wide_message |= key == "wide_msg";
-                    ends_in_text = false;
-                }
-                Part::NewLine => {
-                    each_ends_in_text &= ends_in_text;
-                    ends_in_text = false;
-                }
-            }
-        }
-        match has_wide_message && !(each_ends_in_text && ends_in_text) {
-            true => Leave::WhiteSpace,
-            false => Leave::LastLine,
-        }
-    }
-
-    /// Whether the visible lines differ at most by this.
-    fn holds(self, plain: &str, coloured: &str) -> bool {
-        match self {
-            Leave::LastLine => matches!(coloured.strip_prefix(plain), Some("" | "\n")),
-            Leave::WhiteSpace => is_but_for_white_space(plain, coloured),
-        }
+/// What follows the last newline is a line if it isn't empty, and colours alone are enough for that. A wide message drops the white space at
+/// its end if nothing follows it in its line of the template. Colours after it count: those of its own placeholder, or of an empty one.
+fn are_same(plain: &str, coloured: &str, spaces_may_differ: bool) -> bool {
+    match spaces_may_differ {
+        true => is_but_for_white_space(plain, coloured),
+        false => matches!(coloured.strip_prefix(plain), Some("" | "\n")),
     }
 }
 
@@ -146,7 +98,7 @@ fn visible_lines(
     bar: &Bar,
     colours: bool,
     (now, width): (Moment, u16),
-) -> Result<String, Law> {
+) -> Result<String, Fault> {
     let style = bar.style().try_clone()?.with_colors(colours)?;
     let mut copy = Box::new(alloc, bar.try_clone()?)?;
     copy.with_style(style, 0)?;
@@ -154,21 +106,24 @@ fn visible_lines(
 }
 
 /// Checks a bar's lines with this template, if it is one, at any width: colours change no visible character.
-fn is_laid_out_by(alloc: Global, numbers: &mut Numbers, bar: &mut Bar, text: &str) -> Held {
-    let leave = match Template::parse(alloc, text) {
-        Ok(template) => Leave::of(&template),
-        Err(_) => return Ok(()),
+fn is_laid_out_by(
+    alloc: Global,
+    numbers: &mut Numbers,
+    (bar, text): (&mut Bar, &str),
+    spaces_may_differ: bool,
+) -> Held {
+    let Ok(style) = bar.style().try_clone()?.template(text) else {
+        return Ok(());
     };
-    let style = bar.style().try_clone()?.template(text)?;
     bar.with_style(style, 0)?;
-    let place = (numbers.next().into(), numbers.size(40));
+    let place = (numbers.next().into(), numbers.below(41) as u16);
     let plain = visible_lines(alloc, bar, false, place)?;
     let coloured = visible_lines(alloc, bar, true, place)?;
-    Law::Colours.holds(leave.holds(plain.as_str(), coloured.as_str()))
+    Fault::Colours.unless(are_same(plain.as_str(), coloured.as_str(), spaces_may_differ))
 }
 
 /// A template with a zero-width character at the end of each line.
-fn ended(alloc: Global, text: &str) -> Result<String, Law> {
+fn ended(alloc: Global, text: &str) -> Result<String, Fault> {
     let mut ended = String::new(alloc);
     for line in text.split('\n') {
         if !ended.is_empty() {
@@ -180,11 +135,22 @@ fn ended(alloc: Global, text: &str) -> Result<String, Law> {
     Ok(ended)
 }
 
-/// Checks the lines of a bar with a random template, if the text is one, and with a character at the end of each line of the template.
-pub fn drawn(alloc: Global, numbers: &mut Numbers) -> Held {
-    let text = joined(alloc, numbers, (PIECES, 10))?;
+/// Checks the lines of a bar with a random template, if the text is one, and with a character at the end of each line of the template:
+/// then nothing is dropped behind a wide message.
+fn drawn(alloc: Global, numbers: &mut Numbers) -> Held {
+    let text = numbers.joined(alloc, PIECES, 10)?;
     let mut bar = bar_by(alloc, numbers)?;
-    is_laid_out_by(alloc, numbers, &mut bar, text.as_str())?;
+    let is_wide = text.contains("{wide_msg");
+    is_laid_out_by(alloc, numbers, (&mut bar, text.as_str()), is_wide)?;
     let ended = ended(alloc, text.as_str())?;
-    is_laid_out_by(alloc, numbers, &mut bar, ended.as_str())
+    is_laid_out_by(alloc, numbers, (&mut bar, ended.as_str()), false)
+}
+
+/// Makes so many runs, each with its own stream of numbers.
+pub fn all(alloc: Global, seed: u64, count: u64) -> Tally<u64> {
+    let mut tally = Tally::new();
+    for number in 0..count {
+        tally.count(number, drawn(alloc, &mut Numbers::new(seed, number)));
+    }
+    tally
 }

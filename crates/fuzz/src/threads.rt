@@ -1,5 +1,5 @@
 //! Random calls of a shared board, and what must hold of it at the end.
-use crate::law::{Held, Law};
+use crate::faults::{Fault, Held, Tally};
 use crate::player::{Bar, Multi, Player, Plays, Random};
 use indicatif::machine::MachineClock;
 use indicatif::{
@@ -9,26 +9,17 @@ use scripts::replay::{is_one_run, rows_of};
 use std::alloc::Global;
 use std::thread::map_indices;
 
-/// How many bars are on a board all the time.
-const BARS: u32 = 4;
-
-/// Their length.
-const LENGTH: u64 = 9;
-
-/// The board's mark.
-const MARK: u64 = 1;
-
 /// A terminal of 6 rows and 30 columns.
 fn target(alloc: Global) -> Result<ProgressDrawTarget<InMemoryTerm>, Refusal> {
     let term = InMemoryTerm::new(alloc, 6, 30)?;
     Ok(ProgressDrawTarget::term_like(term))
 }
 
-/// The bars of a board.
+/// The four bars that are on a board all the time, of length 9.
 fn bars_of<R: Plays>(rt: R, board: &Multi<R>) -> Result<Vec<Bar<R>>, Refusal> {
     let mut bars = Vec::new(rt.alloc());
-    for _ in 0..BARS {
-        bars.push(board.new_bar(LENGTH)?)?;
+    for _ in 0..4u32 {
+        bars.push(board.new_bar(9)?)?;
     }
     Ok(bars)
 }
@@ -60,20 +51,17 @@ impl RecordReader<InMemoryTerm, NoTracker> for RunsAgain {
     fn read(self, record: Option<&Recording>) -> Held {
         let RunsAgain { alloc, logged } = self;
         let Some(recorded) = record else {
-            return Err(Law::Replay);
+            return Err(Fault::Replay);
         };
-        Law::Replay.holds(is_one_run(alloc, recorded, target(alloc)?)?)?;
+        Fault::Replay.unless(is_one_run(alloc, recorded, target(alloc)?)?)?;
         match rows_of(recorded.board().term())? {
-            Some(rows) => Law::Logged.holds(logged_in(&rows) == logged),
-            None => Err(Law::Logged),
+            Some(rows) => Fault::Lost.unless(logged_in(&rows) == logged),
+            None => Err(Fault::Lost),
         }
     }
 }
 
-/// How many threads there are.
-const THREADS: usize = 4;
-
-/// Threads make random calls; how many lines they logged.
+/// Four threads make random calls; how many lines they logged.
 fn logged_by_all<R: Plays>(
     rt: R,
     board: &Multi<R>,
@@ -91,7 +79,7 @@ fn logged_by_all<R: Plays>(
         player.plays()
     };
     let mut total: u64 = 0;
-    for logged in map_indices(&rt, rt.alloc(), THREADS, &plays)? {
+    for logged in map_indices(&rt, rt.alloc(), 4, &plays)? {
         total = total.wrapping_add(logged?);
     }
     Ok(total)
@@ -109,9 +97,19 @@ fn played_on<R: Plays>(rt: R, board: &Multi<R>, bars: &[Bar<R>], random: &Random
 }
 
 /// Threads make random calls of a new board that keeps its history, and it is checked.
-pub fn played<R: Plays>(rt: R, random: &Random) -> Held {
+fn played<R: Plays>(rt: R, random: &Random) -> Held {
     let clock = MachineClock::new(rt);
-    let board = MultiProgress::recorded(rt, rt.alloc(), target(rt.alloc())?, clock, MARK)?;
+    let board = MultiProgress::recorded(rt, rt.alloc(), target(rt.alloc())?, clock, 1)?;
     let bars = bars_of(rt, &board)?;
     played_on(rt, &board, &bars, random)
+}
+
+/// Makes so many runs, each with numbers of its own.
+pub fn all<R: Plays>(rt: R, Random { seed, steps }: Random, count: u64) -> Tally<u64> {
+    let mut tally = Tally::new();
+    for number in 0..count {
+        let seed = seed.wrapping_add(number);
+        tally.count(number, played(rt, &Random { seed, steps }));
+    }
+    tally
 }

@@ -23,8 +23,8 @@
 //!
 //! - `shared`: `ProgressBar`, a bar with several owners, and in its folder `MultiProgress`, what their locks keep, weak owners, tickers and
 //!   counting threads.
-//! - `machine`: what bars need from the machine: the clock, facts about streams, targets and setups on them. `style`: the names of the
-//!   crate's own module `style`.
+//! - `machine`: what bars need from the machine: the clock, facts about streams, targets and setups on them.
+//! - `style`: the names of the crate's own module `style`.
 //! - `wrappers`: iterators, readers, writers and streams that move a bar, with or without its own.
 //! - `parallel`: slices and pieces of work in threads.
 //! - `plain_lines`: `PlainLines`, when a bar that no terminal shows is due as a plain line, and that line.

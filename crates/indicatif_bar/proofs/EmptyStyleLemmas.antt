@@ -19,7 +19,7 @@ use Rattle.indicatif_bar.specs.Progress.{Progress, fraction}
 use Rattle.indicatif_bar.specs.Trackers.{Tracking}
 use Rattle.indicatif_bar.specs.Keys.{key_named}
 use Rattle.indicatif_bar.specs.declared.style.keys.Key.{Key}
-use Rattle.indicatif_bar.specs.declared.style.keys.Key.TheVariants.{Bar, Spinner, Prefix, Message}
+use Rattle.indicatif_bar.specs.declared.style.keys.Key.TheVariants.{Bar, Text}
 use Rattle.indicatif_bar.specs.Styles.{BarStyle, Wide, key_text, in_layout, is_bare_layout, is_empty_key, is_empty_name, is_empty_part, is_empty_style}
 use Rattle.indicatif_bar.specs.declared.style.steps.Source.{Source}
 use Rattle.indicatif_bar.specs.declared.style.steps.Source.TheVariants.{Tracker, Known, Nothing}
@@ -64,9 +64,7 @@ module _ {K : Type 0} (m : Tracking K) (style : BarStyle K) (p : Progress) (now 
   empty_key layout Bar e =
       let parts = and_parts _ _ e in
       empty_bar style.clusters style.colours layout.alternative (fraction p) (unwrap_or layout.width 20) parts.0 parts.1
-  empty_key layout Spinner e = empty_text _ e
-  empty_key layout Prefix e = empty_text _ e
-  empty_key layout Message e = empty_text _ e
+  empty_key layout (Text key) e = empty_text _ e
   empty_key layout _ e = absurd (false≢true e)
 
   empty_source : (layout : Layout) (source : Source) → is_empty_source style p layout source ≡ true → source_text m style p now layout source ≡ []

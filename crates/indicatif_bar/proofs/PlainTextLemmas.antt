@@ -1,67 +1,56 @@
 -- A style and a bar without control characters give parts without them, and so lines.
-use Rattle.std.proofs.Common.{◌≡◌, arith, ℕ, zero, suc, ◌-◌, ◌*◌, ◌%◌, true, List, [], ◌∷◌, length, refl, Option, Some, None}
-use Rattle.std.specs.Prelude.{map, IfSome, bytes_eq, unwrap_or, codes, encode_utf8_all, option_and_then}
+use Rattle.std.proofs.Common.{◌≡◌, arith, ℕ, zero, suc, ◌*◌, ◌++◌, true, List, [], ◌∷◌, refl, Option, Some, None}
+use Rattle.std.specs.Prelude.{map, IfSome, bytes_eq, unwrap_or, codes, decimal, encode_utf8_all, option_and_then}
 use Rattle.std.specs.Option.{option_map_or}
 use Rattle.std.specs.Int.{IsInRange}
 use Rattle.std.specs.List.{list_all, slice_index_or, AllByRecursion}
 use Rattle.std.specs.Str.{chars}
 use Rattle.std.proofs.lemmas.Bool.{cond_both}
-use Rattle.std.proofs.lemmas.List.Elements.{All-from_recursion, recursion_from_All}
+use Rattle.std.proofs.lemmas.List.Elements.{All-append, All-from_recursion, recursion_from_All}
 use Rattle.indicatif_text.specs.Columns.{is_plain}
 use Rattle.indicatif_text.specs.FormatLaws.{IsPrinted}
 use Rattle.indicatif_text.specs.StyleWords.{styled}
-use Rattle.indicatif_text.specs.Format.{human_float_count}
+use Rattle.indicatif_text.specs.Format.{human_count, human_float_count, fixed_point, binary_bytes, decimal_bytes, formatted_duration, short_duration}
 use Rattle.indicatif_text.specs.Template.{Layout, TemplatePart, LiteralText, LineBreak, KeyText}
 use Rattle.indicatif_text.proofs.PrintedLemmas.{formatted_is_printed, printed_is_plain}
-use Rattle.indicatif_bar.specs.Progress.{Progress, is_finished, length_shown, fraction, elapsed, eta, duration, per_sec}
-use Rattle.indicatif_bar.specs.Measures.{steps_a_second}
-use Rattle.indicatif_bar.specs.declared.measures.Fraction.{Fraction}
-use Rattle.indicatif_bar.specs.declared.measures.Rate.{Rate}
+use Rattle.indicatif_bar.specs.Progress.{Progress, shown_prefix, shown_message}
 use Rattle.indicatif_bar.specs.Tabs.{expanded}
 use Rattle.indicatif_bar.specs.Trackers.{Tracking}
 use Rattle.indicatif_bar.specs.Layout.{padded, cluster, text_columns}
-use Rattle.indicatif_bar.specs.Keys.{named, key_named, count_text, time_text, percent_text, rate_text, whole_rate_text}
-use Rattle.indicatif_bar.specs.Styles.{BarStyle, Wide, wide_of, tick_string, final_tick_string, key_text, named_text, in_layout}
+use Rattle.indicatif_bar.specs.Keys.{named, key_named, shown_text, number_text}
+use Rattle.indicatif_bar.specs.Styles.{BarStyle, Wide, wide_of, key_text, named_text, in_layout}
 use Rattle.indicatif_bar.specs.StyleLaws.{IsPlainText, cells_in}
 use Rattle.indicatif_bar.specs.LineLaws.{IsPlainLiteral, IsPlainPart, HasPlainParts, HasPlainTexts, PlainTextsGivePlainLines, PlainLinesAreAsked}
-use Rattle.indicatif_bar.specs.declared.style.keys.CountForm.{CountForm}
-use Rattle.indicatif_bar.specs.declared.style.keys.CountForm.TheVariants.{Plain, Human, Binary, Decimal}
-use Rattle.indicatif_bar.specs.declared.style.keys.TimeForm.{TimeForm}
-use Rattle.indicatif_bar.specs.declared.style.keys.TimeForm.TheVariants.{Clock, Short}
+use Rattle.indicatif_bar.specs.declared.style.keys.TextKey.{TextKey}
+use Rattle.indicatif_bar.specs.declared.style.keys.NumberKey.{NumberKey}
 use Rattle.indicatif_bar.specs.declared.style.keys.Key.{Key}
-use Rattle.indicatif_bar.specs.declared.style.keys.Key.TheVariants.{Bar, WideBar, WideMessage, Spinner, Prefix, Message, Position, Length, Percent, PercentPrecise, Elapsed, Eta, Duration, PerSecond, BytesPerSecond}
+use Rattle.indicatif_bar.specs.declared.style.keys.Key.TheVariants.{Bar, WideBar, WideMessage, Text, Number}
 use Rattle.indicatif_bar.proofs.BarWidthLemmas.{takes_bar}
 use Rattle.indicatif_bar.proofs.PlainLineLemmas.{none_plain, plain_parts_give_plain_lines}
-use Rattle.indicatif_bar.proofs.TextWidthLemmas.{takes_styled, plain_takes, taken_plain, plain_both, plain_padded}
+use Rattle.indicatif_bar.proofs.TextWidthLemmas.{takes_styled, plain_takes, taken_plain, plain_padded}
 
--- ---- texts of numbers
+-- ---- keys
 
-printed : (text : List ℕ) → IsPrinted text → IsPlainText text
-printed text p = printed_is_plain text p
+-- a text that a key shows is one of a spinner's, the prefix or the message
+text_as : (P : List ℕ → Type 0) (strings : List (List ℕ)) (p : Progress) → ((n : ℕ) → P (slice_index_or strings n [])) → P (shown_prefix p) → P (shown_message p)
+    → (key : TextKey) → P (shown_text strings p key)
+text_as P strings p ticks prefix message key = grind (arith, ticks)
 
-per_second : IsPlainText (codes "/s")
-per_second = printed (codes "/s") (All-from_recursion (IsInRange 0x20 0x7E) (codes "/s") ((omega arith, omega arith), ((omega arith, omega arith), tt)))
+-- a number that a key shows is the text of a formatter, and maybe `/s` behind it
+number_as : (P : List ℕ → Type 0) → ((n : ℕ) → P (decimal n)) → ((n : ℕ) → P (human_count n)) → ((n : ℕ) → P (binary_bytes n)) → ((n : ℕ) → P (decimal_bytes n))
+    → ((nanos : ℕ) → P (formatted_duration nanos)) → ((nanos : ℕ) → P (short_duration nanos)) → ((num den places : ℕ) → P (fixed_point num den places))
+    → ((num den places : ℕ) → P (human_float_count num den places)) → ((text : List ℕ) → P text → P (text ++ codes "/s"))
+    → (p : Progress) (now : ℕ) (width : Option ℕ) (key : NumberKey) → P (number_text p now width key)
+number_as P numerals counts binary thousands clocks shorts decimals float_counts per_second p now width key =
+    grind (arith, numerals, counts, binary, thousands, clocks, shorts, decimals, float_counts, per_second)
 
-count_plain : (form : CountForm) (n : ℕ) → IsPlainText (count_text form n)
-count_plain Plain n = printed (count_text Plain n) (formatted_is_printed.numerals n)
-count_plain Human n = printed (count_text Human n) (formatted_is_printed.counts n)
-count_plain Binary n = printed (count_text Binary n) (formatted_is_printed.binary n)
-count_plain Decimal n = printed (count_text Decimal n) (formatted_is_printed.thousands n)
-
-time_plain : (form : TimeForm) (nanos : ℕ) → IsPlainText (time_text form nanos)
-time_plain Clock nanos = printed (time_text Clock nanos) (formatted_is_printed.clocks nanos)
-time_plain Short nanos = printed (time_text Short nanos) (formatted_is_printed.shorts nanos)
-
-percent_plain : (f : Fraction) (places : ℕ) → IsPlainText (percent_text f places)
-percent_plain f places = printed (percent_text f places) (formatted_is_printed.decimals (100 * f.num) f.den places)
-
-rate_plain : (rate : Rate) (places : ℕ) → IsPlainText (rate_text rate places)
-rate_plain rate places =
-    let count = human_float_count (1000000000 * rate.steps) rate.nanos places in
-    plain_both count (codes "/s") (printed count (formatted_is_printed.float_counts (1000000000 * rate.steps) rate.nanos places)) per_second
-
-whole_rate_plain : (form : CountForm) (rate : Rate) → IsPlainText (whole_rate_text form rate)
-whole_rate_plain form rate = plain_both (count_text form (steps_a_second rate)) (codes "/s") (count_plain form (steps_a_second rate)) per_second
+number_plain : (p : Progress) (now : ℕ) (width : Option ℕ) (key : NumberKey) → IsPlainText (number_text p now width key)
+number_plain p now width key =
+    let all = formatted_is_printed in
+    let behind : IsPrinted (codes "/s") = All-from_recursion (IsInRange 0x20 0x7E) (codes "/s") ((omega arith, omega arith), ((omega arith, omega arith), tt)) in
+    printed_is_plain (number_text p now width key)
+    (number_as IsPrinted all.numerals all.counts all.binary all.thousands all.clocks all.shorts all.decimals all.float_counts
+    (λ text is. All-append (IsInRange 0x20 0x7E) text (codes "/s") is behind) p now width key)
 
 -- ---- lists
 
@@ -86,20 +75,8 @@ module _ {K : Type 0} (m : Tracking K) (style : BarStyle K) (p : Progress) (now 
       let width = unwrap_or layout.width 20 in
       taken_plain (cells_in style.clusters width * text_columns (cluster style.clusters 0)) _
       (takes_bar style.clusters style.colours (unwrap_or layout.alternative []) p.position p.len width h.clusters)
-  key_plain layout Spinner e =
-      cond_both (is_finished p) (final_tick_string style.tick_strings) (tick_string style.tick_strings p.ticks) (λ x. IsPlainText x)
-      (λ _. index_plain style.tick_strings (length style.tick_strings - 1) ticks) (λ _. index_plain style.tick_strings (p.ticks % (length style.tick_strings - 1)) ticks)
-  key_plain layout Prefix e = h.prefix
-  key_plain layout Message e = h.message
-  key_plain layout (Position form) e = count_plain form p.position
-  key_plain layout (Length form) e = count_plain form (length_shown p)
-  key_plain layout Percent e = percent_plain (fraction p) 0
-  key_plain layout PercentPrecise e = percent_plain (fraction p) 3
-  key_plain layout (Elapsed form) e = time_plain form (elapsed p now)
-  key_plain layout (Eta form) e = time_plain form (eta p now)
-  key_plain layout (Duration form) e = time_plain form (duration p now)
-  key_plain layout PerSecond e = rate_plain (per_sec p now) (unwrap_or layout.width 4)
-  key_plain layout (BytesPerSecond form) e = whole_rate_plain form (per_sec p now)
+  key_plain layout (Text key) e = text_as (λ t. IsPlainText t) style.tick_strings p (λ n. index_plain style.tick_strings n ticks) h.prefix h.message key
+  key_plain layout (Number key) e = number_plain p now layout.width key
 
   known_plain : (layout : Layout) (o : Option Key) → option_and_then (wide_of layout) o ≡ None → IsPlainText (option_map_or (key_text m style p now layout) o [])
   known_plain layout None e = none_plain

@@ -43,7 +43,7 @@ SpendingsAddUp = (l k l' : Limiter) (n m : ℕ) → Spent l k n → Spent k l' m
 
 -- ---- unforced draws
 
--- whether an unforced draw is asked for
+-- whether the call wants an unforced draw
 abbrev pub is_unforced : Ask → Bool
 is_unforced Unforced = true
 is_unforced No = false

@@ -74,7 +74,7 @@ with_trackers change bar = record bar { style = record bar.style { keys = change
 abbrev pub redraw_ask : {K : Type 0} → BarRecord K → Ask
 redraw_ask bar = if is_finished bar.progress then Forced else Unforced
 
--- the record, and a draw is asked for
+-- the record, and the command wants a draw
 abbrev pub asks_draw : {K : Type 0} → BarRecord K → BarRecord K × Ask
 asks_draw bar = (bar, redraw_ask bar)
 
@@ -94,7 +94,7 @@ finish by bar now = (with_progress bar (finished_by by (record bar.progress { to
 -- ---- commands
 
 module _ {K : Type 0} (m : Tracking K) where
-  -- the position is recorded with the rate, the trackers tick, an unforced draw is asked for
+  -- the position is recorded with the rate, the trackers tick, the command wants an unforced draw
   abbrev pub update : BarRecord K → ℕ → BarRecord K × Ask
   update bar now =
       let progress = record bar.progress { samples = recorded bar.progress.samples bar.progress.position now } in

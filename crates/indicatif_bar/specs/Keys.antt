@@ -1,5 +1,6 @@
--- The keys of a template that need no tracker: their names, and the texts of counts, times and rates. Texts are lists of bytes in UTF-8.
-use Rattle.std.specs.Prelude.{ℕ, ◌*◌, List, [], ◌∷◌, ◌++◌, Option, Some, None, if◌then◌else◌, codes, decimal, bytes_eq}
+-- The keys of a template that need no tracker: their names, and the texts and numbers that they show. Texts are lists of bytes in UTF-8.
+use Rattle.std.specs.Prelude.{ℕ, ◌-◌, ◌*◌, ◌%◌, List, [], ◌∷◌, ◌++◌, length, Option, Some, None, if◌then◌else◌, unwrap_or, codes, decimal, bytes_eq}
+use Rattle.std.specs.List.{slice_index_or}
 use Rattle.indicatif_text.specs.Format.{human_count, human_float_count, fixed_point, binary_bytes, decimal_bytes, formatted_duration, short_duration}
 use Rattle.indicatif_bar.specs.declared.measures.Fraction.{Fraction}
 use Rattle.indicatif_bar.specs.declared.measures.Rate.{Rate}
@@ -7,9 +8,14 @@ use Rattle.indicatif_bar.specs.declared.style.keys.CountForm.{CountForm}
 use Rattle.indicatif_bar.specs.declared.style.keys.CountForm.TheVariants.{Plain, Human, Binary, Decimal}
 use Rattle.indicatif_bar.specs.declared.style.keys.TimeForm.{TimeForm}
 use Rattle.indicatif_bar.specs.declared.style.keys.TimeForm.TheVariants.{Clock, Short}
+use Rattle.indicatif_bar.specs.declared.style.keys.TextKey.{TextKey}
+use Rattle.indicatif_bar.specs.declared.style.keys.TextKey.TheVariants.{Spinner, Prefix, Message}
+use Rattle.indicatif_bar.specs.declared.style.keys.NumberKey.{NumberKey}
+use Rattle.indicatif_bar.specs.declared.style.keys.NumberKey.TheVariants.{Position, Length, Percent, PercentPrecise, Elapsed, Eta, Duration, PerSecond, BytesPerSecond}
 use Rattle.indicatif_bar.specs.declared.style.keys.Key.{Key}
 use Rattle.indicatif_bar.specs.declared.style.keys.Key.TheVariants as key
 use Rattle.indicatif_bar.specs.Measures.{steps_a_second}
+use Rattle.indicatif_bar.specs.Progress.{Progress, is_finished, shown_message, shown_prefix, length_shown, fraction, elapsed, per_sec, eta, duration}
 
 -- the first entry with a name
 abbrev pub named : {X : Type 0} → List ℕ → List (List ℕ × X) → Option X
@@ -19,22 +25,39 @@ named name (entry ∷ entries) = if bytes_eq name entry.0 then Some entry.1 else
 -- the keys and their names
 abbrev pub key_names : List (List ℕ × Key)
 key_names =
-    (codes "bar", key.Bar) ∷ (codes "wide_bar", key.WideBar) ∷ (codes "wide_msg", key.WideMessage) ∷ (codes "spinner", key.Spinner)
-    ∷ (codes "prefix", key.Prefix) ∷ (codes "msg", key.Message)
-    ∷ (codes "pos", key.Position Plain) ∷ (codes "human_pos", key.Position Human)
-    ∷ (codes "bytes", key.Position Binary) ∷ (codes "binary_bytes", key.Position Binary) ∷ (codes "decimal_bytes", key.Position Decimal)
-    ∷ (codes "len", key.Length Plain) ∷ (codes "human_len", key.Length Human)
-    ∷ (codes "total_bytes", key.Length Binary) ∷ (codes "binary_total_bytes", key.Length Binary) ∷ (codes "decimal_total_bytes", key.Length Decimal)
-    ∷ (codes "percent", key.Percent) ∷ (codes "percent_precise", key.PercentPrecise)
-    ∷ (codes "elapsed", key.Elapsed Short) ∷ (codes "elapsed_precise", key.Elapsed Clock)
-    ∷ (codes "eta", key.Eta Short) ∷ (codes "eta_precise", key.Eta Clock)
-    ∷ (codes "duration", key.Duration Short) ∷ (codes "duration_precise", key.Duration Clock)
-    ∷ (codes "per_sec", key.PerSecond) ∷ (codes "bytes_per_sec", key.BytesPerSecond Binary)
-    ∷ (codes "binary_bytes_per_sec", key.BytesPerSecond Binary) ∷ (codes "decimal_bytes_per_sec", key.BytesPerSecond Decimal) ∷ []
+    (codes "bar", key.Bar) ∷ (codes "wide_bar", key.WideBar) ∷ (codes "wide_msg", key.WideMessage)
+    ∷ (codes "spinner", key.Text Spinner) ∷ (codes "prefix", key.Text Prefix) ∷ (codes "msg", key.Text Message)
+    ∷ (codes "pos", key.Number (Position Plain)) ∷ (codes "human_pos", key.Number (Position Human)) ∷ (codes "bytes", key.Number (Position Binary))
+    ∷ (codes "binary_bytes", key.Number (Position Binary)) ∷ (codes "decimal_bytes", key.Number (Position Decimal))
+    ∷ (codes "len", key.Number (Length Plain)) ∷ (codes "human_len", key.Number (Length Human)) ∷ (codes "total_bytes", key.Number (Length Binary))
+    ∷ (codes "binary_total_bytes", key.Number (Length Binary)) ∷ (codes "decimal_total_bytes", key.Number (Length Decimal))
+    ∷ (codes "percent", key.Number Percent) ∷ (codes "percent_precise", key.Number PercentPrecise)
+    ∷ (codes "elapsed", key.Number (Elapsed Short)) ∷ (codes "elapsed_precise", key.Number (Elapsed Clock))
+    ∷ (codes "eta", key.Number (Eta Short)) ∷ (codes "eta_precise", key.Number (Eta Clock))
+    ∷ (codes "duration", key.Number (Duration Short)) ∷ (codes "duration_precise", key.Number (Duration Clock))
+    ∷ (codes "per_sec", key.Number PerSecond) ∷ (codes "bytes_per_sec", key.Number (BytesPerSecond Binary))
+    ∷ (codes "binary_bytes_per_sec", key.Number (BytesPerSecond Binary)) ∷ (codes "decimal_bytes_per_sec", key.Number (BytesPerSecond Decimal)) ∷ []
 
 -- the key with a name
 abbrev pub key_named : List ℕ → Option Key
 key_named name = named name key_names
+
+-- ---- texts
+
+-- the n-th text of a spinner, and the last one of a finished bar
+abbrev pub tick_string : List (List ℕ) → ℕ → List ℕ
+tick_string strings n = slice_index_or strings (n % (length strings - 1)) []
+
+abbrev pub final_tick_string : List (List ℕ) → List ℕ
+final_tick_string strings = slice_index_or strings (length strings - 1) []
+
+-- the text that a key shows, with these texts of a spinner
+abbrev pub shown_text : List (List ℕ) → Progress → TextKey → List ℕ
+shown_text strings p Spinner = if is_finished p then final_tick_string strings else tick_string strings p.ticks
+shown_text strings p Prefix = shown_prefix p
+shown_text strings p Message = shown_message p
+
+-- ---- numbers
 
 -- a count in its form
 abbrev pub count_text : CountForm → ℕ → List ℕ
@@ -59,3 +82,15 @@ rate_text rate places = human_float_count (1000000000 * rate.steps) rate.nanos p
 -- the whole steps a second, in a form
 abbrev pub whole_rate_text : CountForm → Rate → List ℕ
 whole_rate_text form rate = count_text form (steps_a_second rate) ++ codes "/s"
+
+-- the number that a key shows, for a placeholder of this width
+abbrev pub number_text : Progress → ℕ → Option ℕ → NumberKey → List ℕ
+number_text p now width (Position form) = count_text form p.position
+number_text p now width (Length form) = count_text form (length_shown p)
+number_text p now width Percent = percent_text (fraction p) 0
+number_text p now width PercentPrecise = percent_text (fraction p) 3
+number_text p now width (Elapsed form) = time_text form (elapsed p now)
+number_text p now width (Eta form) = time_text form (eta p now)
+number_text p now width (Duration form) = time_text form (duration p now)
+number_text p now width PerSecond = rate_text (per_sec p now) (unwrap_or width 4)
+number_text p now width (BytesPerSecond form) = whole_rate_text form (per_sec p now)

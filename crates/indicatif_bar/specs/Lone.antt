@@ -55,7 +55,7 @@ module _ {B C : Type 0} (kind : Kind B C) where
   lines_take NoFrame bar = false
   lines_take _ bar = kind.lays bar
 
-  -- a draw, once the bar's record has changed: the limiter is asked first, and the bar is laid out only if it allows the draw
+  -- a draw, once the bar's record has changed: the limiter decides first, and the bar is laid out only if it allows the draw
   abbrev pub draw_asked : Target → Bool → Ask → ℕ → Writing → LoneState B → Draw (LoneState B)
   draw_asked target takes ask now writing s =
       let asked = asked_of ask now s.limiter in

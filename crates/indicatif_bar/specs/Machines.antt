@@ -1,6 +1,6 @@
--- Anything that draws by calls, such as a lone bar or a board: the effect of a call, and its outcome. A draw goes in this order: the record changes; no draw is asked for; the target is hidden; it has
--- no columns; the lines are laid out and stored; the limiter is asked, unless the draw is forced; a line is too wide; the terminal is written. A lone bar asks the limiter before its lines are laid
--- out.
+-- Anything that draws by calls, such as a lone bar or a board: the effect of a call, and its outcome. A draw goes in this order: the record changes; the call wants no draw; the target is hidden; it
+-- has no columns; the lines are laid out and stored; the limiter decides, unless the draw is forced; a line is too wide; the terminal is written. A lone bar asks the limiter before its lines are
+-- laid out.
 use Rattle.std.specs.Prelude.{◌≡◌, ℕ, Bool, true, false, IsTrue, not, ◌&&◌, ◌==◌, List, [], ◌∷◌, Option, Some, None, MatchOption, Result, Ok, Err, if◌then◌else◌, ◌⊎◌}
 use Rattle.std.specs.declared.io.ErrorKind.{ErrorKind}
 use Rattle.indicatif_text.specs.declared.refusal.Refusal.{Refusal}
@@ -31,7 +31,7 @@ target_of (Some view) = record { hidden = false; columns = view.columns; rows = 
 abbrev pub On : Option TermView → Option TermView → (TermView → TermView → Type 0) → Type 0
 On old new P = MatchOption old (new ≡ None) (λ v. (v' : TermView) × (new ≡ Some v') × P v v')
 
--- whether no draw is asked for
+-- whether the call wants no draw
 abbrev pub is_no : Ask → Bool
 is_no No = true
 is_no _ = false

@@ -9,7 +9,8 @@ use Rattle.indicatif_text.specs.StyleWords.{style_of}
 use Rattle.indicatif_bar.specs.Measures.{greatest_u64, first_samples, recorded}
 use Rattle.indicatif_bar.specs.Progress.{Progress, new_progress}
 use Rattle.indicatif_bar.specs.Trackers.{Tracking, telling}
-use Rattle.indicatif_bar.specs.Styles.{BarStyle, lines, tick_string, final_tick_string, is_empty_style}
+use Rattle.indicatif_bar.specs.Keys.{tick_string, final_tick_string}
+use Rattle.indicatif_bar.specs.Styles.{BarStyle, lines, is_empty_style}
 use Rattle.indicatif_bar.specs.Builders.{tick_fault, progress_fault, clusters_of, characters_of}
 
 -- a tracker whose text is itself

@@ -1,17 +1,17 @@
 -- The lines of a bar. Texts are lists of bytes in UTF-8; those in the parts of a template are characters.
-use Rattle.std.specs.Prelude.{ℕ, ◌-◌, ◌%◌, Bool, true, false, not, ◌&&◌, ◌==◌, is_some, List, [], ◌∷◌, ◌++◌, length, Option, Some, None, if◌then◌else◌, unwrap_or, flat_map, filter_map, find, option_and_then, encode_utf8_all}
+use Rattle.std.specs.Prelude.{ℕ, ◌-◌, Bool, true, false, not, ◌&&◌, ◌==◌, is_some, List, [], ◌∷◌, ◌++◌, length, Option, Some, None, if◌then◌else◌, unwrap_or, flat_map, filter_map, find, option_and_then, encode_utf8_all}
 use Rattle.std.specs.Str.{chars, drop_trailing_whitespace}
-use Rattle.std.specs.List.{slice_split, slice_index_or, slice_get, last_or, list_any, list_all}
+use Rattle.std.specs.List.{slice_split, slice_get, last_or, list_any, list_all}
 use Rattle.std.specs.Option.{option_map_or}
 use Rattle.indicatif_text.specs.StyleWords.{styled}
 use Rattle.indicatif_text.specs.Template.{Layout, TemplatePart, LiteralText, LineBreak, KeyText}
 use Rattle.indicatif_bar.specs.Tabs.{expanded}
-use Rattle.indicatif_bar.specs.Progress.{Progress, is_finished, shown_message, shown_prefix, length_shown, fraction, elapsed, per_sec, eta, duration}
+use Rattle.indicatif_bar.specs.Progress.{Progress, shown_message, fraction}
 use Rattle.indicatif_bar.specs.Trackers.{Tracking}
 use Rattle.indicatif_bar.specs.Layout.{text_columns, padded, bar_text}
-use Rattle.indicatif_bar.specs.Keys.{named, key_named, count_text, time_text, percent_text, rate_text, whole_rate_text}
+use Rattle.indicatif_bar.specs.Keys.{named, key_named, shown_text, number_text}
 use Rattle.indicatif_bar.specs.declared.style.keys.Key.{Key}
-use Rattle.indicatif_bar.specs.declared.style.keys.Key.TheVariants.{Bar, WideBar, WideMessage, Spinner, Prefix, Message, Position, Length, Percent, PercentPrecise, Elapsed, Eta, Duration, PerSecond, BytesPerSecond}
+use Rattle.indicatif_bar.specs.declared.style.keys.Key.TheVariants.{Bar, WideBar, WideMessage, Text, Number}
 
 -- how a bar looks, with trackers under your own keys
 pub record BarStyle (K : Type 0) : Type 0 where
@@ -27,13 +27,6 @@ pub record BarStyle (K : Type 0) : Type 0 where
   pub tab : ℕ
 
 -- ---- keys
-
--- the n-th text of a spinner, and the last one of a finished bar
-abbrev pub tick_string : List (List ℕ) → ℕ → List ℕ
-tick_string strings n = slice_index_or strings (n % (length strings - 1)) []
-
-abbrev pub final_tick_string : List (List ℕ) → List ℕ
-final_tick_string strings = slice_index_or strings (length strings - 1) []
 
 -- the placeholder of a wide key, as it is laid out
 pub data Wide : Type 0 where
@@ -94,18 +87,8 @@ module _ {K : Type 0} (m : Tracking K) (style : BarStyle K) (p : Progress) (now 
   key_text layout Bar = bar_text style.clusters style.colours (unwrap_or layout.alternative []) (fraction p) (unwrap_or layout.width 20)
   key_text layout WideBar = filler
   key_text layout WideMessage = filler
-  key_text layout Spinner = if is_finished p then final_tick_string style.tick_strings else tick_string style.tick_strings p.ticks
-  key_text layout Prefix = shown_prefix p
-  key_text layout Message = shown_message p
-  key_text layout (Position form) = count_text form p.position
-  key_text layout (Length form) = count_text form (length_shown p)
-  key_text layout Percent = percent_text (fraction p) 0
-  key_text layout PercentPrecise = percent_text (fraction p) 3
-  key_text layout (Elapsed form) = time_text form (elapsed p now)
-  key_text layout (Eta form) = time_text form (eta p now)
-  key_text layout (Duration form) = time_text form (duration p now)
-  key_text layout PerSecond = rate_text (per_sec p now) (unwrap_or layout.width 4)
-  key_text layout (BytesPerSecond form) = whole_rate_text form (per_sec p now)
+  key_text layout (Text key) = shown_text style.tick_strings p key
+  key_text layout (Number key) = number_text p now layout.width key
 
   -- the text of a name: its tracker's, its key's, or none if it is unknown
   abbrev pub named_text : List ℕ → Layout → List ℕ
@@ -161,12 +144,10 @@ abbrev pub is_bare_layout : Bool → Layout → Bool
 is_bare_layout colours layout = (unwrap_or layout.width 0 == 0) && not (colours && is_some layout.style)
 
 module _ {K : Type 0} (style : BarStyle K) (p : Progress) where
-  -- a key whose text is empty at each moment: a bar of no columns, or a spinner, a prefix or a message that is empty
+  -- a key whose text is empty at each moment: a bar of no columns, or a text that is empty
   abbrev pub is_empty_key : Layout → Key → Bool
   is_empty_key layout Bar = (unwrap_or layout.width 20 == 0) && not (style.colours && is_some layout.alternative)
-  is_empty_key layout Spinner = length (if is_finished p then final_tick_string style.tick_strings else tick_string style.tick_strings p.ticks) == 0
-  is_empty_key layout Prefix = length (shown_prefix p) == 0
-  is_empty_key layout Message = length (shown_message p) == 0
+  is_empty_key layout (Text key) = length (shown_text style.tick_strings p key) == 0
   is_empty_key layout _ = false
 
   -- a name that has no tracker, and such a key or none

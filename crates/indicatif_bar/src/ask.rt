@@ -23,7 +23,7 @@ pub enum Ask {
 }
 
 impl Ask {
-    /// Whether no draw is asked for.
+    /// Whether the command wants no draw.
     ///
     /// ```
     /// assert!(Ask::No.is_no() && !Ask::Forced.is_no());
@@ -42,7 +42,7 @@ impl Ask {
     ///
     /// ```
     /// let mut limiter = None;
-    /// assert!(Ask::Unforced.allows(&mut limiter, 0)); // as often as it is asked
+    /// assert!(Ask::Unforced.allows(&mut limiter, 0)); // at each call
     /// ```
     pub fn allows(self, limiter: &mut Option<RateLimiter>, now: Moment) -> bool
         ensures answer { result ≡ (asked_of self now limiter.old).0 }

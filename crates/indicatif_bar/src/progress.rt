@@ -269,14 +269,14 @@ impl ProgressState {
     pub(crate) fn message(&self) -> &str
         ensures { result.now ≡ shown_message self.now }
     {
-        self.message.shown()
+        self.message.as_expanded()
     }
 
     /// The prefix of the progress, with its tabs expanded.
     pub(crate) fn prefix(&self) -> &str
         ensures { result.now ≡ shown_prefix self.now }
     {
-        self.prefix.shown()
+        self.prefix.as_expanded()
     }
 
     /// The tab width of the progress.

@@ -4,8 +4,7 @@ ghost use Rattle.indicatif_bar.specs.Recent.{from_sample, after_sample, seen_aft
 
 use crate::measures::{Rate, Sample};
 use crate::progress::ProgressState;
-use crate::style::key_texts::{push_rate, push_time, push_whole_rate};
-use crate::style::keys::{CountForm, TimeForm};
+use crate::style::keys::{CountForm, TimeForm, push_rate, push_time, push_whole_rate};
 use crate::tracker::ProgressTracker;
 use indicatif_text::columns::{Moment, Refusal};
 

@@ -66,7 +66,7 @@ impl TabbedText {
     }
 
     /// The text with its tabs expanded.
-    pub(crate) fn shown(&self) -> &str
+    pub(crate) fn as_expanded(&self) -> &str
         ensures { result.now ≡ expanded_text self.now }
     {
         if self.has_tabs {

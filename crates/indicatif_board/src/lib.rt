@@ -10,7 +10,8 @@
 //! - `slots`: `MultiState`, the order alone: bars are inserted and removed by their numbers, and each has a place and a slot.
 //! - `bridge`: logs. `emit` writes a line with its level above the bars, `bridge_line` makes that line.
 //! - `done`: sums without a lock, `Done`: a `BarWorker` adds, is split and joined, and reads or closes the sum.
-//! - `laws`: what follows from the definitions, each as a function whose contract is the law. `cases`: worked cases.
+//! - `laws`: what follows from the definitions, each as a function whose contract is the law.
+//! - `cases`: the definitions computed on worked cases.
 //!
 //! Private, for those above:
 //!

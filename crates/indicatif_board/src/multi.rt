@@ -53,7 +53,7 @@ use std::alloc::Global;
 /// A call that names a bar is refused with `ForeignBar` if the bar has another board's mark, and with `NotMember` if it was removed,
 /// dropped or never given; then nothing has changed. (`remove` returns `None` in place of `NotMember`, and `slot` in place of both.)
 /// Otherwise a call that draws goes through the steps that `LoneBar` lists, with the stored lines of all bars in their order in place of
-/// its own. Only the named bar is laid out again, before the limiter is asked. The lines from the top are shown that fit on the terminal's
+/// its own. Only the named bar is laid out again, before the limiter decides. The lines from the top are shown that fit on the terminal's
 /// rows. A draw that was answered with `Yes` removes the dropped bars at the head of the order. After `Terminal` no bar leaves the order,
 /// and the next draw begins on a new row.
 ///

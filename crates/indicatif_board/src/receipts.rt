@@ -1,4 +1,4 @@
-//! Receipts: what a board with its history hands out for a text that it has logged, and is asked about later.
+//! Receipts: what a board with its history hands out for a text that it has logged, and looks up later.
 ghost use Rattle.std.specs.Prelude.{◌≡◌, ◌↔◌, Option, Some, IsTrue, IfSome, IfNone, length, option_map, string_bytes};
 ghost use Rattle.indicatif_term.specs.Calls.{TermView};
 ghost use Rattle.indicatif_board.specs.Boards.{Log};

@@ -11,12 +11,13 @@ use Rattle.std.proofs.Math.Seq.{map-set_same}
 use Rattle.indicatif_text.specs.Columns.{Cell, has_wide, rows_of, last_columns}
 use Rattle.indicatif_term.specs.Shows.{look, looks_of}
 use Rattle.indicatif_term.specs.Inside.Changes.{placed_height, Becomes, Ends, Sits, AreSitting}
-use Rattle.indicatif_term.specs.Inside.Edits.{AreSingle}
-use Rattle.indicatif_term.specs.declared.engine.parting.Step.{Step}
+use Rattle.indicatif_term.specs.Inside.Inks.{IsRead}
+use Rattle.indicatif_term.proofs.InkLemmas.{plain_read}
+use Rattle.indicatif_term.specs.declared.engine.comparing.Step.{Step}
 use Rattle.indicatif_term.specs.Inside.Parting.{IsReady}
 use Rattle.indicatif_term.specs.Standing.{placed_of, placed, texts, standing_rows, IsLine, AreLines, AreReady}
 use Rattle.indicatif_term.specs.Inside.Layouts.{AreWhole}
-use Rattle.indicatif_term.specs.declared.engine.parting.Step.TheVariants.{Whole}
+use Rattle.indicatif_term.specs.declared.engine.comparing.Step.TheVariants.{Whole}
 use Rattle.indicatif_term.specs.Frames.{line_text}
 use Rattle.indicatif_term.specs.declared.engine.lines.LineType.{LineType}
 use Rattle.indicatif_term.specs.declared.engine.remembered.StandingLine.{StandingLine}
@@ -68,7 +69,7 @@ blank_is_line w x t r l = record {
   rows_are = r ∙ sym (one_row w) ∙ ap (λ y. length (rows_of w (chars y))) (sym t);
   last_is = l ∙ sym (nothing_ends_at w) ∙ ap (λ y. last_columns w (chars y)) (sym t);
   narrow = ap (λ y. has_wide w (chars y)) t ∙ nothing_narrow w;
-  single = λ q. subst AreSingle (sym (ap chars t ∙ chars-nil)) tt;
+  single = λ q. subst IsRead (sym (ap chars t ∙ chars-nil)) (plain_read [] tt);
 }
 
 -- blank lines behind some

@@ -24,7 +24,7 @@ use Rattle.indicatif_term.specs.declared.engine.counts.Fresh.{Fresh}
 use Rattle.indicatif_term.specs.declared.engine.layout.Laid.{Laid}
 use Rattle.indicatif_term.specs.declared.engine.layout.Plan.{Plan}
 use Rattle.indicatif_term.specs.declared.engine.lines.Segment.{Segment}
-use Rattle.indicatif_term.specs.declared.engine.parting.Step.TheVariants.{Leave}
+use Rattle.indicatif_term.specs.declared.engine.comparing.Step.TheVariants.{Leave}
 use Rattle.indicatif_term.specs.declared.engine.remembered.Remembered.{Remembered}
 use Rattle.indicatif_term.specs.declared.engine.remembered.Span.{Span}
 use Rattle.indicatif_term.specs.declared.engine.remembered.StandingLine.{StandingLine}

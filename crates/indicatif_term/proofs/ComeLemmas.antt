@@ -7,8 +7,8 @@ use Rattle.indicatif_term.specs.Inside.Inks.{NONE, Inked, characters, padded}
 use Rattle.indicatif_term.specs.Inside.Edits.{Edit, Turns, IsNarrowChar, edit_columns, plan}
 use Rattle.indicatif_term.specs.Inside.Changes.{Becomes, Ends, Within}
 use Rattle.indicatif_term.specs.Inside.Parting.{Parted, HasPart, IsTurned, tail, cells_at, part_edits}
-use Rattle.indicatif_term.specs.declared.engine.parting.Part.{Part}
-use Rattle.indicatif_term.specs.declared.engine.parting.Step.TheVariants as steps
+use Rattle.indicatif_term.specs.declared.engine.comparing.Stretch.{Stretch}
+use Rattle.indicatif_term.specs.declared.engine.comparing.Step.TheVariants as steps
 use Rattle.indicatif_term.proofs.InkLemmas.{IsInked, read_characters, read_length, read_colours, padded_length}
 use Rattle.indicatif_term.proofs.EditPlanLemmas.{CanBeWritten, lines_turn, plan_columns, plan_gap}
 use Rattle.indicatif_term.specs.Shows.{looks_of}
@@ -27,9 +27,9 @@ both_written : (cells : List Inked) → AllByRecursion IsNarrowChar (characters 
 both_written [] a b = tt
 both_written (x ∷ cells) a b = ((a.0, b.0), both_written cells a.1 b.1)
 
-pub parted_becomes : (w : ℕ) (waits narrow : Bool) (old new : List ℕ) (p : Part) → Parted w waits narrow old new p → (stood : List (List Cell)) → stood ≡ looks_of (rows_of w (chars old)) →
+pub parted_becomes : (w : ℕ) (waits : Bool) (old new : List ℕ) (p : Stretch) → Parted w waits old new p → (stood : List (List Cell)) → stood ≡ looks_of (rows_of w (chars old)) →
     Becomes w (Within p.gap (part_edits p old new)) stood new × (length (rows_of w (chars new)) ≡ 1)
-parted_becomes w waits narrow old new p d stood e =
+parted_becomes w waits old new p d stood e =
     let os = cells_at p.from old in
     let ns = cells_at p.from new in
     let olds : characters os ≡ d.tails.olds = read_characters NONE (tail p.from old) ∙ sym d.olds_are in
@@ -37,8 +37,8 @@ parted_becomes w waits narrow old new p d stood e =
     let each : AllByRecursion CanBeWritten ns = both_written ns (subst (AllByRecursion IsNarrowChar) (sym news) d.narrow) (read_colours (tail p.from new)) in
     lines_become w p.gap (part_edits p old new) old new stood (lines_turn w p.gap p.left p.waits (chars old) (chars new) d.tails os ns olds news each) e
 
-pub parted_part : (w : ℕ) (waits narrow : Bool) (old new : List ℕ) (p : Part) → w ≤ 65535 → Parted w waits narrow old new p → HasPart p old new
-parted_part w waits narrow old new p small d = record {
+pub parted_part : (w : ℕ) (waits : Bool) (old new : List ℕ) (p : Stretch) → w ≤ 65535 → Parted w waits old new p → HasPart p old new
+parted_part w waits old new p small d = record {
   small = omega (arith, d.tails.room);
   own = d.own;
   other = d.other;
@@ -57,17 +57,17 @@ ends_with w gap left true olds news line t few few' whole some =
     (ap (λ n. gap + n) many ∙ whole, plan_gap gap NONE os ns (a ∙ sym b) (omega (arith, b, some)))
 ends_with w gap left false olds news line t few few' whole some = absurd (cc)
 
-pub parted_ends : (w : ℕ) (waits narrow : Bool) (old new line : List ℕ) (p : Part) → w ≤ 65535 → Parted w waits narrow old new p → IsTrue p.waits →
+pub parted_ends : (w : ℕ) (waits : Bool) (old new line : List ℕ) (p : Stretch) → w ≤ 65535 → Parted w waits old new p → IsTrue p.waits →
     Ends w (Within p.gap (part_edits p old new)) line
-parted_ends w waits narrow old new line p small d t =
+parted_ends w waits old new line p small d t =
     let end = d.to_end (sym d.waits_is ∙ t) in
-    let part = parted_part w waits narrow old new p small d in
+    let part = parted_part w waits old new p small d in
     ends_with w p.gap p.left p.waits (cells_at p.from old) (cells_at p.from new) line t part.olds part.news end.0 end.1
 
-pub parted_turned : (w : ℕ) (waits narrow : Bool) (old new : List ℕ) (p : Part) → w ≤ 65535 → Parted w waits narrow old new p → IsTurned w (steps.Within p) old new
-parted_turned w waits narrow old new p small d = record {
-  becomes = λ stood e. (parted_becomes w waits narrow old new p d stood e).0;
-  ready = parted_part w waits narrow old new p small d;
-  waiting = λ t. parted_ends w waits narrow old new new p small d t;
+pub parted_turned : (w : ℕ) (waits : Bool) (old new : List ℕ) (p : Stretch) → w ≤ 65535 → Parted w waits old new p → IsTurned w (steps.Within p) old new
+parted_turned w waits old new p small d = record {
+  becomes = λ stood e. (parted_becomes w waits old new p d stood e).0;
+  ready = parted_part w waits old new p small d;
+  waiting = λ t. parted_ends w waits old new new p small d t;
   colours = d.colours;
 }

@@ -12,7 +12,7 @@ use Rattle.std.proofs.lemmas.List.Concat.{flat_map-append}
 use Rattle.indicatif_text.specs.Columns.{Cell, Glyph, columns_in, glyphs_of, pieces_of, row_of, rows_of, visible, has_wide, last_columns, columns_of_last}
 use Rattle.indicatif_term.specs.Resizes.{has_place, recut, recut_all}
 use Rattle.indicatif_term.specs.Standing.{texts, standing_rows, AreLines}
-use Rattle.indicatif_term.specs.Inside.Edits.{AreSingle}
+use Rattle.indicatif_term.specs.Inside.Inks as inks
 use Rattle.indicatif_term.specs.Inside.Recutting.{IsFitting, piece_text, without_spaces, fitting_count, new_pieces, cut_pieces, cut_line, cut_lines, LineShown, shown_line, shown_lines, row_line, line_bars, cut_bars, Gains, HasMore}
 use Rattle.indicatif_term.specs.declared.engine.remembered.StandingLine.{StandingLine}
 use Rattle.indicatif_term.specs.declared.engine.recutting.CutLines.{CutLines}
@@ -42,7 +42,7 @@ pub record IsShownRight (w : ℕ) (s : LineShown) : Type 0 where
   pub rows_are : s.rows ≡ length (rows_of w s.text)
   pub last_is : s.last ≡ last_columns w s.text
   pub narrow : IsFalse (has_wide w s.text)
-  pub single : IsTrue s.narrow → AreSingle s.text
+  pub single : IsTrue s.narrow → inks.IsRead s.text
 
 own_right : (w : ℕ) (gs : List Glyph) → IsCut w gs → IsShownRight w (row_line gs)
 own_right w gs c = record {

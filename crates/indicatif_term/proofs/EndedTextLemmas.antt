@@ -12,7 +12,7 @@ use Rattle.std.proofs.lemmas.List.Sums.{sum_by-cons}
 use Rattle.std.proofs.lemmas.Str.{encodes-chars, scalars-chars, chars-encodes}
 use Rattle.unicode_width.specs.Width.{char_width}
 use Rattle.indicatif_text.specs.Columns.{columns_of, visible, is_plain, width_of}
-use Rattle.indicatif_text.specs.Pieces.{Colour, Run, shown}
+use Rattle.indicatif_text.specs.Pieces.{Colour, Run, text_piece}
 use Rattle.indicatif_text.specs.declared.pieces.Piece.{Piece}
 use Rattle.indicatif_text.specs.PieceLaws.{IsExact, run_text}
 use Rattle.indicatif_term.specs.Screen.{Screen, Put, Left, Right, performed}
@@ -211,24 +211,24 @@ module _ {T : Type 0} (view : T → TermView) where
 
   pub colour_piece : (piece : Piece) {own own' : EndedRows T} (r : Result Unit Error) → piece.colour ≡ true →
       Falls view (WithinIf view (IsExact (Colour (chars piece.text.now)))) (Within view) (λ s. s) own own' r →
-      Falls view (WithinIf view (AreShown (run_text (shown piece)) × IsExact (shown piece))) (Within view) (all_put (run_text (shown piece))) own own' r
+      Falls view (WithinIf view (AreShown (run_text (text_piece piece)) × IsExact (text_piece piece))) (Within view) (all_put (run_text (text_piece piece))) own own' r
   colour_piece piece {own = own} {own' = own'} r is p =
       let cs = chars piece.text.now in
-      let piece_is : shown piece ≡ Colour cs = ap (λ b. if b then Colour cs else Run cs) is in
+      let piece_is : text_piece piece ≡ Colour cs = ap (λ b. if b then Colour cs else Run cs) is in
       subst (λ q. Falls view (WithinIf view (AreShown (run_text q) × IsExact q)) (Within view) (all_put (run_text q)) own own' r) (sym piece_is)
       (from_weaker view r refl (λ s m x. (x.0, x.1.1)) p)
 
   pub return_piece : (piece : Piece) {own own' : EndedRows T} (r : Result Unit Error) → piece.colour ≡ false → piece.text.now ≡ 0x0D ∷ [] →
       Falls view (Within view) (Within view) (at_column 0) own own' r →
-      Falls view (WithinIf view (AreShown (run_text (shown piece)) × IsExact (shown piece))) (Within view) (all_put (run_text (shown piece))) own own' r
+      Falls view (WithinIf view (AreShown (run_text (text_piece piece)) × IsExact (text_piece piece))) (Within view) (all_put (run_text (text_piece piece))) own own' r
   return_piece piece {own = own} {own' = own'} r is e p =
-      let piece_is : shown piece ≡ Run (chars piece.text.now) = ap (λ b. if b then Colour (chars piece.text.now) else Run (chars piece.text.now)) is in
+      let piece_is : text_piece piece ≡ Run (chars piece.text.now) = ap (λ b. if b then Colour (chars piece.text.now) else Run (chars piece.text.now)) is in
       to_weaker view r (λ s m m' x y. absurd (return_hidden piece.text.now e (subst (λ q. AreShown (run_text q)) piece_is x.1.0))) (from_weaker view r refl (λ s m x. x.0) p)
 
   pub run_piece : (piece : Piece) {own own' : EndedRows T} (r : Result Unit Error) → piece.colour ≡ false →
       Falls view (WithinIf view (AreShown (chars piece.text.now))) (Within view) (all_put (chars piece.text.now)) own own' r →
-      Falls view (WithinIf view (AreShown (run_text (shown piece)) × IsExact (shown piece))) (Within view) (all_put (run_text (shown piece))) own own' r
+      Falls view (WithinIf view (AreShown (run_text (text_piece piece)) × IsExact (text_piece piece))) (Within view) (all_put (run_text (text_piece piece))) own own' r
   run_piece piece {own = own} {own' = own'} r is p =
-      let piece_is : shown piece ≡ Run (chars piece.text.now) = ap (λ b. if b then Colour (chars piece.text.now) else Run (chars piece.text.now)) is in
+      let piece_is : text_piece piece ≡ Run (chars piece.text.now) = ap (λ b. if b then Colour (chars piece.text.now) else Run (chars piece.text.now)) is in
       subst (λ q. Falls view (WithinIf view (AreShown (run_text q) × IsExact q)) (Within view) (all_put (run_text q)) own own' r) (sym piece_is)
       (from_weaker view r refl (λ s m x. (x.0, x.1.0)) p)

@@ -1,5 +1,5 @@
 -- What a text read cell by cell has: its visible characters, and the colours that are open at each.
-use Rattle.std.proofs.Common.{inl, inr, ◌≡◌, ℕ, zero, suc, ◌+◌, ◌-◌, ◌<◌, ◌≤◌, Bool, true, false, ◌&&◌, not, if◌then◌else◌, List, [], ◌∷◌, ◌++◌, length, map, replicate, take, drop, Some, None, refl, sym, ◌∙◌, ap, subst, arith, length-append, append_assoc, chars}
+use Rattle.std.proofs.Common.{inl, inr, ◌≡◌, ℕ, zero, suc, ◌+◌, ◌-◌, ◌<◌, ◌≤◌, Bool, true, false, ◌&&◌, not, if◌then◌else◌, List, [], ◌∷◌, ◌++◌, length, map, replicate, take, drop, Some, None, refl, sym, ◌∙◌, ap, subst, arith, length-append, append_assoc, append-nil, chars}
 use Rattle.std.specs.Prelude.{◌==◌, flat_map, nat_lt, unwrap_or}
 use Rattle.std.specs.Str.{IsAscii}
 use Rattle.std.proofs.Math.Seq.{drop-append_seam, take-append_seam}
@@ -9,7 +9,7 @@ use Rattle.indicatif_text.proofs.ColourSequenceLemmas.{Scanned, scanned_front, s
 use Rattle.std.specs.List.{AllByRecursion, list_any}
 use Rattle.std.proofs.lemmas.Bool.{cases_Bool, cond_both, and_parts, eqb-true, ltb-true, false≢true}
 use Rattle.std.proofs.lemmas.List.{length-map, length-replicate, map-append}
-use Rattle.indicatif_text.specs.Columns.{visible, colour_length}
+use Rattle.indicatif_text.specs.Columns.{visible, colour_length, rows_of, last_columns}
 use Rattle.indicatif_text.specs.Pieces.{TextPiece, Run, Colour, joined_to, pieces_of_text}
 use Rattle.indicatif_text.specs.PieceLaws.{run_text}
 use Rattle.indicatif_text.proofs.PieceLemmas.{first_colour, first_joined, none_left}
@@ -17,7 +17,7 @@ use Rattle.indicatif_text.proofs.PieceLawLemmas.{by_pieces, runs_are_visible}
 use Rattle.indicatif_term.specs.Inside.Inks.{closes, in_colours, painted_from, colours_behind, painted, Ink, NONE, colours_of, Inked, in_ink, characters, as_painted, begun, read_from, read, is_tidy, IsRead, padded, AreColours}
 use Rattle.indicatif_term.proofs.ColourLemmas.{no_colours, more_colours, sequence_colours}
 use Rattle.indicatif_term.proofs.EditLineLemmas.{IsOne}
-use Rattle.indicatif_term.proofs.PartingLemmas.{uncoloured, ones_visible, ones_unescaped}
+use Rattle.indicatif_term.proofs.PartingLemmas.{uncoloured, ones_visible, ones_unescaped, ones_front, ones_back, ones_both, front_visible, single_last}
 
 -- ---- the characters of cells
 
@@ -166,18 +166,42 @@ painted_front (c ∷ front) cs e = elim (cases_Bool (c == 0x1B)) [
       ∙ ap (λ x. in_colours [] c ∷ x) (painted_front front cs (rw other at e))
 ]
 
-pub plain_tidy : (text : List ℕ) → list_any (λ c. c == 0x1B) text ≡ false → is_tidy false 0 (pieces_of_text text) ≡ true
-plain_tidy [] e = ap (is_tidy false 0) none_left
-plain_tidy (c ∷ cs) e = elim (cases_Bool (c == 0x1B)) [
-  | inl is ↦ absurd (let t : list_any (λ c. c == 0x1B) (c ∷ cs) ≡ true = rw is refl in cc)
+tidy_front : (front cs : List ℕ) → list_any (λ c. c == 0x1B) front ≡ false → is_tidy false 0 (pieces_of_text (front ++ cs)) ≡ is_tidy false 0 (pieces_of_text cs)
+tidy_front [] cs e = refl
+tidy_front (c ∷ front) cs e = elim (cases_Bool (c == 0x1B)) [
+  | inl is ↦ absurd (let t : list_any (λ c. c == 0x1B) (c ∷ front) ≡ true = rw is refl in cc)
   | inr other ↦
-      ap (is_tidy false 0) (first_joined c cs (uncoloured c cs other)) ∙ joined_tidy false 0 c (pieces_of_text cs)
-      ∙ plain_tidy cs (rw other at e)
+      ap (is_tidy false 0) (first_joined c (front ++ cs) (uncoloured c (front ++ cs) other)) ∙ joined_tidy false 0 c (pieces_of_text (front ++ cs))
+      ∙ tidy_front front cs (rw other at e)
 ]
+
+module _ (front cs : List ℕ) (plain : list_any (λ c. c == 0x1B) front ≡ false) where
+  seen_front : visible (front ++ cs) ≡ front ++ visible cs
+  seen_front = front_visible front cs plain
+
+  -- a text that is read right, behind such a beginning
+  pub read_behind : IsRead (front ++ cs) → AllByRecursion IsOne front × IsRead cs
+  read_behind r =
+      let all = subst (AllByRecursion IsOne) seen_front r.single in
+      (ones_front front (visible cs) all, record { single = ones_back front (visible cs) all; tidy = sym (tidy_front front cs plain) ∙ r.tidy })
+
+  pub read_whole : AllByRecursion IsOne front → IsRead cs → IsRead (front ++ cs)
+  read_whole ones r = record {
+    single = subst (AllByRecursion IsOne) (sym seen_front) (ones_both front (visible cs) ones r.single);
+    tidy = tidy_front front cs plain ∙ r.tidy;
+  }
+
+-- how many columns of a line of one row follow such a beginning
+pub columns_behind : (w : ℕ) (front cs : List ℕ) → list_any (λ c. c == 0x1B) front ≡ false → IsRead (front ++ cs) → length (rows_of w (front ++ cs)) ≡ 1 →
+    last_columns w (front ++ cs) ≡ length front + length (visible cs)
+columns_behind w front cs plain r one_row =
+    single_last w (front ++ cs) r.single one_row ∙ ap length (front_visible front cs plain) ∙ length-append front (visible cs)
 
 -- a text whose characters take one column each
 pub plain_read : (text : List ℕ) → AllByRecursion IsOne text → IsRead text
-plain_read text all = record { single = subst (AllByRecursion IsOne) (sym (ones_visible text all)) all; tidy = plain_tidy text (ones_unescaped text all) }
+plain_read text all =
+    let none : IsRead [] = record { single = subst (AllByRecursion IsOne) (sym (ones_visible [] tt)) tt; tidy = ap (is_tidy false 0) none_left } in
+    subst IsRead (append-nil text) (read_whole text [] (ones_unescaped text all) all none)
 
 -- ---- cells padded with spaces
 

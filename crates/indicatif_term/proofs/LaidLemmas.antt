@@ -2,44 +2,46 @@
 use Rattle.std.proofs.Common.{◌≡◌, ◌⊎◌, ℕ, zero, suc, ◌+◌, ◌-◌, ◌<◌, ◌≤◌, true, false, List, [], ◌∷◌, ◌++◌, length, take, drop, map, replicate, get_or, refl, sym, ◌∙◌, ap, subst, arith, append_assoc, append-nil, length-append, inl, inr, chars}
 use Rattle.std.specs.Prelude.{string_bytes, sum_by}
 use Rattle.std.proofs.lemmas.List.Sums.{sum_by-append}
-use Rattle.std.specs.List.{AllByRecursion}
 use Rattle.std.proofs.lemmas.List.{take_all, take_more, take-append-le, take-append-drop, map-append, take-map, drop-map, length-map, length-take-le, length-drop, length-replicate, take_at, drop_at}
 use Rattle.std.proofs.lemmas.List.{drop-append-le, get_or-drop, get_or-take, get_or-append_right}
 use Rattle.std.proofs.Math.ListN.{get_or-append}
 use Rattle.std.proofs.Math.Seq.{take-append-add}
 use Rattle.indicatif_text.specs.Columns.{Cell, has_wide, rows_of}
 use Rattle.indicatif_term.specs.Shows.{looks_of}
-use Rattle.indicatif_term.specs.Lists.{Lists, BarLines, BarRows, fitting, lines_of, live_rows}
-use Rattle.indicatif_term.specs.Counts.{RowCount, row_count, line_count, line_counts}
-use Rattle.indicatif_term.specs.Standing.{placed_of, placed, texts, standing_rows, IsLine, AreLines, AreReady}
+use Rattle.indicatif_term.specs.Lists.{Lists, BarLines, BarRows, fitting, lines_of, live_rows, segments_height, blanks_for}
+use Rattle.indicatif_term.specs.Counts.{row_count, line_count, line_counts}
+use Rattle.indicatif_term.specs.Standing.{placed_of, placed, texts, standing_rows, IsLine, AreLines}
 use Rattle.indicatif_term.specs.Inside.Owned.{run_length, through, blank_count, no_plan, kept_below}
 use Rattle.indicatif_term.proofs.GroupLemmas.{through_at}
+use Rattle.indicatif_term.proofs.ShownRowLemmas.{frame_step, line_segments}
 use Rattle.indicatif_term.specs.Inside.Parting.{IsReady}
 use Rattle.indicatif_term.specs.Inside.Plans.{IsPlan, IsSummed, IsLaidOut, IsWithheld, frame_lines}
-use Rattle.indicatif_term.specs.Frames.{bar_lines, all_lines}
-use Rattle.std.proofs.Common.{Result, Ok, Err}
+use Rattle.indicatif_term.specs.Frames.{bar_lines, all_lines, line_text}
+use Rattle.std.proofs.Common.{Result, Ok, Err, Bool, max}
 use Rattle.std.specs.Prelude.{IfOk, IfErr}
 use Rattle.indicatif_text.specs.declared.refusal.Refusal.{Refusal}
 use Rattle.indicatif_text.specs.declared.refusal.Refusal.TheVariants.{Memory}
 use Rattle.indicatif_term.specs.Inside.Changes.{placed_height, AreSitting}
 use Rattle.indicatif_term.specs.Inside.Renewed.{AreFitting, renewed, AreInPlace, AreOver}
-use Rattle.indicatif_term.specs.Inside.Layouts.{AreBlank, AreWhole, laid_lines, laid_texts, own_lines, IsBeside, IsLaid, IsLaidOn, IsFrameLaid, FrameLaid, ArePut, CanPut}
+use Rattle.indicatif_term.specs.Inside.Layouts.{AreBlank, AreWhole, laid_lines, laid_texts, own_lines, IsBeside, IsLaid, IsLaidOn, IsNoneLaid, IsFrontLaid, IsFrameLaid, FrameLaid, AreBlanksFor, ArePut, CanPut}
+use Rattle.std.proofs.lemmas.Bool.{or_parts}
+use Rattle.indicatif_term.proofs.MeasureLemmas.{narrow_more}
+use Rattle.indicatif_term.specs.declared.engine.lines.LineType.{LineType}
 use Rattle.indicatif_term.specs.declared.engine.layout.Laid.{Laid}
 use Rattle.indicatif_term.specs.declared.engine.layout.Plan.{Plan}
 use Rattle.indicatif_term.specs.declared.engine.lines.Segment.{Segment}
-use Rattle.indicatif_term.specs.declared.engine.parting.Step.TheVariants.{Whole}
+use Rattle.indicatif_term.specs.declared.engine.comparing.Step.TheVariants.{Whole}
 use Rattle.indicatif_term.specs.Remembered.{AreRemembered, AreStanding, live_lines}
 use Rattle.indicatif_term.specs.declared.engine.remembered.Remembered.{Remembered}
 use Rattle.indicatif_term.specs.declared.engine.remembered.Span.{Span}
 use Rattle.indicatif_term.specs.declared.engine.remembered.StandingLine.{StandingLine}
-use Rattle.indicatif_term.specs.declared.engine.renewed.NewLine.{NewLine}
 use Rattle.indicatif_term.proofs.OwnedLemmas.{count_more, rows_by, height_counted, counts_height, blank_height, ones_of, passing_within}
 use Rattle.indicatif_term.proofs.RememberedLemmas.{lines_taken, live_right}
-use Rattle.indicatif_term.proofs.BesideLemmas.{all_append, replicate_push}
-use Rattle.indicatif_term.proofs.LayoutLemmas.{nothing_laid, one_more, still_laid}
+use Rattle.indicatif_term.proofs.BesideLemmas.{all_at, line_texts_step, all_append, replicate_push}
+use Rattle.indicatif_term.proofs.LayoutLemmas.{nothing_laid, one_more, still_laid, no_bars, nothing_passes, lines_step, narrow_step, passing_same, passing_all, planned, string_at, line_bars, member_bars}
 use Rattle.indicatif_term.proofs.EditWalkLemmas.{sitting_both}
 use Rattle.indicatif_term.proofs.TerminalStepLemmas.{rows_some}
-use Rattle.indicatif_term.proofs.RenewedLemmas.{none_fit, fits_taken, renewed_taken, place_right, over_ready, place_sits, whole_sits, whole_ready}
+use Rattle.indicatif_term.proofs.RenewedLemmas.{same_texts, fits_more, none_fit, fits_taken, renewed_taken, place_right, over_ready, place_sits, whole_sits, whole_ready}
 
 abbrev bytes : StandingLine → List ℕ
 bytes = λ (l : StandingLine). string_bytes l.text
@@ -251,6 +253,80 @@ frame_live w h pass on r frame l live f = elim live [
 pub frame_on : (w v h k pass : ℕ) (on : List StandingLine) (frame : List Segment) (l : Laid) → w ≡ v → h ≡ k → IsFrameLaid w h pass on frame l → IsFrameLaid v k pass on frame l
 frame_on w v h k pass on frame l e d f = subst (λ n. IsFrameLaid n k pass on frame l) e (subst (λ n. IsFrameLaid w n pass on frame l) d f)
 
+-- ---- the members that stand as they are
+
+-- none yet
+pub front_none : (w h pass : ℕ) (on : List StandingLine) (frame : List Segment) (l : Laid) → AreBlank l.blanks on → l.at ≡ l.blanks → l.plan ≡ no_plan → l.changed.items ≡ [] → l.more.items ≡ [] →
+    IsFrontLaid w h pass 0 on frame l
+front_none w h pass on frame l b a p c m = record {
+  within = omega arith;
+  summed = (nothing_laid h l.plan p).0;
+  narrow = refl;
+  passing = ap (λ (q : Plan). q.passing) p ∙ nothing_passes w h pass frame;
+  none_passes = (ap (λ (q : Plan). q.passing) p, ap (λ (q : Plan). q.passing_rows) p);
+  laid = laid_as w h on [] [] [] _ _ refl (sym (no_bars w)) (laid_none w h on l b a p c m);
+}
+
+pub front_anew : (w h pass i : ℕ) (on : List StandingLine) (frame : List Segment) (l : Laid) → IsNoneLaid l → i ≡ 0 → IsFrontLaid w h pass i on frame l
+front_anew w h pass i on frame l n e =
+    let b : AreBlank 0 on = record { in_lines = omega arith; empty = refl; counts = refl } in
+    subst (λ k. IsFrontLaid w h pass k on frame l) (sym e)
+    (front_none w h pass on frame l (subst (λ k. AreBlank k on) (sym n.blanks_are) b) (n.at_is ∙ sym n.blanks_are) n.plan_is n.none_changed n.none_more)
+
+-- one more
+pub front_more : (w h i : ℕ) (on : List StandingLine) (frame : List Segment) (s : Segment) (l l' : Laid) → i < length frame → get_or frame i s ≡ s → IsFrontLaid w h 0 i on frame l →
+    IsLaidOn w h on (map line_text s.lines.items) (bar_lines s).lines (lines_of w (bar_lines s ∷ [])) l l' → l'.plan.passing_rows ≡ l.plan.passing_rows → IsFrontLaid w h 0 (i + 1) on frame l'
+front_more w h i on frame s l l' within at f o rows = record {
+  within = omega (arith, within);
+  summed = o.summed;
+  narrow = narrow_step w frame i s within at f.narrow o.narrow;
+  passing = passing_same w h 0 i _ frame (omega arith) (o.passing_same ∙ f.passing);
+  none_passes = (o.passing_same ∙ f.none_passes.0, rows ∙ f.none_passes.1);
+  laid = laid_as w h on _ _ _ _ l' (sym (frame_step frame i s within at)) (lines_step w frame i s within at) (o.laid _ _ f.laid);
+}
+
+-- all
+pub front_whole : (w h pass i : ℕ) (on : List StandingLine) (frame : List Segment) (l : Laid) → i ≡ length frame → IsFrontLaid w h pass i on frame l → IsFrameLaid w h pass on frame l
+front_whole w h pass i on frame l e f =
+    let all : take i frame ≡ frame = take_all i frame (omega (arith, e)) in
+    let laid : IsLaid w h on (frame_lines frame) (lines_of w (map bar_lines frame)) l = rw all at f.laid in
+    let parts = fitting h (lines_of w (map bar_lines frame)) in
+    let z = f.none_passes in
+    record {
+      narrow = rw all at f.narrow;
+      plan_is = planned w h pass (map bar_lines frame) l.plan laid.counts laid.laid
+          (z.0 ∙ ap (λ k. through k (map row_count parts)) (sym z.0 ∙ passing_all w h pass i _ frame (omega (arith, e)) f.passing))
+          (z.1 ∙ ap (λ k. segments_height (take k parts)) (sym z.0));
+      is_summed = f.summed;
+      is_laid = laid;
+    }
+
+-- in room that was lent
+pub front_lent : (w h pass i : ℕ) (on : List StandingLine) (frame : List Segment) (l l' : Laid) → l' ≡ record l { changed = l'.changed; more = l'.more } → l'.changed.items ≡ l.changed.items →
+    l'.more.items ≡ l.more.items → IsFrontLaid w h pass i on frame l → IsFrontLaid w h pass i on frame l'
+front_lent w h pass i on frame l l' e c m f =
+    let o = f.laid in
+    subst (IsFrontLaid w h pass i on frame) (sym e) (record {
+      within = f.within;
+      summed = f.summed;
+      narrow = f.narrow;
+      passing = f.passing;
+      none_passes = f.none_passes;
+      laid = record {
+        at_in = o.at_in;
+        blanks_in = omega (arith, o.blanks_in, ap length m);
+        fit = subst (AreFitting w on l.at) (sym c) o.fit;
+        lines_in = o.lines_in;
+        all_in = o.all_in;
+        texts_are = ap (λ ns. take l.at (renewed (texts on) ns) ++ texts l'.more.items) c ∙ ap (λ ls. take l.at (renewed (texts on) l.changed.items) ++ texts ls) m ∙ o.texts_are;
+        counts = o.counts;
+        counts_are = ap (λ ls. line_counts (take l.at on ++ ls)) m ∙ o.counts_are;
+        laid = o.laid;
+        measured = subst (AreLines w) (sym m) o.measured;
+        whole = subst AreWhole (sym m) o.whole;
+      };
+    })
+
 -- below blank lines
 pub laid_blanks : (w h pass : ℕ) (on : List StandingLine) (frame : List Segment) (l l' : Laid) → l.blanks ≡ 0 → IsFrameLaid w h pass [] frame l → l'.plan ≡ l.plan → l'.at ≡ l.at →
     l'.changed.items ≡ l.changed.items → texts l'.more.items ≡ replicate l'.blanks [] ++ texts l.more.items → line_counts l'.more.items ≡ replicate l'.blanks blank_count ++ line_counts l.more.items →
@@ -283,10 +359,19 @@ laid_blanks w h pass on frame l l' none f p at changed t c right whole =
     })
 
 -- or it is refused
-pub blanks_or_refused : (w h pass k : ℕ) (on : List StandingLine) (frame : List Segment) (r : Result Laid Refusal) → IfErr r (λ e. (e ≡ Memory) × (0 < k)) →
-    IfOk r (λ l. IsFrameLaid w h pass on frame l) → FrameLaid w h pass on frame r
-blanks_or_refused w h pass k on frame (Ok l) e f = f
-blanks_or_refused w h pass k on frame (Err x) e f = subst (IsWithheld w (all_lines (map bar_lines frame))) (sym e.0) (refl, tt)
+pub blanks_or_refused : (w h pass k : ℕ) (on : List StandingLine) (frame : List Segment) (l : Laid) (r : Result Unit Refusal) → IfErr r (λ e. (e ≡ Memory) × (0 < k)) →
+    IfOk r (λ _. IsFrameLaid w h pass on frame l) → FrameLaid w h pass on frame l r
+blanks_or_refused w h pass k on frame l (Ok u) e f = f
+blanks_or_refused w h pass k on frame l (Err x) e f = subst (IsWithheld w (all_lines (map bar_lines frame))) (sym e.0) (refl, tt)
+
+-- the blank lines in the place of so many rows, however the frame was laid out
+pub low_below : (w h pass free b : ℕ) (bottom : Bool) (on on' : List StandingLine) (frame : List Segment) (l l' : Laid) (r : Result Unit Refusal) → IsFrameLaid w h pass on frame l →
+    IfOk r (λ _. l'.blanks ≡ b) → IfOk r (λ _. IsFrameLaid w h pass on' frame l') → ((taken text : ℕ) → free ≡ taken - text → b ≡ blanks_for bottom taken text l.plan.rows) →
+    b + l.plan.rows ≤ max free l.plan.rows → IfOk r (λ _. AreBlanksFor bottom free l')
+low_below w h pass free b bottom on on' frame l l' (Ok u) f e g are room =
+    let same : l'.plan.rows ≡ l.plan.rows = g.plan_is.rows_are ∙ sym f.plan_is.rows_are in
+    record { are = λ taken text d. e ∙ are taken text d ∙ ap (blanks_for bottom taken text) (sym same); room = omega (arith, e, same, room) }
+low_below w h pass free b bottom on on' frame l l' (Err x) f e g are room = tt
 
 -- ---- as they are put
 
@@ -375,6 +460,78 @@ kept_on w h bar rows on text x l m l' s b size same narrow plan at blanks more e
           (ap (λ (l : Laid). l.more.items) e ∙ ap (λ v. v.items) more) (ap (λ (l : Laid). l.at) e ∙ ap (λ n. n + 1) at) b.within b.line_is b.bar_is (same ∙ size)
           (subst (AreFitting w on (l.at + 1)) (sym changed) n.0) (ap (λ ns. take (l.at + 1) (renewed (texts on) ns)) changed ∙ n.1);
     }
+
+-- ---- the lines of a member
+
+-- none of them yet
+pub member_none : (w h : ℕ) (on : List StandingLine) (l : Laid) → IsSummed h l.plan → IsLaidOn w h on [] [] [] l l
+member_none w h on l s = record {
+  summed = s;
+  passing_same = refl;
+  blanks_same = refl;
+  narrow = refl;
+  laid = λ before bars o. laid_as w h on before _ bars _ l (sym (append-nil before)) (sym (append-nil bars)) o;
+}
+
+-- the first i
+abbrev pub MemberLaid : ℕ → ℕ → List StandingLine → Segment → ℕ → Laid → Laid → Type 0
+MemberLaid w h on s i l m =
+    let own = take i (bar_lines s).lines in
+    IsLaidOn w h on (map line_text (take i s.lines.items)) own (line_segments w s.bar own) l m
+
+-- one more
+pub member_more : (w h : ℕ) (on : List StandingLine) (s : Segment) (i : ℕ) (x : LineType) (l m n : Laid) → i < length s.lines.items → get_or s.lines.items i x ≡ x →
+    MemberLaid w h on s i l m →
+    IsLaidOn w h on (line_text x ∷ []) (chars (line_text x) ∷ []) (record { bar = s.bar; rows = rows_of w (chars (line_text x)) } ∷ []) m n → MemberLaid w h on s (i + 1) l n
+member_more w h on s i x l m n k e old one =
+    let own = line_text x in
+    let items = s.lines.items in
+    let at = string_at s items i x refl k e in
+    record {
+      summed = one.summed;
+      passing_same = one.passing_same ∙ old.passing_same;
+      blanks_same = one.blanks_same ∙ old.blanks_same;
+      narrow = narrow_more w (bar_lines s).lines i (chars own) at.0 at.1 old.narrow (or_parts (has_wide w (chars own)) false one.narrow).0;
+      laid = λ before bars o.
+          laid_as w h on _ _ _ _ n (append_assoc before (map line_text (take i items)) (own ∷ []) ∙ ap (λ xs. before ++ xs) (sym (line_texts_step items i x k e)))
+          (line_bars w s i (chars own) at.0 at.1 bars) (one.laid _ _ (old.laid before bars o));
+    }
+
+-- all
+pub member_whole : (w h : ℕ) (on : List StandingLine) (s : Segment) (i : ℕ) (l m : Laid) → length s.lines.items ≤ i → MemberLaid w h on s i l m →
+    IsLaidOn w h on (map line_text s.lines.items) (bar_lines s).lines (lines_of w (bar_lines s ∷ [])) l m
+member_whole w h on s i l m k old =
+    let all : length (bar_lines s).lines ≤ i = omega (arith, length-map s.lines.items (λ x. chars (line_text x)), k) in
+    record {
+      summed = old.summed;
+      passing_same = old.passing_same;
+      blanks_same = old.blanks_same;
+      narrow = rw (take_all i (bar_lines s).lines all) at old.narrow;
+      laid = λ before bars o. laid_as w h on _ _ _ _ m (ap (λ xs. before ++ map line_text xs) (take_all i s.lines.items k)) (member_bars w i s all bars) (old.laid before bars o);
+    }
+
+-- so many lines further, on these rows
+abbrev pub moved : Laid → ℕ → ℕ → Laid
+moved l rows n = record l { plan = record l.plan { rows = rows; lines = l.plan.lines + n }; at = l.at + n }
+
+pub member_begun : (w h : ℕ) (on : List StandingLine) (l : Laid) → IsSummed h l.plan → IsLaidOn w h on [] [] [] l (moved l l.plan.rows 0)
+member_begun w h on l s =
+    let lines : l.plan.lines + 0 ≡ l.plan.lines = omega arith in
+    let at : l.at + 0 ≡ l.at = omega arith in
+    rw (lines, at) (member_none w h on l s)
+
+-- one more line that stands as it is
+pub stays_on : (w h bar rows n : ℕ) (on : List StandingLine) (text : List ℕ) (x : StandingLine) (l : Laid) → AreLines w on → IsSummed h (moved l rows n).plan → l.more.items ≡ [] →
+    l.plan.full ≡ false → l.at + n < length on → get_or on (l.at + n) x ≡ x → x.bar ≡ bar → x.rows ≤ h - rows → string_bytes x.text ≡ text →
+    IsLaidOn w h on (text ∷ []) (chars text ∷ []) (record { bar = bar; rows = rows_of w (chars text) } ∷ []) (moved l rows n) (moved l (rows + x.rows) (n + 1))
+stays_on w h bar rows n on text x l all s none full within here own fits t =
+    let line = all_at (IsLine w) on (l.at + n) x within here all in
+    let m = moved l rows n in
+    let lines : l.plan.lines + (n + 1) ≡ l.plan.lines + n + 1 = omega arith in
+    let at : l.at + (n + 1) ≡ l.at + n + 1 = omega arith in
+    kept_on w h bar x.rows on text x m m (moved l (rows + x.rows) (n + 1)) s (record { none_below = none; not_full = full; within = within; line_is = here; bar_is = own; fits = fits })
+    (line.rows_are ∙ ap (λ y. length (rows_of w (chars y))) t) refl (ap (λ y. has_wide w (chars y)) (sym t) ∙ line.narrow) refl refl refl refl (rw (lines, at) refl)
+    (λ fit. (fits_more w on 0 m.at (m.at + 1) m.changed.items (omega arith) fit, same_texts w on m.at x text m.changed.items within here fit t))
 
 pub own_length : (on : List StandingLine) (l : Laid) → l.at ≤ length on → length (own_lines on l) ≡ l.at + length l.more.items - l.blanks
 own_length on l h = length-drop l.blanks (laid_lines on l) ∙ ap (λ n. n - l.blanks) (length-append (take l.at on) l.more.items ∙ ap (λ n. n + length l.more.items) (length-take-le l.at on h))

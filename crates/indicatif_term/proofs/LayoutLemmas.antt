@@ -1,5 +1,5 @@
 -- A frame laid out line by line is the plan of the whole frame.
-use Rattle.std.proofs.Common.{◌≡◌, ℕ, zero, suc, ◌+◌, ◌-◌, ◌<◌, ◌≤◌, Bool, true, false, cond, List, [], ◌∷◌, ◌++◌, ◌||◌, length, map, take, drop, min, get_or, refl, sym, ◌∙◌, ap, subst, arith, append_assoc, append-nil, length-append, chars, Result, Err, inl, inr}
+use Rattle.std.proofs.Common.{◌≡◌, ℕ, zero, suc, ◌+◌, ◌-◌, ◌<◌, ◌≤◌, Bool, true, false, cond, List, [], ◌∷◌, ◌++◌, ◌||◌, length, map, take, drop, min, get_or, refl, sym, ◌∙◌, ap, subst, arith, append_assoc, append-nil, length-append, chars, inl, inr}
 use Rattle.std.specs.Prelude.{nat_le}
 use Rattle.std.proofs.Math.Bool.{or-true}
 use Rattle.std.proofs.lemmas.Bool.{cases_lt, le-leb, lt-leb}
@@ -20,13 +20,13 @@ use Rattle.indicatif_term.specs.declared.engine.remembered.StandingLine.{Standin
 use Rattle.std.specs.Prelude.{sum_by}
 use Rattle.std.proofs.lemmas.List.Sums.{sum_by-take-drop}
 use Rattle.indicatif_term.proofs.OwnedLemmas.{lines_split, rows_by, height_counted, counts_height}
-use Rattle.indicatif_term.specs.Inside.Plans.{IsLaidOut, IsSummed, IsPlan, IsWithheld}
+use Rattle.indicatif_term.specs.Inside.Plans.{passing_of, IsLaidOut, IsSummed, IsPlan, IsWithheld}
 use Rattle.indicatif_term.specs.declared.engine.layout.Plan.{Plan}
 use Rattle.indicatif_term.specs.declared.engine.lines.Segment.{Segment}
 use Rattle.indicatif_term.specs.declared.engine.lines.LineType.{LineType}
 use Rattle.indicatif_text.specs.declared.refusal.Refusal.{Refusal}
 use Rattle.indicatif_term.proofs.ShownRowLemmas.{line_segments, grouped_rows}
-use Rattle.indicatif_term.proofs.MeasureLemmas.{one_of, withheld_by}
+use Rattle.indicatif_term.proofs.MeasureLemmas.{withheld_by}
 
 -- ---- one more line
 
@@ -184,10 +184,6 @@ still_summed h n p s = record { fit = s.fit; lines_fit = s.lines_fit; passing_in
 
 pub still_laid : (h n m : ℕ) (lines : List BarRows) (p : Plan) (cs : List RowCount) → IsLaidOut h lines p cs → IsLaidOut h lines (record p { passing = n; passing_rows = m }) cs
 still_laid h n m lines p cs o = record { counts_are = o.counts_are; rows_are = o.rows_are; lines_are = o.lines_are; all_fit = o.all_fit; none_more = o.none_more }
-
--- the lines of the members that are passed on, among the first i
-abbrev pub passing_of : ℕ → ℕ → ℕ → ℕ → List Segment → ℕ
-passing_of w h pass i frame = length (fitting h (lines_of w (map bar_lines (take (min pass i) frame))))
 
 pub nothing_passes : (w h pass : ℕ) (frame : List Segment) → 0 ≡ passing_of w h pass 0 frame
 unfolding lines_of fitting

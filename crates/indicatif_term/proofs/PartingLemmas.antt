@@ -51,6 +51,10 @@ pub ones_front : (xs ys : List ℕ) → AllByRecursion IsOne (xs ++ ys) → AllB
 ones_front [] ys all = tt
 ones_front (x ∷ xs) ys all = (all.0, ones_front xs ys all.1)
 
+pub ones_back : (xs ys : List ℕ) → AllByRecursion IsOne (xs ++ ys) → AllByRecursion IsOne ys
+ones_back [] ys all = all
+ones_back (x ∷ xs) ys all = ones_back xs ys all.1
+
 pub ones_both : (xs ys : List ℕ) → AllByRecursion IsOne xs → AllByRecursion IsOne ys → AllByRecursion IsOne (xs ++ ys)
 ones_both [] ys a b = b
 ones_both (x ∷ xs) ys a b = (a.0, ones_both xs ys a.1 b)
@@ -69,6 +73,17 @@ whole_piece w p (g ∷ gs) e =
     (λ q n. whole_piece w (p ++ g ∷ []) gs n ∙ omega (arith, columns_push p g, c))
     (λ q n. absurd (omega (arith, n, pieces_some w (g ∷ []) gs))) in
     both e
+
+-- the columns of a line of one row, each of whose visible characters takes one
+pub single_last : (w : ℕ) (old : List ℕ) → AllByRecursion IsOne (visible old) → length (rows_of w old) ≡ 1 → last_columns w old ≡ length (visible old)
+unfolding rows_of last_columns
+single_last w old all one_row =
+    let seen = visible old in
+    let gs = glyphs_of seen in
+    let none : columns_in (let empty : List Glyph = [] in empty) ≡ 0 = refl in
+    let pieces : length (pieces_of w gs) ≡ 1 = sym (length-map (pieces_of w gs) (row_of w)) ∙ one_row in
+    let all_columns : columns_of_last (pieces_of w gs) ≡ columns_in gs = whole_piece w [] gs pieces ∙ omega (arith, none) in
+    all_columns ∙ ap columns_in (glyphs_on [] seen all) ∙ ones_columns seen all
 
 pub parted : (w last olds news n : ℕ) (old new same own other : List ℕ) → list_any (λ c. c == 0x1B) same ≡ false → old ≡ same ++ own → new ≡ same ++ other →
     AllByRecursion IsOne (visible own) → AllByRecursion IsOne (visible other) → length (rows_of w old) ≡ 1 → last ≡ last_columns w old →

@@ -8,14 +8,14 @@ use Rattle.std.proofs.lemmas.List.{take-append-drop, take_at, drop_at, nil_from_
 use Rattle.indicatif_text.specs.Columns.{Cell, rows_of, has_wide, last_columns}
 use Rattle.indicatif_term.specs.Shows.{look, looks_of}
 use Rattle.indicatif_term.specs.Standing.{placed_of, placed, texts, standing_rows, IsLine, AreLines, AreReady}
-use Rattle.indicatif_term.specs.Inside.Edits.{AreSingle}
+use Rattle.indicatif_term.specs.Inside.Inks.{IsRead}
 use Rattle.indicatif_term.specs.Inside.Parting.{IsTurned, IsReady, change_of, waits_of}
-use Rattle.indicatif_term.specs.declared.engine.parting.Step.TheVariants.{Leave}
+use Rattle.indicatif_term.specs.declared.engine.comparing.Step.TheVariants.{Leave}
 use Rattle.indicatif_term.specs.Inside.Changes.{placed_height, Becomes, Ends, AreSitting}
 use Rattle.indicatif_term.specs.Inside.Renewed.{IsNew, heights, FitsIn, AreFitting, AreFittingFrom, renewed, AreInPlace, IsOver, AreOver}
 use Rattle.indicatif_term.specs.Inside.Layouts.{AreWhole}
 use Rattle.indicatif_term.specs.declared.engine.remembered.StandingLine.{StandingLine}
-use Rattle.indicatif_term.specs.declared.engine.renewed.NewLine.{NewLine}
+use Rattle.indicatif_term.specs.declared.engine.beside.NewLine.{NewLine}
 use Rattle.std.proofs.lemmas.List.{length-take-le, get_or-take}
 use Rattle.std.proofs.Math.Seq.{take-set-lt}
 
@@ -86,7 +86,7 @@ module _ (w : ℕ) (on : List StandingLine) (at : ℕ) (x : StandingLine) (text 
         rows_are = rows ∙ is.rows_are ∙ ap (λ y. length (rows_of w (chars y))) (sym is.text_is);
         last_is = is.last_is ∙ ap (λ y. last_columns w (chars y)) (sym is.text_is);
         narrow = ap (λ y. has_wide w (chars y)) is.text_is ∙ is.narrow;
-        single = λ q. subst (λ y. AreSingle (chars y)) (sym is.text_is) (is.single q);
+        single = λ q. subst (λ y. IsRead (chars y)) (sym is.text_is) (is.single q);
         turned = subst (λ o. IsTurned w n.turn.step o (string_bytes n.text)) (sym old) (subst (IsTurned w n.turn.step (bytes x)) (sym is.text_is) is.turned);
       } in
       let here : n.at ≡ at = is.at_is in
@@ -201,7 +201,7 @@ place_new w on ls x y n p f e r t c q =
       rows_are = rows ∙ f.1.rows_are ∙ ap (λ z. length (rows_of w (chars z))) same;
       last_is = c ∙ f.1.last_is ∙ ap (λ z. last_columns w (chars z)) same;
       narrow = ap (λ z. has_wide w (chars z)) t ∙ f.1.narrow;
-      single = λ i. subst (λ z. AreSingle (chars z)) same (f.1.single (sym q ∙ i));
+      single = λ i. subst (λ z. IsRead (chars z)) same (f.1.single (sym q ∙ i));
     } in
     place_put w on ls n.at y p rows line
 

@@ -3,14 +3,18 @@ use Rattle.std.proofs.Common.{inl, inr, ◌≡◌, ℕ, zero, suc, ◌+◌, ◌-
 use Rattle.std.specs.Prelude.{◌==◌, encode_utf8, IsErrAnd, MatchResult}
 use Rattle.std.specs.IoError.{error_kind}
 use Rattle.std.specs.declared.io.Error.{Error}
+use Rattle.std.specs.declared.io.ErrorKind.{ErrorKind}
 use Rattle.std.proofs.lemmas.Bool.Decides.{nat_tests}
 use Rattle.std.specs.Str.{bytes_eq}
 use Rattle.std.proofs.lemmas.Bool.{cases_Bool}
 use Rattle.std.proofs.lemmas.Slice.Eq.{bytes_eq-Decides}
 use Rattle.indicatif_term.specs.Calls.{RIGHT, move_bytes, TermView, LeadsOn, BreaksOff, Writes}
-use Rattle.indicatif_term.proofs.CallTurnLemmas.{breaks_then, writes_fail}
+use Rattle.indicatif_term.proofs.CallTurnLemmas.{breaks_then, breaks_early, writes_fail}
 use Rattle.indicatif_term.specs.Inside.Inks.{RESET, Ink, NONE, colours_of, same_ink, Inked, in_ink, is_alike, padded}
 use Rattle.indicatif_term.specs.Inside.Edits.{Edit, Write, edit_bytes, closed, opened, recoloured, plan, rest_bytes, reset_bytes, ink_bytes}
+use Rattle.indicatif_term.specs.Inside.Rests.{HasRoom, ink_of, cells, left_bytes}
+use Rattle.indicatif_term.specs.declared.engine.inks.InkedText.{InkedText}
+use Rattle.indicatif_term.specs.declared.engine.row_edits.Rest.{Rest}
 use Rattle.indicatif_term.proofs.InkLemmas.{padded_length}
 
 -- ---- cells padded with spaces
@@ -83,6 +87,40 @@ module _ (ends : Bool) (ink : Ink) (gap n : ℕ) (c d : Inked) (olds news os ns 
       ∙ rw e' (recoloured_bytes gap ink d.ink (Write d.char ∷ plan ends d.ink (padded n os) (padded n ns)))
       ∙ ap (λ x. ink_bytes ink d.ink ++ x) (sym (append_assoc (move_bytes RIGHT gap) (encode_utf8 d.char) rest))
       ∙ sym (append_assoc (ink_bytes ink d.ink) (move_bytes RIGHT gap ++ encode_utf8 d.char) rest)
+
+-- the first column of what is left of a row
+module _ (ends : Bool) (rest : Rest) (old new : InkedText) (stands c : ℕ) (some : 0 < rest.left) (room : HasRoom rest)
+    (first : (n : ℕ) → padded (suc n) (cells rest.old) ≡ in_ink (ink_of old.ink) stands ∷ padded n (cells old)) (few : length (cells old) ≡ length (cells rest.old) - 1)
+    (first' : (n : ℕ) → padded (suc n) (cells rest.new) ≡ in_ink (ink_of new.ink) c ∷ padded n (cells new)) (few' : length (cells new) ≡ length (cells rest.new) - 1) where
+  abbrev pub left_alike : Bool
+  left_alike = is_alike (in_ink (ink_of old.ink) stands) (in_ink (ink_of new.ink) c) && not (ends && (rest.left - 1 == 0))
+
+  whole : rest.left ≡ suc (rest.left - 1)
+  whole = omega (arith, some)
+
+  news : length (cells new) ≤ rest.left - 1
+  news = omega (arith, few', room.news)
+
+  in_whole : left_bytes ends rest ≡ rest_bytes ends (ink_of rest.ink) rest.gap (suc (rest.left - 1)) (cells rest.old) (cells rest.new)
+  in_whole = ap (λ k. rest_bytes ends (ink_of rest.ink) rest.gap k (cells rest.old) (cells rest.new)) whole
+
+  pub next_stays : left_alike ≡ true → rest_bytes ends (ink_of rest.ink) (rest.gap + 1) (rest.left - 1) (cells old) (cells new) ≡ left_bytes ends rest
+  next_stays e = sym (in_whole ∙ rest_stays ends (ink_of rest.ink) rest.gap (rest.left - 1) (in_ink (ink_of old.ink) stands) (in_ink (ink_of new.ink) c) (cells rest.old) (cells rest.new)
+      (cells old) (cells new) (first (rest.left - 1)) (first' (rest.left - 1)) news e)
+
+  abbrev pub next_bytes : List ℕ
+  next_bytes = ink_bytes (ink_of rest.ink) (ink_of new.ink) ++ (move_bytes RIGHT rest.gap ++ encode_utf8 c)
+
+  pub next_writes : left_alike ≡ false → next_bytes ++ rest_bytes ends (ink_of new.ink) 0 (rest.left - 1) (cells old) (cells new) ≡ left_bytes ends rest
+  next_writes e = sym (in_whole ∙ rest_writes ends (ink_of rest.ink) rest.gap (rest.left - 1) (in_ink (ink_of old.ink) stands) (in_ink (ink_of new.ink) c) (cells rest.old) (cells rest.new)
+      (cells old) (cells new) (first (rest.left - 1)) (first' (rest.left - 1)) news e)
+
+  pub next_fails : {s u : TermView} {k : ErrorKind} → left_alike ≡ false → BreaksOff next_bytes k s u → BreaksOff (left_bytes ends rest) k s u
+  next_fails {s} {u} {k} e b =
+      let more = rest_bytes ends (ink_of new.ink) 0 (rest.left - 1) (cells old) (cells new) in subst (λ x. BreaksOff x k s u) (next_writes e) (breaks_early more b)
+
+  pub next_room : (gap : ℕ) → gap ≤ rest.gap + 1 → (gap + (rest.left - 1) ≤ 65535) × (length (cells old) ≤ rest.left - 1) × (length (cells new) ≤ rest.left - 1)
+  next_room gap e = (omega (arith, room.small, some, e), omega (arith, few, room.olds), news)
 
 -- ---- columns that stay, all at once
 

@@ -11,7 +11,7 @@ use Rattle.indicatif_term.specs.Inside.Changes.{ends_plainly, last_byte}
 use Rattle.std.proofs.Math.Utf8.{encode}
 use Rattle.indicatif_term.proofs.LastCharLemmas.{last_is}
 use Rattle.indicatif_term.specs.Inside.Parting.{change_of, IsReady}
-use Rattle.indicatif_term.specs.declared.engine.parting.Step.{Step}
+use Rattle.indicatif_term.specs.declared.engine.comparing.Step.{Step}
 use Rattle.indicatif_term.specs.Standing.{placed_of, placed, AreReady}
 use Rattle.indicatif_term.specs.declared.engine.remembered.StandingLine.{StandingLine}
 use Rattle.indicatif_term.proofs.CallTurnLemmas.{reaches_then, breaks_then, writes_fail}

@@ -3,7 +3,7 @@ use Rattle.std.specs.Prelude.{◌≡◌, ℕ, IsTrue, IsFalse, List, map, length
 use Rattle.std.specs.List.{AllByRecursion}
 use Rattle.indicatif_text.specs.Columns.{Cell, has_wide, rows_of, last_columns}
 use Rattle.indicatif_term.specs.Inside.Changes.{PlacedLine}
-use Rattle.indicatif_term.specs.Inside.Edits.{AreSingle}
+use Rattle.indicatif_term.specs.Inside.Inks.{IsRead}
 use Rattle.indicatif_term.specs.Inside.Parting.{change_of, waits_of, IsReady}
 use Rattle.indicatif_term.specs.declared.engine.remembered.StandingLine.{StandingLine}
 
@@ -32,7 +32,7 @@ pub record IsLine (w : ℕ) (l : StandingLine) : Type 0 where
   pub rows_are : l.rows ≡ length (rows_of w (chars (string_bytes l.text)))
   pub last_is : l.last ≡ last_columns w (chars (string_bytes l.text))
   pub narrow : IsFalse (has_wide w (chars (string_bytes l.text)))
-  pub single : IsTrue l.narrow → AreSingle (chars (string_bytes l.text))
+  pub single : IsTrue l.narrow → IsRead (chars (string_bytes l.text))
 
 abbrev pub AreLines : ℕ → List StandingLine → Type 0
 AreLines w ls = AllByRecursion (IsLine w) ls

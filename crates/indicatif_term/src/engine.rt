@@ -25,22 +25,21 @@
 //!
 //! - `layout`: a frame beside the lines that stand, in one pass (`Laid`): which of these stay, which new ones come in their place, which are
 //!   written below; and how many rows all take (`Plan`).
-//! - `beside`: the lines that stand there (`Beside`), blank ones above a frame, and the room that is left for it (`Room`).
-//! - `comparing`: what becomes of one line where another text comes in its place (`Turn`): edited, or written as a whole?
-//! - `renewed`: new lines (`NewLine`) in the place of those that stand.
-//! - `parting`: the byte where two texts of one row part (`Part`, `Step`), before the first escape character or among colours; how many
-//!   characters of one column follow?
-//! - `inks`: a text read cell by cell, with the colour sequences that are open at each (`InkedText`, `Colours`); does it leave any open?
+//! - `beside`: the lines that stand there (`Beside`), blank ones above a frame, and the room that is left for it (`Room`);
+//!   new lines (`NewLine`) in the place of those that stand.
+//! - `comparing`: what becomes of one line where another text comes in its place (`Turn`, `Step`): from the byte on where both part, how many
+//!   characters of one column follow, and is a `Stretch` written, or the whole line?
+//! - `inks`: a text read cell by cell, with the colour sequences that are open at each (`InkedText`, `Colours`), and what two texts begin with
+//!   alike (`Alike`); does a text leave colours open?
 //!
 //! What is written:
 //!
 //! - `writing`: a drawing from its first byte to its last (`Writing`, `write`): rows are emptied, lines come in the place of others, and below
 //!   them a text and the rest of the lines, each on a row of its own. Also its steps: up, down, rows emptied, spaces.
 //! - `changing`: the lines in the place of others, from the first down to the last: which stay, which are edited in a part, which are
-//!   written as a whole?
-//! - `row_edits`: such a part, column by column: characters in their colours, and steps over columns that stay (`Rest`).
-//! - `moving`: whole lines over those that stand, where all their rows are full and none joins the one before it (`are_even`), without an
-//!   empty row between.
+//!   written as a whole? Or whole lines over those that stand, where all their rows are full and none joins the one before it (`are_even`),
+//!   without an empty row between.
+//! - `row_edits`: a part of a row, column by column: characters in their colours, and steps over columns that stay (`Rest`).
 ghost use Rattle.std.specs.Prelude.{if◌then◌else◌, min, ◌-◌, ◌^◌, ◌≡◌, ◌∷◌, List, true, false, ◌≢◌, map, length, replicate, ◌+◌, ◌<◌, ◌≤◌, IfErr, IfSome, option_map, IsTrue, IsFalse, ◌++◌, [], ℕ, Err, false, ◌⊎◌, ◌↔◌, ◌==◌, ◌&&◌, IfOk, take, drop};
 ghost use Rattle.indicatif_term.specs.Lists.{Lists, opening_lists, forgotten_lists};
 ghost use Rattle.indicatif_term.specs.Counts.{CountsOf};
@@ -55,23 +54,19 @@ pub(crate) mod counts;
 pub(crate) mod inks;
 pub(crate) mod layout;
 pub(crate) mod lines;
-pub(crate) mod moving;
-pub(crate) mod parting;
 pub(crate) mod recutting;
 pub(crate) mod remembered;
-pub(crate) mod renewed;
 pub(crate) mod row_edits;
 pub(crate) mod spare;
 pub(crate) mod window;
 pub(crate) mod writing;
 
 use crate::engine::beside::{Room, height_of, last_column, lines_within};
-use crate::engine::changing::fill_behind;
+use crate::engine::changing::{are_even, fill_behind};
 use crate::engine::counts::{Counts, Fresh, Keep};
 use crate::engine::inks::leaves_open;
 use crate::engine::layout::{Asked, Laid, plan_drawing, run_of};
 use crate::engine::lines::Segment;
-use crate::engine::moving::are_even;
 use crate::engine::recutting::{CutLines, Widths};
 use crate::engine::remembered::{Remembered, Span, StandingLine};
 use crate::engine::spare::Spare;
@@ -281,10 +276,10 @@ impl<T: TermLike + Drop> Engine<T> {
             blanks: old.blanks,
             taken: old.live,
         };
-        let planned = plan_drawing(&self.term, &mut self.spare, None, asked)?;
+        let mut laid = Laid::none(self.alloc);
+        let planned = plan_drawing(&self.term, &mut self.spare, &mut laid, None, asked)?;
         let window = planned.window;
         let width = window.columns;
-        let laid = planned.laid;
         let rows = laid.blanks + laid.plan.rows;
         let before = Before {
             counts: old,
@@ -297,10 +292,9 @@ impl<T: TermLike + Drop> Engine<T> {
         let next = old.drawn(laid.plan, laid.blanks, window.rows);
         let above = self.shown.above(width, old.kept);
         if before.stands(&next, above, &laid, self.shown.live()) {
-            self.spare.store_laid(laid);
             return self.rest(next);
         }
-        let from = self.store(next, above, laid, width)?;
+        let from = self.store(next, above, &mut laid, width)?;
         let writing = before.writing(fresh, &next, self.shown.behind(from), width);
         self.write(&writing, None, from)
     }
@@ -348,15 +342,15 @@ impl<T: TermLike + Drop> Engine<T> {
             blanks: 0,
             taken,
         };
-        let planned = plan_drawing(&self.term, &mut self.spare, Some(text), asked)?;
+        let mut laid = Laid::none(self.alloc);
+        let planned = plan_drawing(&self.term, &mut self.spare, &mut laid, Some(text), asked)?;
         let window = planned.window;
         let metrics = planned.text;
-        let laid = planned.laid;
         let end = metrics.height.saturating_add(laid.blanks + laid.plan.rows);
         let fresh = old.fresh(end, window.rows);
         let next = old.logged(metrics.height, laid.plan, laid.blanks, window.rows);
         let above = Span { from: 0, to: 0 };
-        let from = self.store(next, above, laid, window.columns)?;
+        let from = self.store(next, above, &mut laid, window.columns)?;
         let last = last_column(self.shown.behind(from)).unwrap_or(metrics.last_line_width);
         let writing = Writing {
             anew,
@@ -433,24 +427,25 @@ impl<T: TermLike + Drop> Engine<T> {
         &mut self,
         next: Counts,
         above: Span,
-        laid: Laid,
+        laid: &mut Laid,
         width: usize,
     ) -> Result<usize, Refusal>
         requires some { 0 < width }
-        requires fits { CanPut width above self.old.shown laid }
-        requires suits { (r : Remembered) (ls : List StandingLine) → ArePut width (live_lines self.old.shown) laid ls →
-            IsNext width (kept_below laid.plan laid.blanks) (drop above.from (take above.to self.old.shown.lines)) ls r → ∥ ((l : Lists) × Suits next false r l) ∥₁ }
-        ensures refused { IfErr result (λ e. (e ≡ Refusal.Memory) × (0 < length laid.more.items) × (self.new ≡ self.old)) }
-        ensures next { IfOk result (λ from. (ls : List StandingLine) × ArePut width (live_lines self.old.shown) laid ls
-            × IsNext width (kept_below laid.plan laid.blanks) (drop above.from (take above.to self.old.shown.lines)) ls self.new.shown
+        requires fits { CanPut width above self.old.shown laid.old }
+        requires suits { (r : Remembered) (ls : List StandingLine) → ArePut width (live_lines self.old.shown) laid.old ls →
+            IsNext width (kept_below laid.old.plan laid.old.blanks) (drop above.from (take above.to self.old.shown.lines)) ls r → ∥ ((l : Lists) × Suits next false r l) ∥₁ }
+        ensures refused { IfErr result (λ e. (e ≡ Refusal.Memory) × (0 < length laid.old.more.items) × (self.new ≡ self.old)) }
+        ensures next { IfOk result (λ from. (ls : List StandingLine) × ArePut width (live_lines self.old.shown) laid.old ls
+            × IsNext width (kept_below laid.old.plan laid.old.blanks) (drop above.from (take above.to self.old.shown.lines)) ls self.new.shown
             × (from ≤ length self.new.shown.lines) × (drop from self.new.shown.lines ≡ ls)) }
         ensures made { IfOk result (λ _. (self.new.counts ≡ next) × (self.new.failed ≡ false)) }
         ensures terminal { engine_term self.new ≡ engine_term self.old }
         ensures moves { engine_moves self.new ≡ engine_moves self.old }
     {
         let from = above.to - above.from;
-        let drawings = drawings_behind(self.drawings, &laid);
+        let drawings = drawings_behind(self.drawings, laid);
         self.shown.put(&mut self.spare, above, laid, width)?;
+        self.spare.store_laid(laid);
         self.counts = next;
         self.failed = false;
         self.drawings = drawings;
@@ -490,6 +485,7 @@ impl<T: TermLike + Drop> Engine<T> {
     }
 
     /// The answer of the engine after a drawing was written; after a failure all is forgotten but that a call has failed.
+    #[inline(always)]
     fn ended(&mut self, written: io::Result<()>) -> Result<(), Refusal>
         requires sound { self.old.failed ≡ false }
         ensures draws { (bytes : List ℕ) (v : TermView) → Writes bytes v (T.view (engine_term self.old)) written →
@@ -521,6 +517,7 @@ impl<T: TermLike + Drop> Engine<T> {
     }
 
     /// Forgets the engine's counts and lines, since the terminal failed.
+    #[inline(never)]
     fn forget(&mut self)
         ensures terminal { engine_term self.new ≡ engine_term self.old }
         ensures moves { engine_moves self.new ≡ engine_moves self.old }
@@ -714,6 +711,7 @@ impl Before {
     }
 
     /// How the lines of a draw are written, which goes on with these counts: as `chosen` says.
+    #[inline(always)]
     fn writing(&self, fresh: Fresh, next: &Counts, lines: &[StandingLine], width: usize) -> Writing
         requires { self.now.rows ≡ placed_height (placed lines.now) }
         ensures { IsChosen self.now.counts self.now.failed self.now.width next.now lines.now

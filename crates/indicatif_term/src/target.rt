@@ -71,7 +71,7 @@ impl Facts {
 /// ```
 /// let facts = Facts { rows: 24, cols: 80, attended: true, term };
 /// let target = ProgressDrawTarget::stderr(writer, facts, now); // hidden where the facts say so, else 20 draws a second
-/// let often = ProgressDrawTarget::term_like(term); // as often as a draw is asked
+/// let often = ProgressDrawTarget::term_like(term); // at each call that draws
 /// ```
 #[derive(Debug)]
 pub struct ProgressDrawTarget<T> {

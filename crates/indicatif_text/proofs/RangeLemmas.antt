@@ -6,7 +6,7 @@ use Rattle.std.specs.Str.{IsUtf8, IsCharBoundary}
 use Rattle.std.proofs.lemmas.List.{take_at}
 use Rattle.std.proofs.lemmas.List.Sums.{sum_by-append}
 use Rattle.indicatif_text.specs.Columns.{width_of, columns_of}
-use Rattle.indicatif_text.specs.Pieces.{shown}
+use Rattle.indicatif_text.specs.Pieces.{text_piece}
 use Rattle.indicatif_text.specs.declared.pieces.Piece.{Piece}
 use Rattle.indicatif_text.proofs.PieceLawLemmas.{runs_are_visible}
 use Rattle.indicatif_text.specs.Pieces.{TextPiece, Colour, Run, pieces_of_text}
@@ -124,8 +124,8 @@ columns_behind_run left ps text e = ap run_columns e ∙ sum_by-append width_of 
 pub all_columns : (text : List ℕ) → run_columns (pieces_of_text text) ≡ columns_of text
 all_columns text = ap (sum_by width_of) (runs_are_visible text)
 
-pub shown_colour : (p : Piece) (left ps : List TextPiece) → left ≡ shown p ∷ ps → p.colour ≡ true → left ≡ Colour (chars p.text.now) ∷ ps
+pub shown_colour : (p : Piece) (left ps : List TextPiece) → left ≡ text_piece p ∷ ps → p.colour ≡ true → left ≡ Colour (chars p.text.now) ∷ ps
 shown_colour p left ps e is = e ∙ ap (λ b. (if b then Colour (chars p.text.now) else Run (chars p.text.now)) ∷ ps) is
 
-pub shown_run : (p : Piece) (left ps : List TextPiece) → left ≡ shown p ∷ ps → p.colour ≡ false → left ≡ Run (chars p.text.now) ∷ ps
+pub shown_run : (p : Piece) (left ps : List TextPiece) → left ≡ text_piece p ∷ ps → p.colour ≡ false → left ≡ Run (chars p.text.now) ∷ ps
 shown_run p left ps e is = e ∙ ap (λ b. (if b then Colour (chars p.text.now) else Run (chars p.text.now)) ∷ ps) is

@@ -28,5 +28,5 @@ unfoldable pub pieces_of_text : List ℕ → List TextPiece
 pieces_of_text = pieces_from 0
 
 -- a piece of the code as a piece of a text
-abbrev pub shown : Piece → TextPiece
-shown p = if p.colour then Colour (chars p.text.now) else Run (chars p.text.now)
+abbrev pub text_piece : Piece → TextPiece
+text_piece p = if p.colour then Colour (chars p.text.now) else Run (chars p.text.now)

@@ -11,7 +11,8 @@
 //! - `format`: numbers that `{}` prints: `HumanBytes`, `DecimalBytes`, `BinaryBytes`, `HumanDuration`, `FormattedDuration`, `HumanCount`
 //!   and `HumanFloatCount`.
 //! - `template`: `Template::parse` reads `{bar:20.green} {msg}` into its parts.
-//! - `laws`: what follows from the definitions, each as a function whose contract is the law. `cases`: worked cases.
+//! - `laws`: what follows from the definitions, each as a function whose contract is the law.
+//! - `cases`: the definitions computed on worked cases.
 //!
 //! Private, for those above:
 //!

@@ -3,7 +3,7 @@ ghost use Rattle.std.specs.Prelude.{◌≡◌, ◌≤◌, ◌<◌, ◌∷◌, Li
 ghost use Rattle.std.specs.Str.{IsAscii, IsCharBoundary};
 ghost use Rattle.std.specs.Iterator.{YieldsFirstBy, item_count};
 ghost use Rattle.indicatif_text.specs.Columns.{colour_length, is_parameter, visible};
-ghost use Rattle.indicatif_text.specs.Pieces.{TextPiece, pieces_of_text, shown};
+ghost use Rattle.indicatif_text.specs.Pieces.{TextPiece, pieces_of_text, text_piece};
 ghost use Rattle.indicatif_text.specs.Inside.Pieces.{run_then};
 
 use std::marker::Model;
@@ -56,7 +56,7 @@ impl<'a> Pieces<'a> {
 impl<'a> Iterator for Pieces<'a> {
     type Item = Piece<'a>;
 
-    ghost next_gives = { YieldsFirstBy shown (λ left. left) };
+    ghost next_gives = { YieldsFirstBy text_piece (λ left. left) };
 
     ghost remaining = { item_count (λ left. left) };
 
@@ -74,7 +74,7 @@ impl<'a> Iterator for Pieces<'a> {
 fn split_piece(text: &str) -> (Piece<'_>, &str)
     requires { 0 < length text.now }
     ensures { pieces_of_text (chars text.now)
-        ≡ shown result.0 ∷ pieces_of_text (chars result.1.now) }
+        ≡ text_piece result.0 ∷ pieces_of_text (chars result.1.now) }
 {
     let sequence = colour_len(text);
     if sequence > 0 {

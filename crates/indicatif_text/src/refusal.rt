@@ -169,7 +169,7 @@ impl<T: Drop> From<AllocFailed<T>> for Refusal {
 pub enum Drawn {
     /// The terminal was written.
     Yes,
-    /// Nothing was written: no draw was asked for, or the limiter refused it.
+    /// Nothing was written: the call wants no draw, or the limiter refused it.
     Limited,
     /// Nothing was written: the target is hidden.
     Hidden,

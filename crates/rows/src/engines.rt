@@ -1,43 +1,31 @@
 //! The engine by itself: lines drawn, logged above, kept and cleared.
-use indicatif_term::target::{Engine, Keep, LineType, MultiProgressAlignment, Segment, TermLike};
-use scripts::got::{Bad, Got};
-use scripts::row::{At, Words, headed};
-use scripts::screen::{self, Behind, Screen};
-use scripts::spelling::{flag, number, unescaped};
-use std::rc::Rc;
+use indicatif_term::target::{Engine, Keep, LineType, MultiProgressAlignment, Segment};
+use scripts::got::{Bad, Done, Got};
+use scripts::row::{At, flag, headed, number, tabbed, unescaped};
+use scripts::screen::Behind;
 
-/// An engine on a screen.
+/// An engine, and where its bars stand.
 #[derive(Drop)]
 pub struct Drawing {
-    engine: Engine<Behind>,
-    screen: Rc<Screen>,
+    pub engine: Engine<Behind>,
     alignment: MultiProgressAlignment,
 }
 
-/// `engine ROWS COLS top` or `bottom`.
-pub fn begin(rest: &str, at: At) -> Result<Box<Drawing>, Bad> {
-    let mut words = Words::of(rest);
-    let (screen, term) = screen::terminal(&mut words, at)?;
-    let alignment = match words.rest() {
+/// One with bars at the `top` or the `bottom`.
+pub fn begin(term: Behind, word: &str, at: At) -> Result<Box<Drawing>, Bad> {
+    let alignment = match word {
         "top" => MultiProgressAlignment::Top,
         "bottom" => MultiProgressAlignment::Bottom,
         _ => return Err(Bad::Step),
     };
     let engine = Engine::new(at.alloc, term);
-    at.boxed(Drawing {
-        engine,
-        screen,
-        alignment,
-    })
+    at.boxed(Drawing { engine, alignment })
 }
 
 impl Drawing {
     /// `draw FRAME`; `pass N FRAME`, of which the first N bars are dropped; `log TEXT` and, each after a tab, the frame's bars; `keep BAR`;
-    /// `clear`; `move yes` or `move no`; `size ROWS COLS`, also of the screen; `faults`; or a look at the screen.
-    pub fn step(&mut self, step: &str, at: At, got: &mut Got) -> Result<(), Bad> {
-        if screen::look_at(&self.screen, step, at, got)? {
-            return Ok(());
-        }
+    /// `clear`; `move yes` or `move no`.
+    pub fn step(&mut self, step: &str, at: At, got: &mut Got) -> Done {
         match headed(step) {
             ("draw", bars) => self.draw(bars, 0, at)?,
             ("pass", rest) => {
@@ -45,7 +33,7 @@ impl Drawing {
                 self.draw(bars, number(count)?, at)?;
             }
             ("log", rest) => {
-                let (text, bars) = rest.split_once('\t').unwrap_or((rest, ""));
+                let (text, bars) = tabbed(rest);
                 let (text, frame) = (unescaped(at.alloc, text)?, frame(bars, at)?);
                 self.engine.log(text.as_str(), &frame, self.alignment)?;
             }
@@ -56,18 +44,12 @@ impl Drawing {
             }),
             ("clear", "") => self.engine.clear()?,
             ("move", word) => self.engine.set_move_cursor(flag(word)?),
-            ("size", rest) => {
-                let (rows, cols) = screen::size(rest)?;
-                self.engine.resize(rows, cols)?;
-                self.screen.resize(rows, cols)?;
-            }
-            ("faults", "") => got.number(self.engine.term().faults()),
             _ => return Err(Bad::Step),
         }
         Ok(())
     }
 
-    fn draw(&mut self, bars: &str, pass: usize, at: At) -> Result<(), Bad> {
+    fn draw(&mut self, bars: &str, pass: usize, at: At) -> Done {
         Ok(self.engine.draw(&frame(bars, at)?, pass, self.alignment)?)
     }
 }
@@ -75,17 +57,12 @@ impl Drawing {
 /// The frame of bars, separated by tabs: `NUMBER LINES`.
 fn frame(bars: &str, at: At) -> Result<Vec<Segment>, Bad> {
     let mut frame = Vec::new(at.alloc);
-    if !bars.is_empty() {
-        push_bars(&mut frame, bars, at)?;
+    for bar in bars.split('\t') {
+        if !bar.is_empty() {
+            frame.push(segment(bar, at)?)?;
+        }
     }
     Ok(frame)
-}
-
-fn push_bars(frame: &mut Vec<Segment>, bars: &str, at: At) -> Result<(), Bad> {
-    for bar in bars.split('\t') {
-        frame.push(segment(bar, at)?)?;
-    }
-    Ok(())
 }
 
 /// The lines of a bar, separated by `|`: an empty one, `~` and a text, or a bar.
@@ -108,8 +85,8 @@ fn line_of(line: &str, at: At) -> Result<LineType, Bad> {
 }
 
 /// Appends whether this is the text of a line: `is_text LINE`, a tab, and a text.
-pub fn is_text(rest: &str, at: At, got: &mut Got) -> Result<(), Bad> {
-    let (line, text) = rest.split_once('\t').unwrap_or((rest, ""));
+pub fn is_text(rest: &str, at: At, got: &mut Got) -> Done {
+    let (line, text) = tabbed(rest);
     let (line, text) = (line_of(line, at)?, unescaped(at.alloc, text)?);
     got.flag(line.is_text(text.as_str()));
     Ok(())

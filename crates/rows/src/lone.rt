@@ -1,122 +1,40 @@
-//! A lone bar on a screen.
-use crate::records::new_bar;
-use crate::terminals::Terminal;
+//! Bars without a board: a lone bar, and a bar's record alone.
 use indicatif_bar::lone::{LoneBar, LoneCall};
-use indicatif_bar::state::{BarCommand, ProgressFinish};
+use indicatif_bar::state::{Ask, BarCommand, ProgressFinish};
 use indicatif_bar::style::NoTracker;
-use indicatif_term::target::TermLike;
 use indicatif_text::columns::{Drawn, Moment, Refusal};
 use scripts::called;
-use scripts::got::{Bad, Got};
-use scripts::lone::{Bar, lone_call, read_bar, style_of};
-use scripts::row::{At, Words, headed, timed};
-use scripts::screen::{self, Behind, Screen, Target};
-use scripts::spelling::{flag, number};
-use std::rc::Rc;
+use scripts::commands::{command, finish};
+use scripts::got::{Bad, Done, Got};
+use scripts::lone::{Bar, bar_of, lone_call, push_ask, read_bar, style_of};
+use scripts::row::{At, Words, flag, headed, number, timed};
+use scripts::screen::Behind;
 
-type Lone = LoneBar<NoTracker, Behind>;
+/// A lone bar on the terminal of a screen.
+pub type Lone = LoneBar<NoTracker, Behind>;
 
 /// The answer of a call.
 type Answer = Result<Drawn, Refusal>;
 
-/// A bar on a screen.
-#[derive(Drop)]
-pub struct OnScreen {
-    bar: Lone,
-    screen: Rc<Screen>,
+/// `LEN BAR`: a bar with this length, or none.
+pub fn new_bar(words: &mut Words<'_>, at: At) -> Result<Box<Bar>, Bad> {
+    let len = words.optional()?;
+    bar_of(at, words.rest(), len)
 }
 
-/// `lone ROWS COLS RATE LEN BAR`: a bar on a new screen. A rate of 0 means no limit. `lone hidden LEN BAR`: a hidden one.
-pub fn begin(rest: &str, at: At) -> Result<Box<OnScreen>, Bad> {
-    let mut words = Words::of(rest);
-    let (screen, target) = screen::begin(&mut words, at)?;
-    let bar = new_bar(&mut words, at)?;
-    on_screen(bar, (screen, target), at)
-}
+// ---- a lone bar
 
-/// `shown ROWS COLS RATE`: this bar on a new screen.
-pub fn showing(bar: Box<Bar>, rest: &str, at: At) -> Result<Box<OnScreen>, Bad> {
-    let on = screen::begin(&mut Words::of(rest), at)?;
-    on_screen(bar, on, at)
-}
-
-fn on_screen(
-    bar: Box<Bar>,
-    (screen, target): (Rc<Screen>, Target),
-    at: At,
-) -> Result<Box<OnScreen>, Bad> {
-    let bar = LoneBar::new(Box::into_inner(bar), target.0);
-    at.boxed(OnScreen { bar, screen })
-}
-
-impl OnScreen {
-    /// Makes a step, or reads the screen or the bar.
-    pub fn step(&mut self, step: &str, at: At, got: &mut Got) -> Result<(), Bad> {
-        if screen::look_at(&self.screen, step, at, got)? || self.look(step, at, got)? {
-            return Ok(());
-        }
-        match headed(step) {
-            ("suspend" | "suspend_bytes", "") => self.suspend(step, at.now, got)?,
-            ("move", word) => self.bar.set_move_cursor(flag(word)?),
-            ("target", rest) => self.go_on(rest, at, got)?,
-            ("size", words) => self.resize(words)?,
-            ("run", calls) => push_answers(&self.bar.run(calls_of(calls, at)?)?, got),
-            _ => got.answer(answer(&mut self.bar, step, at)?),
-        }
-        Ok(())
+/// Makes a call, and appends its answer; `run CALL | CALL ..` makes calls as one list. Or reads the bar.
+pub fn step(bar: &mut Lone, step: &str, at: At, got: &mut Got) -> Done {
+    if read_bar(bar.bar(), step, at.now, got)? {
+        return Ok(());
     }
-
-    /// Reads the bar; whether the step is a reading.
-    fn look(&self, step: &str, at: At, got: &mut Got) -> Result<bool, Bad> {
-        match (step, self.bar.term()) {
-            ("hidden", _) => got.flag(self.bar.is_hidden()),
-            ("faults", Some(term)) => got.number(term.faults()),
-            ("faults", None) => got.text("-"),
-            _ => return read_bar(self.bar.bar(), step, at.now, got),
-        }
-        Ok(true)
+    match headed(step) {
+        ("move", word) => bar.set_move_cursor(flag(word)?),
+        ("run", calls) => push_answers(&bar.run(calls_of(calls, at)?)?, got),
+        _ => got.answer(answer(bar, step, at)?),
     }
-
-    /// `target ROWS COLS RATE`: sets a target on a new screen, and gives the rows on the old one.
-    fn go_on(&mut self, rest: &str, at: At, got: &mut Got) -> Result<(), Bad> {
-        let (screen, target) = screen::begin(&mut Words::of(rest), at)?;
-        drop(self.bar.set_draw_target(target.0));
-        got.text(self.screen.contents()?.as_str());
-        self.screen = screen;
-        Ok(())
-    }
-
-    /// `size ROWS COLS`: the bar's terminal gets another size, and the screen with it; on a hidden target nothing happens.
-    fn resize(&mut self, words: &str) -> Result<(), Bad> {
-        let (rows, cols) = screen::size(words)?;
-        self.bar.resize(rows, cols)?;
-        if !self.bar.is_hidden() {
-            self.screen.resize(rows, cols)?;
-        }
-        Ok(())
-    }
-
-    /// The answer, and the rows on the screen while the closure runs, or for `suspend_bytes` how many bytes were taken by then.
-    fn suspend(&mut self, step: &str, now: Moment, got: &mut Got) -> Result<(), Bad> {
-        let screen = &self.screen;
-        let (look, answer) = self.bar.suspend(now, || screen.look());
-        if step == "suspend" {
-            return look.push(answer, got);
-        }
-        got.answer(answer);
-        got.text(" ");
-        got.number(look.bytes);
-        Ok(())
-    }
-
-    /// The terminal, once the bar is gone.
-    pub fn ended(self) -> Result<Terminal, Bad> {
-        let OnScreen { bar, screen } = self;
-        match bar.into_term() {
-            Some(term) => Ok(Terminal { term, screen }),
-            None => Err(Bad::Step),
-        }
-    }
+    Ok(())
 }
 
 /// The answer of the bar to the call of a step.
@@ -162,10 +80,35 @@ fn calls_of(calls: &str, at: At) -> Result<Vec<(LoneCall<NoTracker>, Moment)>, B
 }
 
 fn push_answers(answers: &[Answer], got: &mut Got) {
-    let mut parting = "";
     for answer in answers {
-        got.text(parting);
+        got.between(" ");
         got.answer(*answer);
-        parting = " ";
     }
+}
+
+// ---- a record
+
+/// Makes a command of a record (`record LEN BAR`), and appends the draw that it asks for; or reads the bar.
+pub fn ask(bar: &mut Bar, step: &str, at: At, got: &mut Got) -> Done {
+    if read_bar(bar, step, at.now, got)? {
+        return Ok(());
+    }
+    match asked(bar, step, at)? {
+        Ok(ask) => push_ask(ask, got),
+        Err(refusal) => got.refusal(refusal),
+    }
+    Ok(())
+}
+
+/// The draw that a step of a bar asks for, or its refusal.
+fn asked(bar: &mut Bar, step: &str, at: At) -> Result<Result<Ask, Refusal>, Bad> {
+    let now = at.now;
+    Ok(match headed(step) {
+        ("absorb", sum) => Ok(bar.absorb(number(sum)?, now)),
+        ("with_elapsed", nanos) => bar.with_elapsed(number(nanos)?, now),
+        ("with_style", template) => bar.with_style(Box::into_inner(style_of(at, template)?), now),
+        ("finish_by", text) => bar.finish_by(&finish(at.alloc, text)?, now),
+        ("dropped", "") => bar.dropped(now),
+        _ => bar.apply(command(at.alloc, step)?, now),
+    })
 }

@@ -6,50 +6,40 @@
 //!
 //! The exit status is 1 if a row differed or a file had none, and 2 if a file can't be read or a stream fails.
 //!
-//! - `playing`: files, played line by line. `front`: what is played over `indicatif`. All that follows is played without it.
-//! - `world`: the world that steps are played on, and the module of a step.
-//! - `lone`, `boards`: a lone bar and a board on a screen. `records`: a bar's record. `terminals`: a terminal before a screen.
-//! - `recorded`: a board that keeps its history.
-//! - `slots`: the order of bars and their slots. `streams`: targets on streams. `program`: runs of `bars run`.
-//! - `formats`: texts of formatters. `columns`: columns, rows and pieces of texts. `templates`: templates, and words of styles.
-//!   `refusals`: numbers and texts of refusals.
-//! - `noted`: a board on a terminal in memory whose calls are read at the end.
-//! - `cells`: the cell terminal. `memory`: the terminal in memory. `engines`: the engine. `limiters`: limiters.
-//! - `styles`: styles and their builders. `lines`: lines of bars. `runs`: long texts, by their runs.
+//! - `world`: the world that steps are played on, and the module of a step. `front`: what is played over `indicatif`. All that follows is
+//!   played without it.
+//! - `screens`: what draws on a screen: `lone`, bars without a board; `boards`; `engines`; or a terminal alone.
+//! - `terminals`: the calls of a terminal, the terminal in memory, and the cell terminal. `targets`: targets on streams, and limiters.
+//! - `texts`: texts of formatters; columns, rows and pieces of texts. `templates`: templates, and words of styles. `refusals`: numbers and
+//!   texts of refusals. `styles`: styles and their builders, and lines of bars.
+//! - `program`: runs of `bars run`. `scripted`: a reader, a writer and a stream that do what a row says.
 #![tactic(auto)]
 
 mod boards;
-mod cells;
-mod columns;
 mod engines;
-mod formats;
 mod front;
-mod limiters;
-mod lines;
 mod lone;
-mod memory;
-mod noted;
-mod playing;
 mod program;
-mod recorded;
-mod records;
 mod refusals;
-mod runs;
-mod slots;
-mod streams;
+mod screens;
+mod scripted;
 mod styles;
+mod targets;
 mod templates;
 mod terminals;
+mod texts;
 mod world;
 
 use anyhow::{Context, Result};
 use indicatif::machine::Shares;
-use playing::play_file;
-use scripts::play::Tally;
+use scripts::got::Got;
+use scripts::play::{Player, Tally};
 use std::env::{self, Env};
-use std::fs::Files;
+use std::fs::{self, Files};
+use std::io::{self, BufRead, BufReader};
 use std::process::ExitCode;
 use std::random::RandomSource;
+use world::World;
 
 fn main(rt: HostRuntime) -> ExitCode {
     match play_all(rt) {
@@ -72,15 +62,47 @@ fn play_all<R: Shares + RandomSource + Env + Files + Print + Eprint>(rt: R) -> R
     Ok(tally)
 }
 
-/// Plays the rows of a file, and tells how many agreed. A file without rows has failed.
+/// Plays the rows of a file on a new world, over `indicatif` if the file stands in a folder `front`, and tells how many agreed. A file
+/// without rows has failed.
 fn tell_file<R: Shares + RandomSource + Files + Print + Eprint>(
     rt: R,
     path: &str,
-) -> Result<Tally> {
-    let Tally { passed, failed } = play_file(rt, path)?;
+) -> io::Result<Tally> {
+    let lines = BufReader::new(rt.alloc(), fs::open(&rt, path)?)?;
+    let is_front = path.starts_with("front/") || path.contains("/front/");
+    let Tally { passed, failed } = play_file(rt, path, lines, &mut World::new(rt, is_front))?;
     eprintln!(rt; "{path}: {passed} passed, {failed} failed")?;
     Ok(Tally {
         passed,
         failed: if passed == 0 { failed.max(1) } else { failed },
     })
+}
+
+/// Plays the rows of a file, and prints each that differs.
+fn play_file<R: Shares + RandomSource + Print, L: BufRead + Drop>(
+    rt: R,
+    path: &str,
+    lines: L,
+    world: &mut World<R>,
+) -> io::Result<Tally> {
+    let mut got = Got::new(rt.alloc());
+    let mut player = Player::new(rt.alloc(), path);
+    for line in lines.lines(rt.alloc()) {
+        if player.reads(line?.as_str())? {
+            play_row(world, player.steps(), &mut got);
+            player.judge(&rt, &got)?;
+        }
+    }
+    Ok(player.tally())
+}
+
+/// Makes steps one after another, with their results in `got`.
+fn play_row<R: Shares + RandomSource>(world: &mut World<R>, steps: &str, got: &mut Got) {
+    got.clear();
+    for step in steps.split("; ") {
+        got.begin();
+        if let Err(bad) = world.play(step, got) {
+            got.bad(bad);
+        }
+    }
 }

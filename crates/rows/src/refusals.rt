@@ -1,9 +1,8 @@
 //! The numbers and texts of refusals.
 use indicatif_text::columns::{Refusal, TemplateState};
 use indicatif_text::template::TemplateError;
-use scripts::got::{Bad, Got};
-use scripts::row::{At, headed};
-use scripts::spelling::unescaped;
+use scripts::got::{Bad, Done, Got};
+use scripts::row::{At, headed, unescaped};
 use std::io::ErrorKind;
 
 /// The refusals by their names, except that of a character in a template.
@@ -27,26 +26,24 @@ const NAMED: &[(&str, Refusal)] = &[
 ];
 
 /// Appends a refusal's number and its text: `refusal NAME`; `refusal Template C STATE`: that of a character.
-pub fn told(rest: &str, at: At, got: &mut Got) -> Result<(), Bad> {
+pub fn told(rest: &str, at: At, got: &mut Got) -> Done {
     let refusal = match rest.strip_prefix("Template ") {
         Some(rest) => unexpected(rest, at)?.into(),
         None => named(rest)?,
     };
     got.refusal(refusal);
-    got.text(" ");
-    got.number(refusal);
+    got.number(format_args!(" {refusal}"));
     Ok(())
 }
 
 /// Appends an error's text, and its refusal: `template_error NAME`, or `template_error C STATE`.
-pub fn of_template(rest: &str, at: At, got: &mut Got) -> Result<(), Bad> {
+pub fn of_template(rest: &str, at: At, got: &mut Got) -> Done {
     let error = match rest {
         "WidthTooLarge" => TemplateError::WidthTooLarge,
         "Memory" => TemplateError::Memory,
         rest => unexpected(rest, at)?,
     };
-    got.number(error);
-    got.text(" ");
+    got.number(format_args!("{error} "));
     got.refusal(error.into());
     Ok(())
 }
@@ -61,10 +58,9 @@ fn unexpected(rest: &str, at: At) -> Result<TemplateError, Bad> {
         "Width" => TemplateState::Width,
         _ => return Err(Bad::Step),
     };
-    match unescaped(at.alloc, spelled)?.as_str().chars().next() {
-        Some(next) => Ok(TemplateError::Unexpected { next, state }),
-        None => Err(Bad::Step),
-    }
+    let next = unescaped(at.alloc, spelled)?.as_str().chars().next();
+    let next = next.ok_or(Bad::Step)?;
+    Ok(TemplateError::Unexpected { next, state })
 }
 
 fn named(name: &str) -> Result<Refusal, Bad> {

@@ -1,13 +1,12 @@
 //! Templates, and the words of styles.
 use indicatif_text::columns::Style;
 use indicatif_text::template::{Alignment, Part, Template};
-use scripts::got::{Bad, Got};
-use scripts::row::{At, headed};
-use scripts::spelling::unescaped;
+use scripts::got::{Bad, Done, Got};
+use scripts::row::{At, headed, unescaped};
 
 /// Appends the parts of `parse TEMPLATE`, separated by ` | `: `L TEXT`, `N` for a newline, or `P KEY ALIGNMENT WIDTH ! STYLE STYLE`, with
 /// `-` for what isn't there and styles as the numbers that they write.
-pub fn parsed(rest: &str, at: At, got: &mut Got) -> Result<(), Bad> {
+pub fn parsed(rest: &str, at: At, got: &mut Got) -> Done {
     let text = unescaped(at.alloc, rest)?;
     match Template::parse(at.alloc, text.as_str()) {
         Ok(template) => push_parts(&template, at, got),
@@ -15,18 +14,11 @@ pub fn parsed(rest: &str, at: At, got: &mut Got) -> Result<(), Bad> {
     }
 }
 
-fn push_parts(template: &Template, at: At, got: &mut Got) -> Result<(), Bad> {
-    let mut follows = false;
+fn push_parts(template: &Template, at: At, got: &mut Got) -> Done {
     for part in template.parts() {
-        if follows {
-            got.text(" | ");
-        }
-        follows = true;
+        got.between(" | ");
         match part {
-            Part::Literal(text) => {
-                got.text("L ");
-                got.text(text);
-            }
+            Part::Literal(text) => got.number(format_args!("L {text}")),
             Part::NewLine => got.text("N"),
             Part::Placeholder {
                 key,
@@ -36,9 +28,8 @@ fn push_parts(template: &Template, at: At, got: &mut Got) -> Result<(), Bad> {
                 style,
                 alternative,
             } => {
-                got.text("P ");
-                got.text(key);
-                push_layout(align, width, got);
+                got.number(format_args!("P {key} {} ", sign_of(align)));
+                got.optional(width);
                 got.text(if truncate { " !" } else { " -" });
                 push_numbers(style, at, got)?;
                 push_numbers(alternative, at, got)?;
@@ -48,20 +39,16 @@ fn push_parts(template: &Template, at: At, got: &mut Got) -> Result<(), Bad> {
     Ok(())
 }
 
-fn push_layout(align: Alignment, width: Option<u16>, got: &mut Got) {
-    got.text(match align {
-        Alignment::Left => " < ",
-        Alignment::Center => " ^ ",
-        Alignment::Right => " > ",
-    });
-    match width {
-        None => got.text("-"),
-        Some(width) => got.number(width),
+fn sign_of(align: Alignment) -> char {
+    match align {
+        Alignment::Left => '<',
+        Alignment::Center => '^',
+        Alignment::Right => '>',
     }
 }
 
 /// Appends the numbers of a style, separated by commas: those that it writes around an empty text, except the last.
-fn push_numbers(style: Option<Style>, at: At, got: &mut Got) -> Result<(), Bad> {
+fn push_numbers(style: Option<Style>, at: At, got: &mut Got) -> Done {
     let mut written = String::new(at.alloc);
     if let Some(style) = style {
         style.apply_to(true, "", &mut written)?;
@@ -92,7 +79,7 @@ fn push_sequences(written: &str, got: &mut Got) {
 /// - `painted WORDS TEXT`, `unpainted WORDS TEXT`: a text in this style, with colours and without.
 /// - `opened WORDS`: whether sequences are written, and the text.
 /// - `same_style WORDS WORDS`; `no_style WORDS`: whether the style is that of no words.
-pub fn styled(name: &str, rest: &str, at: At, got: &mut Got) -> Result<(), Bad> {
+pub fn styled(name: &str, rest: &str, at: At, got: &mut Got) -> Done {
     let (words, rest) = headed(rest);
     let style = Style::from_dotted_str(words);
     match name {

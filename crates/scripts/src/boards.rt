@@ -1,9 +1,9 @@
 //! Calls of a board, their answers, and readings of a board.
-use crate::commands::command;
+use crate::commands::{command, push_command};
 use crate::got::{Bad, Got};
 use crate::lone::bar_of;
-use crate::row::{At, Words};
-use crate::spelling::{number, unescaped};
+use crate::row::{At, Words, headed};
+use crate::spelling::{number, optional, unescaped};
 use indicatif_bar::style::NoTracker;
 use indicatif_board::multi::{Answer, BarId, Call, Candidate, InsertLocation};
 use indicatif_term::target::MultiProgressAlignment;
@@ -30,38 +30,33 @@ pub fn of_bar(text: &str) -> Option<(BarId, &str)> {
     Some((bar_id(bar).ok()?, rest))
 }
 
-/// The call of a step: one of the board, or after a bar's number and `: ` one of that bar.
+/// The call of a step: `clear`, `redraw`, `top`, `bottom`, `log TEXT`, an insertion; or after a bar's number and `: ` one of that bar.
 pub fn board_call(at: At, text: &str) -> Result<Call<NoTracker>, Bad> {
-    match of_bar(text) {
-        Some((id, rest)) => bar_call(at.alloc, id, rest),
-        None => call(at, text),
+    if let Some((id, rest)) = of_bar(text) {
+        return bar_call(at.alloc, id, rest);
     }
+    Ok(match headed(text) {
+        ("clear", "") => Call::Clear,
+        ("redraw", "") => Call::Redraw,
+        ("top", "") => Call::Align(MultiProgressAlignment::Top),
+        ("bottom", "") => Call::Align(MultiProgressAlignment::Bottom),
+        ("log", text) => Call::Log(unescaped(at.alloc, text)?),
+        (name, rest) => insertion(at, name, rest)?,
+    })
 }
 
 /// A call of a bar: `drop`, `remove`, `log TEXT`, or a command.
 fn bar_call(alloc: Global, id: BarId, text: &str) -> Result<Call<NoTracker>, Bad> {
-    match (text, text.split_once(' ')) {
-        ("drop", _) => Ok(Call::Drop(id)),
-        ("remove", _) => Ok(Call::Remove(id)),
-        (_, Some(("log", rest))) => Ok(Call::BarLog(id, unescaped(alloc, rest)?)),
-        _ => Ok(Call::Bar(id, command(alloc, text)?)),
-    }
+    Ok(match headed(text) {
+        ("drop", "") => Call::Drop(id),
+        ("remove", "") => Call::Remove(id),
+        ("log", text) => Call::BarLog(id, unescaped(alloc, text)?),
+        _ => Call::Bar(id, command(alloc, text)?),
+    })
 }
 
-fn call(at: At, text: &str) -> Result<Call<NoTracker>, Bad> {
-    match (text, text.split_once(' ')) {
-        ("clear", _) => Ok(Call::Clear),
-        ("redraw", _) => Ok(Call::Redraw),
-        ("top", _) => Ok(Call::Align(MultiProgressAlignment::Top)),
-        ("bottom", _) => Ok(Call::Align(MultiProgressAlignment::Bottom)),
-        (_, Some(("log", rest))) => Ok(Call::Log(unescaped(at.alloc, rest)?)),
-        (_, Some((name, rest))) => insertion(at, name, rest),
-        _ => Err(Bad::Step),
-    }
-}
-
-/// The place of a step, as in `add BAR`, `insert N BAR`, `back N BAR`, `before N BAR` and `after N BAR`; and the bar.
-pub fn placed<'a>(name: &str, rest: &'a str) -> Result<(InsertLocation, &'a str), Bad> {
+/// The call that inserts a bar: `add BAR`, `insert N BAR`, `back N BAR`, `before N BAR`, `after N BAR`.
+fn insertion(at: At, name: &str, rest: &str) -> Result<Call<NoTracker>, Bad> {
     let mut words = Words::of(rest);
     let place = match name {
         "add" => InsertLocation::End,
@@ -71,13 +66,7 @@ pub fn placed<'a>(name: &str, rest: &'a str) -> Result<(InsertLocation, &'a str)
         "after" => InsertLocation::After(bar_id(words.word())?),
         _ => return Err(Bad::Step),
     };
-    Ok((place, words.rest()))
-}
-
-/// The call that inserts a bar.
-fn insertion(at: At, name: &str, rest: &str) -> Result<Call<NoTracker>, Bad> {
-    let (place, bar) = placed(name, rest)?;
-    let candidate = candidate(at, bar)?;
+    let candidate = candidate(at, words.rest())?;
     Ok(Call::Insert {
         at: place,
         candidate,
@@ -85,20 +74,16 @@ fn insertion(at: At, name: &str, rest: &str) -> Result<Call<NoTracker>, Bad> {
 }
 
 /// What to insert: after `=` a bar that may be there, or a new one, after `len=LEN ` with that length.
-pub fn candidate(at: At, text: &str) -> Result<Candidate<NoTracker>, Bad> {
-    match (text.strip_prefix('='), text.strip_prefix("len=")) {
-        (Some(id), _) => Ok(Candidate::Member(bar_id(id)?)),
-        (_, Some(rest)) => {
-            let mut words = Words::of(rest);
-            let len = words.number()?;
-            new_bar(at, words.rest(), Some(len))
-        }
-        (None, None) => new_bar(at, text, None),
+fn candidate(at: At, text: &str) -> Result<Candidate<NoTracker>, Bad> {
+    if let Some(id) = text.strip_prefix('=') {
+        return Ok(Candidate::Member(bar_id(id)?));
     }
-}
-
-fn new_bar(at: At, bar: &str, len: Option<u64>) -> Result<Candidate<NoTracker>, Bad> {
-    Ok(Candidate::New(Box::into_inner(bar_of(at, bar, len)?)))
+    let (len, bar) = match text.strip_prefix("len=") {
+        Some(rest) => headed(rest),
+        None => ("-", text),
+    };
+    let bar = bar_of(at, bar, optional(len)?)?;
+    Ok(Candidate::New(Box::into_inner(bar)))
 }
 
 /// Appends the answer of a call: a bar's number, `done`, or as for a lone bar's call.
@@ -109,4 +94,62 @@ pub fn push_answer(answer: Answer, got: &mut Got) {
         Answer::Drawn(drawn) => got.answer(Ok(drawn)),
         Answer::Refused(refusal) => got.refusal(refusal),
     }
+}
+
+// ---- calls as texts: a style by its last text, a new bar by its message
+
+/// Appends a call.
+pub fn push_call(call: &Call<NoTracker>, got: &mut Got) {
+    match call {
+        Call::Insert { at, candidate } => push_insertion(*at, candidate, got),
+        Call::Remove(id) => push_about(*id, "remove", got),
+        Call::Drop(id) => push_about(*id, "drop", got),
+        Call::Log(text) => got.number(format_args!("log {text}")),
+        Call::BarLog(id, text) => {
+            push_about(*id, "log ", got);
+            got.text(text.as_str());
+        }
+        Call::Bar(id, command) => {
+            push_about(*id, "", got);
+            push_command(command, got);
+        }
+        Call::Clear => got.text("clear"),
+        Call::Redraw => got.text("redraw"),
+        Call::Align(MultiProgressAlignment::Top) => got.text("top"),
+        Call::Align(MultiProgressAlignment::Bottom) => got.text("bottom"),
+    }
+}
+
+/// Appends the number of a bar, with `x` before it for one of another board.
+pub fn push_id(id: BarId, got: &mut Got) {
+    got.text(if id.mark == MARK { "" } else { "x" });
+    got.number(id.number);
+}
+
+fn push_about(id: BarId, name: &str, got: &mut Got) {
+    push_id(id, got);
+    got.number(format_args!(": {name}"));
+}
+
+fn push_insertion(at: InsertLocation, candidate: &Candidate<NoTracker>, got: &mut Got) {
+    match at {
+        InsertLocation::End => got.text("add "),
+        InsertLocation::Index(index) => got.number(format_args!("insert {index} ")),
+        InsertLocation::FromBack(count) => got.number(format_args!("back {count} ")),
+        InsertLocation::Before(id) => push_anchor("before ", id, got),
+        InsertLocation::After(id) => push_anchor("after ", id, got),
+    }
+    match candidate {
+        Candidate::New(bar) => got.text(bar.message()),
+        Candidate::Member(id) => {
+            got.text("=");
+            push_id(*id, got);
+        }
+    }
+}
+
+fn push_anchor(name: &str, id: BarId, got: &mut Got) {
+    got.text(name);
+    push_id(id, got);
+    got.text(" ");
 }

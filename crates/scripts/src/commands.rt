@@ -8,128 +8,76 @@ use std::alloc::Global;
 
 type Command = BarCommand<NoTracker>;
 
-/// The commands with a text.
-const WORDED: [&str; 6] = [
-    "set_message",
-    "set_prefix",
-    "with_message",
-    "with_prefix",
-    "finish_with_message",
-    "abandon_with_message",
-];
-
-/// The command of a step.
+/// The command of a step. `with_style` and `with_elapsed` are the names of builders alone.
 pub fn command(alloc: Global, step: &str) -> Result<Command, Bad> {
-    match step.split_once(' ') {
-        None => bare(step),
-        Some((name, rest)) => with_argument(alloc, name, rest),
-    }
-}
-
-/// The command with this name, which has no arguments.
-fn bare(name: &str) -> Result<Command, Bad> {
-    match name {
-        "tick" => Ok(BarCommand::Tick),
-        "ticker_tick" => Ok(BarCommand::TickerTick),
-        "unset_length" => Ok(BarCommand::UnsetLength),
-        "reset_eta" => Ok(BarCommand::ResetEta),
-        "reset_elapsed" => Ok(BarCommand::ResetElapsed),
-        "reset" => Ok(BarCommand::Reset),
-        "finish_using_style" => Ok(BarCommand::FinishUsingStyle),
-        "force_draw" => Ok(BarCommand::ForceDraw),
-        _ => Ok(BarCommand::Finish(plain_finish(name)?)),
-    }
-}
-
-/// A finish without a text.
-fn plain_finish(name: &str) -> Result<ProgressFinish, Bad> {
-    match name {
-        "finish" => Ok(ProgressFinish::AndLeave),
-        "finish_and_clear" => Ok(ProgressFinish::AndClear),
-        "abandon" => Ok(ProgressFinish::Abandon),
-        _ => Err(Bad::Step),
-    }
+    Ok(match headed(step) {
+        ("tick", "") => BarCommand::Tick,
+        ("ticker_tick", "") => BarCommand::TickerTick,
+        ("set_ticker", is_on) => BarCommand::SetTicker(flag(is_on)?),
+        ("unset_length", "") => BarCommand::UnsetLength,
+        ("reset_eta", "") => BarCommand::ResetEta,
+        ("reset_elapsed", "") => BarCommand::ResetElapsed,
+        ("reset", "") => BarCommand::Reset,
+        ("finish_using_style", "") => BarCommand::FinishUsingStyle,
+        ("force_draw", "") => BarCommand::ForceDraw,
+        ("inc", n) => BarCommand::Inc(number(n)?),
+        ("dec", n) => BarCommand::Dec(number(n)?),
+        ("set_position", n) => BarCommand::SetPosition(number(n)?),
+        ("with_position", n) => BarCommand::WithPosition(number(n)?),
+        ("set_length", n) => BarCommand::SetLength(number(n)?),
+        ("inc_length", n) => BarCommand::IncLength(number(n)?),
+        ("dec_length", n) => BarCommand::DecLength(number(n)?),
+        ("set_elapsed" | "with_elapsed", n) => BarCommand::SetElapsed(number(n)?),
+        ("with_tab_width", n) => BarCommand::WithTabWidth(number(n)?),
+        ("set_tab_width", n) => BarCommand::SetTabWidth(number(n)?),
+        ("update", words) => BarCommand::Update(change(words)?),
+        ("set_message", text) => BarCommand::SetMessage(unescaped(alloc, text)?),
+        ("set_prefix", text) => BarCommand::SetPrefix(unescaped(alloc, text)?),
+        ("with_message", text) => BarCommand::WithMessage(unescaped(alloc, text)?),
+        ("with_prefix", text) => BarCommand::WithPrefix(unescaped(alloc, text)?),
+        ("set_style" | "with_style", text) => BarCommand::SetStyle(styled(alloc, text)?),
+        ("with_finish", text) => BarCommand::WithFinish(finish(alloc, text)?),
+        _ => BarCommand::Finish(finish(alloc, step)?),
+    })
 }
 
 /// The finish that a text spells, with its message.
 pub fn finish(alloc: Global, text: &str) -> Result<ProgressFinish, Bad> {
-    match text.split_once(' ') {
-        None => plain_finish(text),
-        Some((name, message)) => finish_saying(name, unescaped(alloc, message)?),
-    }
-}
-
-fn finish_saying(name: &str, message: String) -> Result<ProgressFinish, Bad> {
-    match name {
-        "finish_with_message" => Ok(ProgressFinish::WithMessage(message)),
-        "abandon_with_message" => Ok(ProgressFinish::AbandonWithMessage(message)),
-        _ => Err(Bad::Step),
-    }
-}
-
-fn with_argument(alloc: Global, name: &str, rest: &str) -> Result<Command, Bad> {
-    match name {
-        "with_finish" => Ok(BarCommand::WithFinish(finish(alloc, rest)?)),
-        "update" => updating(rest),
-        "set_ticker" => Ok(BarCommand::SetTicker(flag(rest)?)),
-        "set_style" => styled(alloc, rest),
-        _ if WORDED.contains(&name) => saying(name, unescaped(alloc, rest)?),
-        _ => by_number(name, number(rest)?),
-    }
-}
-
-/// The style with a template; after `chars=CHARS ` with these progress characters.
-fn styled(alloc: Global, text: &str) -> Result<Command, Bad> {
-    let Some(rest) = text.strip_prefix("chars=") else {
-        return Ok(BarCommand::SetStyle(templated(alloc, text)?));
-    };
-    let (chars, template) = headed(rest);
-    let chars = unescaped(alloc, chars)?;
-    let style = templated(alloc, template)?.progress_chars(chars.as_str())?;
-    Ok(BarCommand::SetStyle(style))
-}
-
-fn templated(alloc: Global, template: &str) -> Result<ProgressStyle<NoTracker>, Bad> {
-    let template = unescaped(alloc, template)?;
-    Ok(ProgressStyle::with_template(alloc, template.as_str())?)
-}
-
-fn saying(name: &str, text: String) -> Result<Command, Bad> {
-    match name {
-        "set_message" => Ok(BarCommand::SetMessage(text)),
-        "set_prefix" => Ok(BarCommand::SetPrefix(text)),
-        "with_message" => Ok(BarCommand::WithMessage(text)),
-        "with_prefix" => Ok(BarCommand::WithPrefix(text)),
-        _ => Ok(BarCommand::Finish(finish_saying(name, text)?)),
-    }
-}
-
-/// The command with this name and a number.
-fn by_number(name: &str, number: u64) -> Result<Command, Bad> {
-    match name {
-        "inc" => Ok(BarCommand::Inc(number)),
-        "dec" => Ok(BarCommand::Dec(number)),
-        "set_position" => Ok(BarCommand::SetPosition(number)),
-        "with_position" => Ok(BarCommand::WithPosition(number)),
-        "set_length" => Ok(BarCommand::SetLength(number)),
-        "inc_length" => Ok(BarCommand::IncLength(number)),
-        "dec_length" => Ok(BarCommand::DecLength(number)),
-        "set_elapsed" => Ok(BarCommand::SetElapsed(number)),
-        "with_tab_width" => Ok(BarCommand::WithTabWidth(number as usize)),
-        "set_tab_width" => Ok(BarCommand::SetTabWidth(number as usize)),
-        _ => Err(Bad::Step),
-    }
+    Ok(match headed(text) {
+        ("finish", "") => ProgressFinish::AndLeave,
+        ("finish_and_clear", "") => ProgressFinish::AndClear,
+        ("abandon", "") => ProgressFinish::Abandon,
+        ("finish_with_message", text) => ProgressFinish::WithMessage(unescaped(alloc, text)?),
+        ("abandon_with_message", text) => {
+            ProgressFinish::AbandonWithMessage(unescaped(alloc, text)?)
+        }
+        _ => return Err(Bad::Step),
+    })
 }
 
 /// An update to a position and a length; `-` leaves one as it is.
-fn updating(text: &str) -> Result<Command, Bad> {
-    let Some((pos, len)) = text.split_once(' ') else {
-        return Err(Bad::Step);
-    };
-    Ok(BarCommand::Update(Change {
+fn change(text: &str) -> Result<Change, Bad> {
+    let (pos, len) = headed(text);
+    Ok(Change {
         pos: optional(pos)?,
         len: optional(len)?,
-    }))
+    })
+}
+
+/// The style with a template; after `chars=CHARS ` with these progress characters.
+fn styled(alloc: Global, text: &str) -> Result<ProgressStyle<NoTracker>, Bad> {
+    let Some(rest) = text.strip_prefix("chars=") else {
+        return templated(alloc, text);
+    };
+    let (chars, template) = headed(rest);
+    let chars = unescaped(alloc, chars)?;
+    Ok(templated(alloc, template)?.progress_chars(chars.as_str())?)
+}
+
+/// The style with a template with escapes.
+pub fn templated(alloc: Global, template: &str) -> Result<ProgressStyle<NoTracker>, Bad> {
+    let template = unescaped(alloc, template)?;
+    Ok(ProgressStyle::with_template(alloc, template.as_str())?)
 }
 
 // ---- calls by their names
@@ -175,32 +123,28 @@ macro_rules! called {
 
 // ---- values as texts: a style by its last text
 
-fn push_text(name: &str, text: &str, got: &mut Got) {
-    got.text(name);
-    got.text(" ");
-    got.text(text);
-}
-
-/// Appends a name, a space and a number.
-pub fn push_number(name: &str, number: u64, got: &mut Got) {
-    got.text(name);
-    got.text(" ");
-    got.number(number);
-}
-
 /// Appends a command.
 pub fn push_command(command: &Command, got: &mut Got) {
     match command {
-        BarCommand::Inc(n) => push_number("inc", *n, got),
-        BarCommand::Dec(n) => push_number("dec", *n, got),
-        BarCommand::SetPosition(n) => push_number("set_position", *n, got),
-        BarCommand::WithPosition(n) => push_number("with_position", *n, got),
-        BarCommand::SetLength(n) => push_number("set_length", *n, got),
-        BarCommand::IncLength(n) => push_number("inc_length", *n, got),
-        BarCommand::DecLength(n) => push_number("dec_length", *n, got),
-        BarCommand::SetElapsed(n) => push_number("set_elapsed", *n, got),
-        BarCommand::WithTabWidth(n) => push_number("with_tab_width", *n as u64, got),
-        BarCommand::SetTabWidth(n) => push_number("set_tab_width", *n as u64, got),
+        BarCommand::Tick => got.text("tick"),
+        BarCommand::TickerTick => got.text("ticker_tick"),
+        BarCommand::SetTicker(is_on) => got.number(format_args!("set_ticker {}", u8::from(*is_on))),
+        BarCommand::UnsetLength => got.text("unset_length"),
+        BarCommand::ResetEta => got.text("reset_eta"),
+        BarCommand::ResetElapsed => got.text("reset_elapsed"),
+        BarCommand::Reset => got.text("reset"),
+        BarCommand::FinishUsingStyle => got.text("finish_using_style"),
+        BarCommand::ForceDraw => got.text("force_draw"),
+        BarCommand::Inc(n) => got.number(format_args!("inc {n}")),
+        BarCommand::Dec(n) => got.number(format_args!("dec {n}")),
+        BarCommand::SetPosition(n) => got.number(format_args!("set_position {n}")),
+        BarCommand::WithPosition(n) => got.number(format_args!("with_position {n}")),
+        BarCommand::SetLength(n) => got.number(format_args!("set_length {n}")),
+        BarCommand::IncLength(n) => got.number(format_args!("inc_length {n}")),
+        BarCommand::DecLength(n) => got.number(format_args!("dec_length {n}")),
+        BarCommand::SetElapsed(n) => got.number(format_args!("set_elapsed {n}")),
+        BarCommand::WithTabWidth(n) => got.number(format_args!("with_tab_width {n}")),
+        BarCommand::SetTabWidth(n) => got.number(format_args!("set_tab_width {n}")),
         BarCommand::Update(change) => push_change(*change, got),
         _ => push_worded(command, got),
     }
@@ -214,46 +158,31 @@ fn push_change(change: Change, got: &mut Got) {
 }
 
 fn push_worded(command: &Command, got: &mut Got) {
-    match command {
-        BarCommand::SetMessage(text) => push_text("set_message", text.as_str(), got),
-        BarCommand::SetPrefix(text) => push_text("set_prefix", text.as_str(), got),
-        BarCommand::WithMessage(text) => push_text("with_message", text.as_str(), got),
-        BarCommand::WithPrefix(text) => push_text("with_prefix", text.as_str(), got),
-        BarCommand::SetStyle(style) => push_text("set_style", style.get_final_tick_str(), got),
-        BarCommand::Finish(finish) => push_finish(finish, got),
+    let (name, text) = match command {
+        BarCommand::SetMessage(text) => ("set_message", text.as_str()),
+        BarCommand::SetPrefix(text) => ("set_prefix", text.as_str()),
+        BarCommand::WithMessage(text) => ("with_message", text.as_str()),
+        BarCommand::WithPrefix(text) => ("with_prefix", text.as_str()),
+        BarCommand::SetStyle(style) => ("set_style", style.get_final_tick_str()),
+        BarCommand::Finish(finish) => finish_of(finish),
         BarCommand::WithFinish(finish) => {
             got.text("with_finish ");
-            push_finish(finish, got);
+            finish_of(finish)
         }
-        _ => got.text(name_of(command)),
-    }
+        _ => ("another command", ""),
+    };
+    got.text(name);
+    got.text(if text.is_empty() { "" } else { " " });
+    got.text(text);
 }
 
-fn push_finish(finish: &ProgressFinish, got: &mut Got) {
+/// The name and the text of a finish.
+fn finish_of(finish: &ProgressFinish) -> (&'static str, &str) {
     match finish {
-        ProgressFinish::AndLeave => got.text("finish"),
-        ProgressFinish::AndClear => got.text("finish_and_clear"),
-        ProgressFinish::Abandon => got.text("abandon"),
-        ProgressFinish::WithMessage(text) => push_text("finish_with_message", text.as_str(), got),
-        ProgressFinish::AbandonWithMessage(text) => {
-            push_text("abandon_with_message", text.as_str(), got);
-        }
-    }
-}
-
-/// The name of a command without arguments.
-fn name_of(command: &Command) -> &'static str {
-    match command {
-        BarCommand::Tick => "tick",
-        BarCommand::TickerTick => "ticker_tick",
-        BarCommand::SetTicker(true) => "set_ticker 1",
-        BarCommand::SetTicker(false) => "set_ticker 0",
-        BarCommand::UnsetLength => "unset_length",
-        BarCommand::ResetEta => "reset_eta",
-        BarCommand::ResetElapsed => "reset_elapsed",
-        BarCommand::Reset => "reset",
-        BarCommand::FinishUsingStyle => "finish_using_style",
-        BarCommand::ForceDraw => "force_draw",
-        _ => "another command",
+        ProgressFinish::AndLeave => ("finish", ""),
+        ProgressFinish::AndClear => ("finish_and_clear", ""),
+        ProgressFinish::Abandon => ("abandon", ""),
+        ProgressFinish::WithMessage(text) => ("finish_with_message", text.as_str()),
+        ProgressFinish::AbandonWithMessage(text) => ("abandon_with_message", text.as_str()),
     }
 }

@@ -32,6 +32,9 @@ impl<V: Drop> From<AllocFailed<V>> for Bad {
     }
 }
 
+/// A step that was made, or why it has no result.
+pub type Done = Result<(), Bad>;
+
 /// The results of steps, as one text, separated by `; `. If a step has none, the text says why. Want of memory is kept, and makes the row
 /// differ.
 #[derive(Drop)]
@@ -109,10 +112,27 @@ impl Got {
     }
 
     /// Appends a number, or `-`.
-    pub fn optional(&mut self, value: Option<u64>) {
+    pub fn optional<D: Display + Drop>(&mut self, value: Option<D>) {
+        self.number_or(value, "-");
+    }
+
+    /// Appends a number, or this text if there is none.
+    pub fn number_or<D: Display + Drop>(&mut self, value: Option<D>, none: &str) {
         match value {
             Some(value) => self.number(value),
-            None => self.text("-"),
+            None => self.text(none),
+        }
+    }
+
+    /// Appends two numbers: a row and a column, or rows and columns.
+    pub fn pair(&mut self, (one, other): (u16, u16)) {
+        self.number(format_args!("{one} {other}"));
+    }
+
+    /// Appends this text, unless the step has no result yet: it stands between the parts of a result.
+    pub fn between(&mut self, parting: &str) {
+        if !self.is_new {
+            self.text(parting);
         }
     }
 
@@ -172,11 +192,9 @@ impl Got {
 
     /// Appends numbers, separated by spaces.
     pub fn numbers(&mut self, numbers: &[u64]) {
-        let mut parting = "";
         for number in numbers {
-            self.text(parting);
+            self.between(" ");
             self.number(*number);
-            parting = " ";
         }
     }
 
@@ -193,9 +211,7 @@ impl Got {
             if byte.is_ascii() {
                 self.number(char::from(*byte));
             } else {
-                self.text("<");
-                self.number(*byte);
-                self.text(">");
+                self.number(format_args!("<{}>", *byte));
             }
         }
     }

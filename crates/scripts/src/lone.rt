@@ -1,5 +1,5 @@
 //! Calls of a lone bar, bars in rows, and readings of a bar.
-use crate::commands::command;
+use crate::commands::{self, command};
 use crate::got::{Bad, Got};
 use crate::row::{At, headed};
 use crate::spelling::{number, unescaped};
@@ -20,16 +20,13 @@ pub fn bar_of(at: At, text: &str, len: Option<u64>) -> Result<Box<Bar>, Bad> {
         return at.boxed(BarState::new(at.alloc, len, at.now)?);
     }
     match text.strip_prefix('\'') {
-        Some(message) => saying(at, message, len),
+        Some(message) => {
+            let mut bar = templated(at, "{msg}", len)?;
+            bar.with_message(unescaped(at.alloc, message)?.as_str(), at.now)?;
+            Ok(bar)
+        }
         None => templated(at, text, len),
     }
-}
-
-fn saying(at: At, message: &str, len: Option<u64>) -> Result<Box<Bar>, Bad> {
-    let message = unescaped(at.alloc, message)?;
-    let mut bar = templated(at, "{msg}", len)?;
-    bar.with_message(message.as_str(), at.now)?;
-    Ok(bar)
 }
 
 fn templated(at: At, template: &str, len: Option<u64>) -> Result<Box<Bar>, Bad> {
@@ -39,8 +36,7 @@ fn templated(at: At, template: &str, len: Option<u64>) -> Result<Box<Bar>, Bad> 
 
 /// The style with a template with escapes.
 pub fn style_of(at: At, template: &str) -> Result<Box<ProgressStyle<NoTracker>>, Bad> {
-    let template = unescaped(at.alloc, template)?;
-    at.boxed(ProgressStyle::with_template(at.alloc, template.as_str())?)
+    at.boxed(commands::templated(at.alloc, template)?)
 }
 
 /// The call of a step: `clear`, `log TEXT`, or a command of the bar.
@@ -60,6 +56,7 @@ pub fn read_bar(bar: &Bar, text: &str, now: Moment, got: &mut Got) -> Result<boo
     match headed(text) {
         ("message", "") => got.text(bar.message()),
         ("prefix", "") => got.text(bar.prefix()),
+        ("last_tick", "") => got.text(bar.style().get_final_tick_str()),
         ("tab_width", "") => got.number(bar.tab_width()),
         ("state", "") => got.text(name_of(bar, now)?),
         ("pos", "") => got.number(state.pos()),
@@ -67,7 +64,10 @@ pub fn read_bar(bar: &Bar, text: &str, now: Moment, got: &mut Got) -> Result<boo
         ("ticks", "") => got.number(state.ticks()),
         ("finished", "") => got.flag(state.is_finished()),
         ("reached", "") => push_reached(state, got),
-        ("fraction", "") => push_fraction(state.fraction(), got),
+        ("fraction", "") => {
+            let Fraction { num, den } = state.fraction();
+            got.number(format_args!("{num}/{den}"));
+        }
         ("rate", "") => push_rate(state.per_sec(now), got),
         ("per_sec", "") => push_speed(state.per_sec(now), got),
         ("eta", "") => got.number(state.eta(now)),
@@ -100,34 +100,22 @@ fn name_of(bar: &Bar, now: Moment) -> Result<&'static str, Bad> {
 
 /// Appends the position, the length, the ticks, and whether the bar is finished, separated by spaces.
 fn push_reached(state: &ProgressState, got: &mut Got) {
-    got.number(state.pos());
-    got.text(" ");
+    got.number(format_args!("{} ", state.pos()));
     got.optional(state.len());
-    got.text(" ");
-    got.number(state.ticks());
-    got.text(" ");
+    got.number(format_args!(" {} ", state.ticks()));
     got.flag(state.is_finished());
-}
-
-fn push_fraction(fraction: Fraction, got: &mut Got) {
-    got.number(fraction.num);
-    got.text("/");
-    got.number(fraction.den);
 }
 
 /// Appends a rate: steps, `/`, nanoseconds.
 pub fn push_rate(rate: Rate, got: &mut Got) {
-    got.number(rate.steps);
-    got.text("/");
-    got.number(rate.nanos);
+    got.number(format_args!("{}/{}", rate.steps, rate.nanos));
 }
 
 /// Appends a rate, or `0` if there are no steps.
 fn push_speed(rate: Rate, got: &mut Got) {
-    if rate.steps == 0 {
-        got.text("0");
-    } else {
-        push_rate(rate, got);
+    match rate.steps {
+        0 => got.text("0"),
+        _ => push_rate(rate, got),
     }
 }
 

@@ -26,12 +26,8 @@ impl Tally {
 
     /// Counts a row.
     fn count(&mut self, agrees: bool) {
-        let counted = if agrees {
-            &mut self.passed
-        } else {
-            &mut self.failed
-        };
-        *counted = counted.saturating_add(1);
+        self.passed = self.passed.saturating_add(u64::from(agrees));
+        self.failed = self.failed.saturating_add(u64::from(!agrees));
     }
 }
 

@@ -1,6 +1,6 @@
 //! A line of a file, its steps, and the words of a step.
 use crate::got::Bad;
-use crate::spelling::{number, optional, unescaped};
+pub use crate::spelling::{Escaped, flag, number, optional, unescaped, unescaped_bytes};
 use indicatif_text::columns::Moment;
 use std::alloc::Global;
 use std::str::FromStr;
@@ -60,6 +60,11 @@ pub fn timed(step: &str) -> (&str, Option<Moment>) {
 /// The first word of a text, and the text after the space.
 pub fn headed(text: &str) -> (&str, &str) {
     text.split_once(' ').unwrap_or((text, ""))
+}
+
+/// The text before the first tab, and the text behind it.
+pub fn tabbed(text: &str) -> (&str, &str) {
+    text.split_once('\t').unwrap_or((text, ""))
 }
 
 /// The words of a step, read one after another.

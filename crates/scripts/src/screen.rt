@@ -4,39 +4,30 @@ use crate::row::{At, Words, headed};
 use crate::spelling::{number, unescaped, unescaped_bytes};
 use indicatif_term::cells::Cells;
 use indicatif_term::target::{ProgressDrawTarget, Term};
-use indicatif_text::columns::{Drawn, Refusal};
+use indicatif_text::columns::Refusal;
 use std::alloc::Global;
-use std::cell::{Cell, RefCell};
+use std::cell::{Cell, Ref, RefCell};
 use std::io;
 use std::io::{Error, ErrorKind, Write};
 use std::rc::Rc;
 
-/// How a call of the writer that takes nothing ends.
-#[derive(Clone, Copy)]
-enum Halt {
-    /// It took no byte.
-    Nothing,
-    /// A failure of this kind.
-    Failure(ErrorKind),
-}
-
 /// How the writer fails.
-#[derive(Clone, Copy)]
+#[derive(Clone, Copy, Default)]
 struct Limits {
-    /// The most bytes that a call takes.
-    takes: usize,
+    /// The most bytes that a call takes, if there is a most.
+    takes: Option<usize>,
     /// How many calls from now on the one that fails is; none if it is 0.
     fails_call: u64,
     /// The number of bytes after which calls halt.
     halts_at: u64,
-    /// How they do.
-    halt: Halt,
+    /// How they fail; if they don't, they take nothing.
+    halt: Option<ErrorKind>,
     /// How many calls halt.
     halts: u64,
 }
 
 /// How much the writer got so far.
-#[derive(Clone, Copy)]
+#[derive(Clone, Copy, Default)]
 struct Counts {
     bytes: u64,
     writes: u64,
@@ -52,80 +43,41 @@ pub struct Screen {
     counts: Cell<Counts>,
 }
 
-/// The state of a screen.
-#[derive(Drop)]
-pub struct Look {
-    /// How many bytes were written.
-    pub bytes: u64,
-    /// The rows that stand there.
-    pub contents: Result<String, Refusal>,
-}
-
-impl Look {
-    /// Appends the answer of a call, and after a space the rows on the screen, if any.
-    pub fn push(self, answer: Result<Drawn, Refusal>, got: &mut Got) -> Result<(), Bad> {
-        let contents = self.contents?;
-        got.answer(answer);
-        got.text(if contents.is_empty() { "" } else { " " });
-        got.text(contents.as_str());
-        Ok(())
-    }
-}
-
 impl Screen {
     /// A screen with nothing on it, whose writer never fails.
     pub fn new(alloc: Global, rows: u16, cols: u16) -> Result<Rc<Screen>, Refusal> {
-        let limits = Limits {
-            takes: usize::MAX,
-            fails_call: 0,
-            halts_at: 0,
-            halt: Halt::Nothing,
-            halts: 0,
-        };
-        let counts = Counts {
-            bytes: 0,
-            writes: 0,
-            flushes: 0,
-        };
         let screen = Screen {
             cells: RefCell::new(Cells::new(alloc, rows, cols)?),
             written: RefCell::new(Vec::new(alloc)),
-            limits: Cell::new(limits),
-            counts: Cell::new(counts),
+            limits: Cell::new(Limits::default()),
+            counts: Cell::new(Counts::default()),
         };
         Ok(Rc::new(alloc, screen)?)
     }
 
-    /// The rows of the window.
-    pub fn contents(&self) -> Result<String, Refusal> {
-        match self.cells.try_borrow() {
-            Ok(cells) => cells.contents(),
-            Err(_) => Err(Refusal::Memory),
-        }
+    /// Its cells, unless a call changes them.
+    fn cells(&self) -> Result<Ref<'_, Cells>, Refusal> {
+        self.cells.try_borrow().ok().ok_or(Refusal::Memory)
     }
 
-    /// The rows of the window, and the number of bytes that were taken.
-    pub fn look(&self) -> Look {
-        Look {
-            bytes: self.counts.get().bytes,
-            contents: self.contents(),
-        }
+    /// The rows of the window.
+    pub fn contents(&self) -> Result<String, Refusal> {
+        self.cells()?.contents()
     }
 
     /// All rows, including those that scrolled away.
     pub fn picture(&self) -> Result<Vec<String>, Refusal> {
-        match self.cells.try_borrow() {
-            Ok(cells) => cells.picture(),
-            Err(_) => Err(Refusal::Memory),
-        }
+        self.cells()?.picture()
     }
 
     /// The row and the column of the cursor.
-    pub fn cursor(&self) -> Option<(u16, u16)> {
-        match self.cells.try_borrow() {
-            Ok(cells) => Some(cells.cursor()),
-            Err(_) => None,
-        }
+    pub fn cursor(&self) -> Result<(u16, u16), Refusal> {
+        Ok(self.cells()?.cursor())
+    }
+
+    /// How many bytes were taken.
+    pub fn bytes(&self) -> u64 {
+        self.counts.get().bytes
     }
 
     /// Appends the bytes that were taken.
@@ -138,41 +90,33 @@ impl Screen {
     /// Fails if this is the call of the writer that has to.
     fn admit(&self) -> io::Result<()> {
         let mut limits = self.limits.get();
-        if limits.fails_call == 0 {
-            return Ok(());
-        }
-        limits.fails_call -= 1;
+        let fails = limits.fails_call == 1;
+        limits.fails_call = limits.fails_call.saturating_sub(1);
         self.limits.set(limits);
-        if limits.fails_call == 0 {
-            return Err(Error::from(ErrorKind::BrokenPipe));
+        match fails {
+            true => Err(Error::from(ErrorKind::BrokenPipe)),
+            false => Ok(()),
         }
-        Ok(())
     }
 
-    /// How this call of the writer halts, if it does.
-    fn halted(&self) -> Option<Halt> {
+    /// Whether this call of the writer halts.
+    fn halts(&self) -> bool {
         let mut limits = self.limits.get();
-        if limits.halts == 0 || self.counts.get().bytes != limits.halts_at {
-            return None;
-        }
-        limits.halts -= 1;
+        let halts = limits.halts > 0 && self.bytes() == limits.halts_at;
+        limits.halts = limits.halts.saturating_sub(u64::from(halts));
         self.limits.set(limits);
-        Some(limits.halt)
+        halts
     }
 
-    fn store(&self, bytes: &[u8]) -> io::Result<()> {
-        match self.written.try_borrow_mut() {
-            Ok(mut written) => Ok(written.extend_from_slice(bytes)?),
-            Err(_) => Err(Error::from(ErrorKind::OutOfMemory)),
-        }
+    /// Keeps bytes as taken.
+    pub fn store(&self, bytes: &[u8]) -> io::Result<()> {
+        self.written.try_borrow_mut()?.extend_from_slice(bytes)?;
+        Ok(())
     }
 
     /// Puts bytes on the screen.
     pub fn feed(&self, bytes: &[u8]) -> io::Result<()> {
-        let Ok(mut cells) = self.cells.try_borrow_mut() else {
-            return Err(Error::from(ErrorKind::OutOfMemory));
-        };
-        match cells.feed(bytes) {
+        match self.cells.try_borrow_mut()?.feed(bytes) {
             Ok(()) => Ok(()),
             Err(_) => Err(Error::from(ErrorKind::OutOfMemory)),
         }
@@ -207,11 +151,12 @@ impl Write for Wire {
         counts.writes = counts.writes.saturating_add(1);
         self.0.counts.set(counts);
         self.0.admit()?;
-        match self.0.halted() {
-            Some(Halt::Nothing) => Ok(0),
-            Some(Halt::Failure(kind)) => Err(Error::from(kind)),
-            None => {
-                let taken = buf.len().min(self.0.limits.get().takes);
+        let Limits { takes, halt, .. } = self.0.limits.get();
+        match (self.0.halts(), halt) {
+            (true, None) => Ok(0),
+            (true, Some(kind)) => Err(Error::from(kind)),
+            (false, _) => {
+                let taken = buf.len().min(takes.unwrap_or(usize::MAX));
                 self.0.take(&buf[..taken])?;
                 Ok(taken)
             }
@@ -271,9 +216,9 @@ pub fn look_at(screen: &Screen, step: &str, at: At, got: &mut Got) -> Result<boo
         ("shows", "") => got.text(screen.contents()?.as_str()),
         ("picture", "") => got.rows(&screen.picture()?),
         ("rows", "") => got.rows(filled(&screen.picture()?)),
-        ("cursor", "") => push_cursor(screen.cursor(), got),
+        ("cursor", "") => got.pair(screen.cursor()?),
         ("written", "") => screen.push_written(got),
-        ("bytes", "") => got.number(screen.counts.get().bytes),
+        ("bytes", "") => got.number(screen.bytes()),
         ("writes", "") => got.number(screen.counts.get().writes),
         ("flushes", "") => got.number(screen.counts.get().flushes),
         ("writes_over_bytes", "") => {
@@ -282,18 +227,14 @@ pub fn look_at(screen: &Screen, step: &str, at: At, got: &mut Got) -> Result<boo
         }
         ("row_count", "") => got.number(screen.contents()?.as_str().split('\n').count()),
         ("row", row) => push_row(screen, number(row)?, got)?,
-        ("feed", text) => feed(screen, &unescaped_bytes(at.alloc, text)?)?,
+        ("feed", text) => {
+            let fed = screen.feed(&unescaped_bytes(at.alloc, text)?);
+            fed.ok().ok_or(Bad::Step)?
+        }
         ("ends", text) => push_ends(screen, unescaped(at.alloc, text)?.as_str(), got)?,
         (name, rest) => return limit(screen, name, rest),
     }
     Ok(true)
-}
-
-/// Appends the row and the column of a cursor, if there is one.
-fn push_cursor(cursor: Option<(u16, u16)>, got: &mut Got) {
-    if let Some((row, column)) = cursor {
-        got.number(format_args!("{row} {column}"));
-    }
 }
 
 /// `row N`: a row of the window, counted from 1; nothing past its end.
@@ -317,9 +258,7 @@ pub fn filled(rows: &[String]) -> &[String] {
 
 /// `ends TEXT`: whether the rows of this text are the last ones down to the cursor's.
 fn push_ends(screen: &Screen, text: &str, got: &mut Got) -> Result<(), Bad> {
-    let Some((row, _)) = screen.cursor() else {
-        return Err(Bad::Step);
-    };
+    let (row, _) = screen.cursor()?;
     let rows = screen.picture()?;
     let rows = rows.get(..=usize::from(row)).unwrap_or(&rows);
     got.flag(are_last(rows, text));
@@ -339,21 +278,13 @@ fn are_last(rows: &[String], text: &str) -> bool {
     true
 }
 
-/// `feed TEXT`: bytes from elsewhere.
-fn feed(screen: &Screen, bytes: &[u8]) -> Result<(), Bad> {
-    match screen.feed(bytes) {
-        Ok(()) => Ok(()),
-        Err(_) => Err(Bad::Step),
-    }
-}
-
 /// `takes N`: a call of the writer takes at most N bytes. `fails_call N`: the Nth of its calls from now on fails, flushes included. `halts
 /// AT KIND TIMES`: calls halt after AT bytes. Whether the step is one of these.
 fn limit(screen: &Screen, name: &str, rest: &str) -> Result<bool, Bad> {
     let mut words = Words::of(rest);
     let mut limits = screen.limits.get();
     match name {
-        "takes" => limits.takes = words.number()?,
+        "takes" => limits.takes = Some(words.number()?),
         "fails_call" => limits.fails_call = words.number()?,
         "halts" => {
             limits.halts_at = words.number()?;
@@ -366,12 +297,12 @@ fn limit(screen: &Screen, name: &str, rest: &str) -> Result<bool, Bad> {
     Ok(true)
 }
 
-/// The way to halt of a word.
-fn halt_of(word: &str) -> Result<Halt, Bad> {
+/// How a call that halts fails, by a word.
+fn halt_of(word: &str) -> Result<Option<ErrorKind>, Bad> {
     match word {
-        "nothing" => Ok(Halt::Nothing),
-        "BrokenPipe" => Ok(Halt::Failure(ErrorKind::BrokenPipe)),
-        "Interrupted" => Ok(Halt::Failure(ErrorKind::Interrupted)),
+        "nothing" => Ok(None),
+        "BrokenPipe" => Ok(Some(ErrorKind::BrokenPipe)),
+        "Interrupted" => Ok(Some(ErrorKind::Interrupted)),
         _ => Err(Bad::Step),
     }
 }

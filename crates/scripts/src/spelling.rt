@@ -9,10 +9,7 @@ pub fn number<N: FromStr>(text: &str) -> Result<N, Bad>
 where
     N::Err: Drop,
 {
-    match text.parse::<N>() {
-        Ok(number) => Ok(number),
-        Err(_) => Err(Bad::Step),
-    }
+    text.parse::<N>().ok().ok_or(Bad::Step)
 }
 
 /// A number, or `-` for none.
@@ -35,10 +32,8 @@ pub fn flag(text: &str) -> Result<bool, Bad> {
 /// The text with its escapes replaced: `\n`, `\t`, `\r`, `\0`, `\e`, `\s` for a space, `\u{HEX}` for a character, `\xHH` for a byte, and
 /// `\\`.
 pub fn unescaped(alloc: Global, text: &str) -> Result<String, Bad> {
-    match String::from_utf8(unescaped_bytes(alloc, text)?) {
-        Ok(text) => Ok(text),
-        Err(_) => Err(Bad::Step),
-    }
+    let text = String::from_utf8(unescaped_bytes(alloc, text)?);
+    text.ok().ok_or(Bad::Step)
 }
 
 /// The bytes of a text with its escapes replaced, which may not be UTF-8.
@@ -78,15 +73,9 @@ fn push_escape<'a>(text: &'a str, bytes: &mut Vec<u8>) -> Result<&'a str, Bad> {
 
 /// Appends the character with the number between braces.
 fn push_char<'a>(text: &'a str, bytes: &mut Vec<u8>) -> Result<&'a str, Bad> {
-    let Some((digits, behind)) = text.split_once('}') else {
-        return Err(Bad::Step);
-    };
-    let Some(digits) = digits.strip_prefix('{') else {
-        return Err(Bad::Step);
-    };
-    let Some(c) = char::from_u32(hexadecimal(digits)?) else {
-        return Err(Bad::Step);
-    };
+    let (digits, behind) = text.split_once('}').ok_or(Bad::Step)?;
+    let digits = digits.strip_prefix('{').ok_or(Bad::Step)?;
+    let c = char::from_u32(hexadecimal(digits)?).ok_or(Bad::Step)?;
     let mut buffer = [0; 4];
     bytes.extend_from_slice(c.encode_utf8(&mut buffer).as_bytes())?;
     Ok(behind)
@@ -94,9 +83,7 @@ fn push_char<'a>(text: &'a str, bytes: &mut Vec<u8>) -> Result<&'a str, Bad> {
 
 /// Appends the byte with the number of two digits.
 fn push_byte<'a>(text: &'a str, bytes: &mut Vec<u8>) -> Result<&'a str, Bad> {
-    let (Some(digits), Some(behind)) = (text.get(..2), text.get(2..)) else {
-        return Err(Bad::Step);
-    };
+    let (digits, behind) = text.split_at_checked(2).ok_or(Bad::Step)?;
     let [byte, _, _, _] = hexadecimal(digits)?.to_le_bytes();
     bytes.push(byte)?;
     Ok(behind)
@@ -105,10 +92,8 @@ fn push_byte<'a>(text: &'a str, bytes: &mut Vec<u8>) -> Result<&'a str, Bad> {
 fn hexadecimal(digits: &str) -> Result<u32, Bad> {
     let mut number: u32 = 0;
     for c in digits.chars() {
-        match c.to_digit(16) {
-            Some(digit) => number = number.saturating_mul(16).saturating_add(digit),
-            None => return Err(Bad::Step),
-        }
+        let digit = c.to_digit(16).ok_or(Bad::Step)?;
+        number = number.saturating_mul(16).saturating_add(digit);
     }
     Ok(number)
 }

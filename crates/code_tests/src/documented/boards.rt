@@ -1,71 +1,63 @@
 //! Examples of a board.
-use crate::checks::Granted;
-use indicatif_bar::state::{BarCommand, BarState};
-use indicatif_bar::style::{NoTracker, ProgressStyle};
-use indicatif_board::multi::{
-    Answer, BarId, Board, Call, Candidate, Entry, InsertLocation, Recorded, Size,
+use crate::checks::{Granted, Runtime};
+use crate::fronts;
+use indicatif::bridge::{bridge_line, emit};
+use indicatif::{
+    Answer, BarCommand, BarId, BarState, Board, Call, Candidate, Drawn, Entry, InMemoryTerm,
+    InsertLocation, MultiState, NoTracker, ProgressDrawTarget, ProgressStyle, Recorded, Refusal,
+    Size,
 };
-use indicatif_term::cells::InMemoryTerm;
-use indicatif_term::target::ProgressDrawTarget;
-use indicatif_text::columns::{Drawn, Refusal};
-use std::alloc::Global;
-use std::process::Abort;
+use log::Level;
 
 type Bars = Board<NoTracker, InMemoryTerm>;
 
-/// A board on a terminal of 4 rows and 20 columns, a text above its bars.
-fn board_of(rt: &impl Abort, alloc: Global) -> Bars {
-    let now = 0;
-    let term = InMemoryTerm::new(alloc, 4, 20).granted(rt);
+/// A terminal of 4 rows and 10 columns.
+fn new_term(rt: &impl Runtime) -> InMemoryTerm {
+    InMemoryTerm::new(rt.alloc(), 4, 10).granted(rt)
+}
+
+/// A board on such a terminal, a text above its bars.
+fn board_of(rt: &impl Runtime) -> Bars {
+    let (alloc, now, term) = (rt.alloc(), 0, new_term(rt));
     let mut board: Board<NoTracker, _> = Board::new(alloc, ProgressDrawTarget::term_like(term), 1);
     board.println("a.txt", now).granted(rt);
     board
 }
 
 /// A bar with this text.
-fn bar_saying(rt: &impl Abort, alloc: Global, text: &str) -> BarState<NoTracker> {
-    let style = ProgressStyle::with_template(alloc, text).granted(rt);
-    BarState::styled(alloc, style, None, 0).granted(rt)
-}
-
-/// Ends the test if a board's terminal shows something else.
-fn shows(rt: &impl Abort, board: Bars, contents: &str) {
-    let term = board.term().granted(rt);
-    same!(rt; term.contents().granted(rt).as_str(), contents);
+fn bar_saying(rt: &impl Runtime, text: &str) -> BarState<NoTracker> {
+    let style = ProgressStyle::with_template(rt.alloc(), text).granted(rt);
+    BarState::styled(rt.alloc(), style, None, 0).granted(rt)
 }
 
 /// Both texts stand on two rows each.
 #[test]
 fn texts_on_fewer_columns(rt: HostRuntime) {
-    let rt = &rt;
-    let now = 0;
-    let mut board = board_of(rt, rt.alloc());
-    board.println("hello", now).granted(rt);
-    board.resize(4, 3).granted(rt); // it stands on two rows from now on: `hel`, `lo`
-    shows(rt, board, "a.t\nxt\nhel\nlo");
+    let (mut board, now) = (board_of(&rt), 0);
+    board.println("hello", now).granted(&rt);
+    board.resize(4, 3).granted(&rt); // it stands on two rows from now on: `hel`, `lo`
+    same!(&rt; fronts::contents(board.term()).granted(&rt).as_str(), "a.t\nxt\nhel\nlo");
 }
 
 /// A candidate is copied, and a bar of another board isn't removed.
 #[test]
 fn order_of_bars(rt: HostRuntime) {
-    let rt = &rt;
-    let alloc = rt.alloc();
-    let mut board = board_of(rt, alloc);
+    let mut board = board_of(&rt);
     board.set_move_cursor(true);
-    let id = take_in(rt, alloc, &mut board);
+    let id = take_in(&rt, &mut board);
     let candidate = Candidate::<NoTracker>::Member(id);
-    let again = candidate.try_clone().granted(rt);
-    holds!(rt; matches!(again, Candidate::Member(_)));
-    turn_away(rt, alloc, &mut board);
-    stack(rt, alloc, &mut board);
-    same!(rt; board.order(), [0, 2, 1].as_slice());
+    let again = candidate.try_clone().granted(&rt);
+    holds!(&rt; matches!(again, Candidate::Member(_)));
+    turn_away(&rt, &mut board);
+    stack(&rt, &mut board);
+    same!(&rt; board.order(), [0, 2, 1].as_slice());
     let elsewhere = BarId { mark: 0, number: 1 };
-    holds!(rt; matches!(board.remove(elsewhere), Err(Refusal::ForeignBar)));
+    holds!(&rt; matches!(board.remove(elsewhere), Err(Refusal::ForeignBar)));
 }
 
 /// Inserts a bar, which stays first when it is inserted there again.
-fn take_in(rt: &impl Abort, alloc: Global, board: &mut Bars) -> BarId {
-    let bar = bar_saying(rt, alloc, "a");
+fn take_in(rt: &impl Runtime, board: &mut Bars) -> BarId {
+    let bar = bar_saying(rt, "a");
     let id = board
         .add(Candidate::New(bar))
         .map_err(|turned| turned.refusal)
@@ -75,19 +67,16 @@ fn take_in(rt: &impl Abort, alloc: Global, board: &mut Bars) -> BarId {
 }
 
 /// Refuses a bar after one of another board.
-fn turn_away(rt: &impl Abort, alloc: Global, board: &mut Bars) {
-    let id = BarId { mark: 9, number: 0 };
-    let bar = bar_saying(rt, alloc, "b");
+fn turn_away(rt: &impl Runtime, board: &mut Bars) {
+    let (bar, id) = (bar_saying(rt, "b"), BarId { mark: 9, number: 0 });
     if let Err(turned) = board.insert_after(id, Candidate::New(bar)) {
         let returned = turned.candidate;
     }
 }
 
 /// Inserts a bar, and then one above it.
-fn stack(rt: &impl Abort, alloc: Global, board: &mut Bars) {
-    let now = 0;
-    let bar = bar_saying(rt, alloc, "lower");
-    let other = bar_saying(rt, alloc, "upper");
+fn stack(rt: &impl Runtime, board: &mut Bars) {
+    let (bar, other, now) = (bar_saying(rt, "lower"), bar_saying(rt, "upper"), 0);
     let first = board
         .add(Candidate::New(bar))
         .map_err(|turned| turned.refusal)
@@ -103,24 +92,21 @@ fn stack(rt: &impl Abort, alloc: Global, board: &mut Bars) {
 
 #[test]
 fn answers_of_calls(rt: HostRuntime) {
-    let rt = &rt;
-    let alloc = rt.alloc();
-    let now = 0;
-    let mut board = board_of(rt, alloc);
-    let id = take_in(rt, alloc, &mut board);
+    let (mut board, now) = (board_of(&rt), 0);
+    let id = take_in(&rt, &mut board);
     board
         .tell(id, BarCommand::SetMessage("copying"), now)
-        .granted(rt);
-    same!(rt; board.bar(id).granted(rt).message(), "copying");
-    log_and_clear(rt, alloc, &mut board);
+        .granted(&rt);
+    same!(&rt; board.bar(id).granted(&rt).message(), "copying");
+    log_and_clear(&rt, &mut board);
     let (answer, removed) = board.apply(Call::Remove(id), now);
-    same!(rt; answer, Answer::Accepted);
-    holds!(rt; removed.is_some());
-    same!(rt; board.call(Call::Remove(id), now), Answer::Accepted);
+    same!(&rt; answer, Answer::Accepted);
+    holds!(&rt; removed.is_some());
+    same!(&rt; board.call(Call::Remove(id), now), Answer::Accepted);
 }
 
-fn log_and_clear(rt: &impl Abort, alloc: Global, board: &mut Bars) {
-    let now = 0;
+fn log_and_clear(rt: &impl Runtime, board: &mut Bars) {
+    let (alloc, now) = (rt.alloc(), 0);
     let text = String::from_str(alloc, "log").granted(rt);
     same!(rt; board.call(Call::Log(text), now), Answer::Drawn(Drawn::Yes));
     let call = Call::<NoTracker>::Clear;
@@ -135,25 +121,39 @@ fn log_and_clear(rt: &impl Abort, alloc: Global, board: &mut Bars) {
 /// A history that begins on a terminal with a rate, and one with an entry.
 #[test]
 fn histories(rt: HostRuntime) {
-    let rt = &rt;
-    let (alloc, now) = (rt.alloc(), 5);
-    let term = InMemoryTerm::new(alloc, 4, 10).granted(rt);
-    let target = ProgressDrawTarget::term_like_with_hz(term, 20, 0).granted(rt);
+    let (alloc, now, term) = (rt.alloc(), 5, new_term(&rt));
+    let target = ProgressDrawTarget::term_like_with_hz(term, 20, 0).granted(&rt);
     let record: Recorded<NoTracker, _> = Recorded::new(alloc, target, 7);
-    same!(rt; record.opening().size, Some(Size { columns: 10, rows: 4 }));
+    same!(&rt; record.opening().size, Some(Size { columns: 10, rows: 4 }));
     let opening = record.opening();
-    same!(rt; (opening.mark, opening.limiter.is_some()), (7, true));
-    let term = InMemoryTerm::new(alloc, 4, 10).granted(rt);
+    same!(&rt; (opening.mark, opening.limiter.is_some()), (7, true));
+    let term = new_term(&rt);
     let mut record = Recorded::new(alloc, ProgressDrawTarget::term_like(term), 1);
     let (answer, none) = record.apply(Call::Clear, now);
     let recorded = record.entries();
-    is_one_entry(rt, recorded, &answer);
+    let entries: &[Entry<NoTracker>] = recorded;
+    same!(&rt; (entries.len(), answer), (1, Answer::Drawn(Drawn::Yes)));
 }
 
-/// Ends the test if there are other entries than one with this answer.
-fn is_one_entry(rt: &impl Abort, entries: &[Entry<NoTracker>], answer: &Answer) {
-    match entries {
-        [entry] => same!(rt; &entry.answer, answer),
-        _ => same!(rt; entries.len(), 1),
-    }
+/// The order of slots.
+#[test]
+fn slots_in_their_order(rt: HostRuntime) {
+    let alloc = rt.alloc();
+    let mut state = MultiState::new(alloc);
+    let first = state.insert(0).granted(&rt);
+    let second = state.insert(0).granted(&rt);
+    same!(&rt; state.order(), [second, first].as_slice());
+    same!(&rt; state.slot(second), Some(1));
+}
+
+/// A line of a log, above the bars and as a text.
+#[test]
+fn lines_of_a_log(rt: HostRuntime) {
+    let (alloc, mut board, now) = (rt.alloc(), board_of(&rt), 0);
+    let drawn = emit(alloc, &mut board, Level::Error, "no such file", now).granted(&rt);
+    same!(&rt; drawn, Drawn::Yes);
+    same!(&rt; fronts::contents(board.term()).granted(&rt).as_str(), "a.txt\nERROR no s\nuch file");
+    let mut out = String::new(alloc);
+    bridge_line(Level::Warn, "low disk", &mut out).granted(&rt);
+    same!(&rt; out.as_str(), "WARN  low disk");
 }

@@ -1,25 +1,22 @@
 //! Examples of a bar on its terminal.
-use crate::checks::Granted;
-use indicatif_bar::lone::{LoneBar, LoneCall};
-use indicatif_bar::state::{BarCommand, BarState};
-use indicatif_bar::style::{NoTracker, ProgressStyle, Tracks};
-use indicatif_term::cells::InMemoryTerm;
-use indicatif_term::target::{ProgressDrawTarget, TermLike};
-use indicatif_text::columns::{Clock, Drawn, Moment, Refusal, StepClock};
-use std::alloc::Global;
-use std::process::Abort;
+use crate::checks::{Granted, Runtime};
+use crate::fronts;
+use indicatif::style::Tracks;
+use indicatif::{
+    BarCommand, BarState, Clock, Drawn, InMemoryTerm, LoneBar, LoneCall, Moment, NoTracker,
+    ProgressDrawTarget, ProgressStyle, Refusal, StepClock, TermLike,
+};
 
 type Bar = LoneBar<NoTracker, InMemoryTerm>;
 
 /// Ends the test if a bar's terminal shows something else.
-fn shows(rt: &impl Abort, bar: &Bar, contents: &str) {
-    let term = bar.term().granted(rt);
-    same!(rt; term.contents().granted(rt).as_str(), contents);
+fn shows(rt: &impl Runtime, bar: &Bar, wanted: &str) {
+    same!(rt; fronts::contents(bar.term()).granted(rt).as_str(), wanted);
 }
 
 /// A bar on a terminal of 4 rows and 20 columns, a name above it.
-fn shown(rt: &impl Abort, alloc: Global) -> Box<Bar> {
-    let now = 0;
+fn shown(rt: &impl Runtime) -> Box<Bar> {
+    let (alloc, now) = (rt.alloc(), 0);
     let term = InMemoryTerm::new(alloc, 4, 20).granted(rt);
     let mut bar = LoneBar::new(
         BarState::new(alloc, Some(10), now).granted(rt),
@@ -31,7 +28,7 @@ fn shown(rt: &impl Abort, alloc: Global) -> Box<Bar> {
 }
 
 /// Draws a bar at the moment of a clock.
-fn draws_now(rt: &impl Abort, bar: &mut Bar) {
+fn draws_now(rt: &impl Runtime, bar: &mut Bar) {
     let second: Moment = 1_000_000_000;
     let mut clock = StepClock {
         next: 5_000_000_000,
@@ -49,8 +46,9 @@ fn step<K: Tracks, T: TermLike + Drop>(
     bar.inc(1, now)
 }
 
-/// A tick, a line and a clear.
-fn calls_of(rt: &impl Abort, alloc: Global) -> Vec<(LoneCall<NoTracker>, Moment)> {
+/// Three calls: a tick, a line and a clear.
+fn plays(rt: &impl Runtime, bar: &mut Bar) {
+    let alloc = rt.alloc();
     let log = LoneCall::Log(String::from_str(alloc, "a.txt").granted(rt));
     let calls = vec![in alloc;
         (LoneCall::Bar(BarCommand::Tick), 0),
@@ -58,51 +56,42 @@ fn calls_of(rt: &impl Abort, alloc: Global) -> Vec<(LoneCall<NoTracker>, Moment)
         (LoneCall::Clear, 5),
     ]
     .granted(rt);
-    calls
+    let answers = bar.run(calls).granted(rt);
+    same!(rt; answers.len(), 3);
+    shows(rt, bar, "a.txt\na.txt");
 }
 
 /// Three calls, another style, an elapsed time, and then a hidden target.
 #[test]
 fn calls_style_time_and_target(rt: HostRuntime) {
-    let rt = &rt;
     let (alloc, now) = (rt.alloc(), 5);
-    let mut bar = shown(rt, alloc);
-    let calls = calls_of(rt, alloc);
-    let answers = bar.run(calls).granted(rt);
-    same!(rt; answers.len(), 3);
-    shows(rt, &bar, "a.txt\na.txt");
+    let mut bar = shown(&rt);
+    plays(&rt, &mut bar);
     bar.set_move_cursor(true);
-    let style = ProgressStyle::with_template(alloc, "{pos} of {len}").granted(rt);
-    let drawn = bar.with_style(style, now).granted(rt);
-    same!(rt; drawn, Drawn::Limited);
-    let drawn = bar.with_elapsed(3_000_000_000, 4_000_000_000).granted(rt);
-    same!(rt; drawn, Drawn::Limited);
-    draws_now(rt, &mut bar);
-    shows(rt, &bar, "a.txt\na.txt\n0 of 10");
-    same!(rt; step(&mut bar, 6_000_000_000), Ok(Drawn::Yes));
+    let style = ProgressStyle::with_template(alloc, "{pos} of {len}").granted(&rt);
+    let drawn = bar.with_style(style, now).granted(&rt);
+    same!(&rt; drawn, Drawn::Limited);
+    let drawn = bar.with_elapsed(3_000_000_000, 4_000_000_000).granted(&rt);
+    same!(&rt; drawn, Drawn::Limited);
+    draws_now(&rt, &mut bar);
+    shows(&rt, &bar, "a.txt\na.txt\n0 of 10");
+    same!(&rt; step(&mut bar, 6_000_000_000), Ok(Drawn::Yes));
     drop(bar.set_draw_target(ProgressDrawTarget::hidden()));
-    let drawn = bar.tick(0).granted(rt);
-    same!(rt; drawn, Drawn::Hidden);
+    let drawn = bar.tick(0).granted(&rt);
+    same!(&rt; drawn, Drawn::Hidden);
 }
 
-/// A bar with a text of 13 columns on 10 columns.
-fn wide(rt: &impl Abort, alloc: Global) -> Box<Bar> {
-    let style = ProgressStyle::with_template(alloc, "progress bars").granted(rt);
-    let record = BarState::styled(alloc, style, None, 0).granted(rt);
-    let term = InMemoryTerm::new(alloc, 4, 10).granted(rt);
-    let bar = LoneBar::new(record, ProgressDrawTarget::term_like(term));
-    Box::new(alloc, bar).granted(rt)
-}
-
-/// It is drawn on 10 columns, then on 5 and on 20.
+/// A bar with a text of 13 columns is drawn on 20 columns; of then 5 and 20 it takes three rows, until it is drawn again.
 #[test]
 fn terminal_of_new_sizes(rt: HostRuntime) {
-    let rt = &rt;
-    let now = 0;
-    let mut bar = wide(rt, rt.alloc());
-    bar.tick(now).granted(rt);
-    bar.resize(4, 5).granted(rt); // `progress bars` stands on three rows: `progr`, `ess b`, `ars`
-    bar.resize(4, 20).granted(rt); // and still does
-    bar.tick(now).granted(rt); // stands on one row again
-    shows(rt, &bar, "progress bars");
+    let (alloc, now) = (rt.alloc(), 0);
+    let mut bar = shown(&rt);
+    let style = ProgressStyle::with_template(alloc, "progress bars").granted(&rt);
+    bar.with_style(style, now).granted(&rt);
+    bar.tick(now).granted(&rt);
+    bar.resize(4, 5).granted(&rt); // `progress bars` stands on three rows: `progr`, `ess b`, `ars`
+    shows(&rt, &bar, "a.txt\nprogr\ness b\nars");
+    bar.resize(4, 20).granted(&rt); // and still does
+    bar.tick(now).granted(&rt); // stands on one row again
+    shows(&rt, &bar, "a.txt\nprogress bars");
 }

@@ -1,19 +1,16 @@
 //! What a bar wraps.
-use crate::checks::Granted;
+use crate::checks::{Granted, Runtime};
 use crate::fronts::{Bar, setup};
 use futures::Stream;
 use indicatif::{
     BarState, InMemoryTerm, LoneBar, Moves, NoTracker, OwnedBar, ProgressBarIter,
     ProgressDrawTarget, ProgressIterator, Setup, StepClock,
 };
-use std::alloc::Global;
-use std::process::Abort;
-use std::sync::Wait;
 use tokio::io::{AsyncRead, AsyncWrite};
 
 /// Wraps a stream, and what is read and written by polls. (Rows of data check each of them.)
-pub fn polled<S: Stream + Drop, I: AsyncRead + Drop, O: AsyncWrite + Drop, R: Wait + Clone + Drop>(
-    rt: &impl Abort,
+pub fn polled<S: Stream + Drop, I: AsyncRead + Drop, O: AsyncWrite + Drop, R: Runtime>(
+    rt: &R,
     bar: &Bar<R>,
     stream: S,
     (input, output): (I, O),
@@ -26,9 +23,9 @@ pub fn polled<S: Stream + Drop, I: AsyncRead + Drop, O: AsyncWrite + Drop, R: Wa
 }
 
 /// A bar of two steps with its own clock, made from parts.
-fn own_of_two<R: Abort>(rt: &R, alloc: Global) -> OwnedBar<NoTracker, InMemoryTerm, StepClock> {
-    let Setup { target, clock: _ } = setup(rt, alloc, 20);
-    let state = BarState::new(alloc, Some(2), 0).granted(rt);
+fn own_of_two<R: Runtime>(rt: &R) -> OwnedBar<NoTracker, InMemoryTerm, StepClock> {
+    let Setup { target, clock: _ } = setup(rt, 20);
+    let state = BarState::new(rt.alloc(), Some(2), 0).granted(rt);
     let bar = OwnedBar::new(
         LoneBar::new(state, target),
         StepClock {
@@ -40,8 +37,8 @@ fn own_of_two<R: Abort>(rt: &R, alloc: Global) -> OwnedBar<NoTracker, InMemoryTe
 }
 
 /// Two items, 7 and 8.
-fn two_items<R: Abort>(rt: &R, alloc: Global) -> Vec<u64> {
-    vec![in alloc; 7u64, 8].granted(rt)
+fn two_items<R: Runtime>(rt: &R) -> Vec<u64> {
+    vec![in rt.alloc(); 7u64, 8].granted(rt)
 }
 
 /// Takes all items with a bar of any kind; how many there are, and the bar.
@@ -65,27 +62,22 @@ fn first_of<P: Moves + Drop>(list: Vec<u64>, bar: P) -> (Option<u64>, P) {
 
 #[test]
 fn a_bar_of_its_own_is_moved(rt: HostRuntime) {
-    let rt = &rt;
-    let alloc = rt.alloc();
-    let bar = own_of_two(rt, alloc);
-    let (first, mut bar) = first_of(two_items(rt, alloc), bar);
-    same!(rt; first, Some(7));
-    same!(rt; bar.position(), 1);
-    bar.advance(1).granted(rt);
-    same!(rt; bar.position(), 2);
-    let (count, bar) = looped(two_items(rt, alloc), own_of_two(rt, alloc));
-    same!(rt; count, 2);
-    same!(rt; bar.position(), 2);
-    holds!(rt; bar.finished());
+    let (first, mut bar) = first_of(two_items(&rt), own_of_two(&rt));
+    same!(&rt; first, Some(7));
+    same!(&rt; bar.position(), 1);
+    bar.advance(1).granted(&rt);
+    same!(&rt; bar.position(), 2);
+    let (count, bar) = looped(two_items(&rt), own_of_two(&rt));
+    same!(&rt; count, 2);
+    same!(&rt; bar.position(), 2);
+    holds!(&rt; bar.finished());
 }
 
 /// (Rows of data have all items of such lists.)
 #[test]
 fn first_item_of_a_list(rt: HostRuntime) {
-    let rt = &rt;
-    let alloc = rt.alloc();
-    let list = two_items(rt, alloc);
-    let term = InMemoryTerm::new(alloc, 4, 20).granted(rt);
+    let (alloc, list) = (rt.alloc(), two_items(&rt));
+    let term = InMemoryTerm::new(alloc, 4, 20).granted(&rt);
     let clock = StepClock { next: 0, step: 1 };
     let setup = Setup {
         target: ProgressDrawTarget::term_like(term),
@@ -94,6 +86,6 @@ fn first_item_of_a_list(rt: HostRuntime) {
     let mut wrapped = list
         .into_iter()
         .progress(alloc, setup)
-        .expect(rt, "granted");
-    same!(rt; wrapped.next(), Some(7));
+        .expect(&rt, "granted");
+    same!(&rt; wrapped.next(), Some(7));
 }

@@ -1,59 +1,45 @@
 //! A shared board that makes the calls of a script.
+use crate::faults::settled;
+use crate::sweeps::local::{MARK, done, still};
+use crate::sweeps::record::{Behind, Record};
+use crate::sweeps::script::{Said, Step};
+use crate::sweeps::sweep::Runs;
 use indicatif::{
     Drawn, MultiProgress, MultiProgressAlignment, ProgressBar, ProgressDrawTarget, ProgressFinish,
-    ProgressStyle, Refusal, Setup, StepClock,
+    ProgressStyle, Refusal, StepClock,
 };
-use scripts::judged::on_board::done;
-use scripts::judged::record::{Behind, Record};
-use scripts::judged::script::{Said, Step};
-use std::alloc::Global;
 use std::rc::Rc;
-use std::sync::Wait;
 
 type Bar<R> = ProgressBar<Behind, StepClock, R>;
 
-/// A clock that stands still.
-const CLOCK: StepClock = StepClock { next: 0, step: 0 };
-
 /// A shared board, its bars in the order of insertion, and what its terminal's writer got.
 #[derive(Drop)]
-pub struct OnShared<R: Wait + Copy + Clone + Drop> {
+pub struct OnShared<R: Runs> {
     rt: R,
-    alloc: Global,
     board: MultiProgress<Behind, StepClock, R>,
     bars: Vec<Option<Bar<R>>>,
     record: Rc<Record>,
 }
 
-impl<R: AllocGlobal + Wait + Copy + Clone + Drop> OnShared<R> {
+impl<R: Runs> OnShared<R> {
     /// A board without bars on this terminal.
     pub fn new(rt: R, term: Behind, record: &Rc<Record>) -> Result<OnShared<R>, Refusal> {
-        let alloc = rt.alloc();
         let record = record.clone()?;
-        let bars = Vec::with_capacity(alloc, 8)?;
-        let setup = Setup {
-            target: ProgressDrawTarget::term_like(term),
-            clock: CLOCK,
-        };
+        let bars = Vec::with_capacity(rt.alloc(), 8)?;
+        let setup = still(ProgressDrawTarget::term_like(term));
         Ok(OnShared {
             rt,
-            alloc,
-            board: MultiProgress::new(rt, alloc, setup, 1)?,
+            board: MultiProgress::new(rt, rt.alloc(), setup, MARK)?,
             bars,
             record,
         })
     }
-}
 
-impl<R: Wait + Copy + Clone + Drop> OnShared<R> {
     /// A bar with this message that stands on no board.
     fn saying(&self, text: &str) -> Result<Bar<R>, Refusal> {
-        let style = ProgressStyle::with_template(self.alloc, "{msg}")?;
-        let setup = Setup {
-            target: ProgressDrawTarget::hidden(),
-            clock: CLOCK,
-        };
-        ProgressBar::styled(self.rt, self.alloc, style, None, setup)?.with_message(text)
+        let style = ProgressStyle::with_template(self.rt.alloc(), "{msg}")?;
+        let setup = still(ProgressDrawTarget::hidden());
+        ProgressBar::styled(self.rt, self.rt.alloc(), style, None, setup)?.with_message(text)
     }
 
     fn bar(&self, number: u64) -> Result<&Bar<R>, Refusal> {
@@ -73,35 +59,28 @@ impl<R: Wait + Copy + Clone + Drop> OnShared<R> {
         Ok(self.bars.push(Some(taken?))?)
     }
 
-    /// Sets the message of a bar, or lets it keep its rows if there is none; it isn't drawn.
-    fn told(&mut self, number: u64, text: Option<&str>) -> Result<(), Refusal> {
-        let bar = self.bar(number)?.clone()?;
-        let told = match text {
-            Some(text) => bar.with_message(text),
-            None => bar.with_finish(ProgressFinish::AndLeave),
-        };
-        told?;
-        Ok(())
-    }
-
     /// Drops the last owner of a bar, which has no answer: it counts as drawn if the writer didn't fail.
     fn drop_bar(&mut self, number: u64) -> Said {
-        let before = self.record.point().failures;
+        let before = self.record.point();
         if let Some(bar) = self.bars.get_mut(number as usize) {
             *bar = None;
         }
-        match self.record.point().failures == before {
-            true => Ok(Drawn::Yes),
-            false => Err(Refusal::Terminal(self.record.failed_by())),
+        match self.record.point().failure_since(before) {
+            None => Ok(Drawn::Yes),
+            Some(kind) => Err(Refusal::Terminal(kind)),
         }
     }
 
-    fn settles(&mut self, step: Step) -> Result<(), Refusal> {
+    fn settle(&mut self, step: Step) -> Result<(), Refusal> {
         match step {
             Step::Add(text) => self.add(None, text),
             Step::Before(anchor, text) => self.add(Some(anchor), text),
-            Step::Told(bar, text) => self.told(bar, Some(text)),
-            Step::Keep(bar) => self.told(bar, None),
+            Step::Told(bar, text) => settled(self.bar(bar)?.clone()?.with_message(text)),
+            Step::Keep(bar) => settled(
+                self.bar(bar)?
+                    .clone()?
+                    .with_finish(ProgressFinish::AndLeave),
+            ),
             Step::Remove(bar) => self.board.remove(self.bar(bar)?),
             Step::Bottom => self.board.set_alignment(MultiProgressAlignment::Bottom),
             Step::Top => self.board.set_alignment(MultiProgressAlignment::Top),
@@ -120,7 +99,7 @@ impl<R: Wait + Copy + Clone + Drop> OnShared<R> {
             Step::BarLog(bar, text) => self.bar(bar)?.println(text),
             Step::Clear => self.board.clear(),
             Step::Suspend => self.board.suspend(|| ()).1,
-            _ => done(self.settles(step)),
+            _ => done(self.settle(step)),
         }
     }
 }

@@ -1,99 +1,38 @@
 //! The runs of a script, one for each place where its terminal can fail.
-use crate::sweeps::kinds::{Kind, run};
-use scripts::judged::judge::{Finding, Look};
-use scripts::judged::record::{Plan, Point, Size};
+use crate::faults::{Fault, Tally};
+use crate::sweeps::judge::Look;
+use crate::sweeps::play::{Play, Where};
+use crate::sweeps::players::{Kind, Player};
+use crate::sweeps::printing;
+use crate::sweeps::record::{Plan, Point, Size};
+use crate::sweeps::refused::ROOM;
 use std::sync::Wait;
-
-/// A run: what plays its script, on a terminal of this size that fails as planned, and at which bytes rows are checked.
-#[derive(Clone, Copy, Drop)]
-pub struct Case {
-    pub kind: Kind,
-    pub size: Size,
-    pub plan: Plan,
-    pub look: Look,
-}
-
-impl Case {
-    /// Whether this many of its calls may fail.
-    fn admits(self, failed: u64) -> bool {
-        match self.plan {
-            Plan::Never => failed == 0,
-            Plan::Call(_) | Plan::Byte(_) => failed == 1,
-            Plan::Both(..) => failed == 1 || failed == 2,
-            Plan::From(_) => failed > 0,
-        }
-    }
-}
-
-/// How many runs there were, how many were wrong, and what was found in the first of these if it is a script's.
-#[derive(Default, Drop)]
-pub struct Tally {
-    pub runs: u64,
-    pub differ: u64,
-    pub first: Option<(Case, Found)>,
-}
-
-/// The result of a run.
-#[derive(Debug, Drop)]
-pub enum Found {
-    /// Wrong.
-    Wrong(Finding),
-    /// This many of its calls failed.
-    Failed(u64),
-}
 
 /// What it needs from the runtime.
 pub trait Runs: AllocGlobal + Wait + Copy + Clone + Drop {}
 
 impl<R: AllocGlobal + Wait + Copy + Clone + Drop> Runs for R {}
 
-impl Tally {
-    /// Counts a run.
-    pub fn count(&mut self, is_right: bool) {
-        self.runs = self.runs.saturating_add(1);
-        if !is_right {
-            self.differ = self.differ.saturating_add(1);
-        }
-    }
+/// A run: on a terminal of this size that fails as planned.
+#[derive(Clone, Copy, Debug, Drop)]
+pub struct Case {
+    pub size: Size,
+    pub plan: Plan,
+}
 
-    /// Plays this case, and counts it; how much the writer got, nothing if the run is wrong.
-    fn plays<R: Runs>(&mut self, rt: R, case: Case) -> Point {
-        let found = match run(rt, case) {
-            Ok((failed, point)) if case.admits(failed) => {
-                self.count(true);
-                return point;
-            }
-            Ok((failed, _)) => Found::Failed(failed),
-            Err(finding) => Found::Wrong(finding),
-        };
-        self.count(false);
-        if self.first.is_none() {
-            self.first = Some((case, found));
-        }
-        Point::default()
-    }
-
-    /// Makes the runs in which this call and a later one fail, for each later one up to the last.
-    fn with_each_later<R: Runs>(&mut self, rt: R, case: Case, (first, last): (u64, u64)) {
-        for second in first.saturating_add(1)..=last {
-            let plan = Plan::Both(first, second);
-            self.plays(rt, Case { plan, ..case });
-        }
+impl Case {
+    /// A run on a terminal of this size that doesn't fail.
+    pub fn unbroken(size: Size) -> Case {
+        let plan = Plan::Never;
+        Case { size, plan }
     }
 }
 
-/// Where a terminal fails in the runs of a script. Before them the script is played once without a failure.
-#[derive(Clone, Copy, Drop)]
-pub enum Sweep {
-    /// At each call, once; it takes nothing.
-    EachCall,
-    /// At each byte, once; the bytes before it in its call are taken.
-    EachByte,
-    /// From each call on.
-    FromEachCall,
-    /// At each two calls.
-    EachPair,
-}
+/// The first plans of the sweeps that are made at each size.
+pub const AT_EACH_SIZE: &[Plan] = &[Plan::Call(1), Plan::Byte(0), Plan::From(1)];
+
+/// The first plan of the sweep of each two calls.
+pub const EACH_PAIR: Plan = Plan::Both(1, 2);
 
 /// The size of the largest terminal.
 pub const LARGEST: Size = Size { rows: 4, cols: 6 };
@@ -109,53 +48,86 @@ pub fn size_of(number: u16) -> Size {
     }
 }
 
-impl Sweep {
-    /// Its name.
+impl Plan {
+    /// The name of a sweep of such plans.
     pub fn name(self) -> &'static str {
         match self {
-            Sweep::EachCall => "each call fails",
-            Sweep::EachByte => "each byte fails",
-            Sweep::FromEachCall => "from each call on all fail",
-            Sweep::EachPair => "each two calls fail",
+            Plan::Never => "nothing fails",
+            Plan::Call(_) => "each call fails",
+            Plan::Byte(_) => "each byte fails",
+            Plan::From(_) => "from each call on all fail",
+            Plan::Both(..) => "each two calls fail",
         }
     }
 
-    /// Makes the runs at one size, and counts them. If two calls fail, rows are checked after each call; otherwise after each byte from the
-    /// first failure on, but on smaller terminals only until a failure is drawn over.
-    pub fn at<R: Runs>(self, rt: R, kind: Kind, size: Size, tally: &mut Tally) {
-        let unfailed = Case {
-            kind,
-            size,
-            plan: Plan::Never,
-            look: Look::EachByte,
-        };
-        let point = tally.plays(rt, unfailed);
-        let look = match self {
-            Sweep::EachPair => Look::EachCall,
-            _ if size == LARGEST => Look::FromFailure,
-            _ => Look::AtFailure,
-        };
-        let case = Case { look, ..unfailed };
+    /// Whether there is such a place in a run without a failure, in which the writer gets this much.
+    fn is_in(self, whole: Point) -> bool {
         match self {
-            Sweep::EachCall | Sweep::FromEachCall => self.each(rt, case, point.calls, tally),
-            Sweep::EachByte => self.each(rt, case, point.bytes as u64, tally),
-            Sweep::EachPair => {
-                for first in 1..=point.calls {
-                    tally.with_each_later(rt, case, (first, point.calls));
-                }
-            }
+            Plan::Never => false,
+            Plan::Call(at) | Plan::From(at) | Plan::Both(_, at) => at <= whole.calls,
+            Plan::Byte(at) => at < whole.bytes,
         }
     }
 
-    /// Makes the runs that fail at the given number of places, counted from 0.
-    fn each<R: Runs>(self, rt: R, case: Case, places: u64, tally: &mut Tally) {
-        for place in 0..places {
-            let plan = match self {
-                Sweep::EachByte => Plan::Byte(place as usize),
-                Sweep::FromEachCall => Plan::From(place.saturating_add(1)),
-                Sweep::EachCall | Sweep::EachPair => Plan::Call(place.saturating_add(1)),
-            };
-            tally.plays(rt, Case { plan, ..case });
+    /// The next plan of a sweep.
+    fn next(self, whole: Point) -> Plan {
+        match self {
+            Plan::Never => Plan::Never,
+            Plan::Call(at) => Plan::Call(at.saturating_add(1)),
+            Plan::From(at) => Plan::From(at.saturating_add(1)),
+            Plan::Byte(at) => Plan::Byte(at.saturating_add(1)),
+            Plan::Both(one, other) if other < whole.calls => Plan::Both(one, other + 1),
+            Plan::Both(one, _) => Plan::Both(one.saturating_add(1), one.saturating_add(2)),
         }
+    }
+}
+
+/// Makes the runs of a script, or of `bars run`, at one size, and counts them: one without a failure, and those by this plan and the next
+/// ones. If two calls fail, rows are checked after each call; otherwise after each byte from the first failure on, but on smaller terminals
+/// only until a failure is drawn over.
+pub fn sweep_at<R: Runs>(
+    rt: R,
+    kind: Option<Kind>,
+    Case { size, mut plan }: Case,
+    tally: &mut Tally<Case>,
+) {
+    let look = match plan {
+        Plan::Both(..) => Look::EachCall,
+        _ if size == LARGEST => Look::FromFailure,
+        _ => Look::AtFailure,
+    };
+    let never = Case::unbroken(size);
+    let whole = tally.count(never, run(rt, kind, (never, Look::EachByte)));
+    for _ in 0..u64::MAX {
+        if !plan.is_in(whole) {
+            return;
+        }
+        let case = Case { size, plan };
+        tally.count(case, run(rt, kind, (case, look)));
+        plan = plan.next(whole);
+    }
+}
+
+/// Makes a run; how much the writer got.
+fn run<R: Runs>(rt: R, kind: Option<Kind>, (case, look): (Case, Look)) -> Result<Point, Fault> {
+    match kind {
+        Some(kind) => run_script(rt, kind, (case, look)),
+        None => printing::run(rt.alloc(), case),
+    }
+}
+
+/// Plays a script on a terminal that fails as planned, and the draw after it on one that doesn't; how much the writer got by then.
+fn run_script<R: Runs>(rt: R, kind: Kind, (case, look): (Case, Look)) -> Result<Point, Fault> {
+    let mut play = Play::new(rt.alloc(), kind, case, ROOM)?;
+    let mut player = Player::new(rt, &play)?;
+    let (_, script, last) = kind.parts();
+    play.plays(&mut player, script)?;
+    let point = play.record.point();
+    play.record.heal();
+    play.plays(&mut player, last)?;
+    match play.looked_at(look)? {
+        Where::Nowhere if case.plan.admits(point.failures) => Ok(point),
+        Where::Nowhere => Err(Fault::Failures),
+        _ => Err(Fault::Answer),
     }
 }

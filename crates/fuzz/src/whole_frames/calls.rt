@@ -1,6 +1,6 @@
 //! Random frames, each like the last one, and calls.
 use crate::numbers::Numbers;
-use indicatif_term::target::{LineType, Segment};
+use indicatif_term::target::{Keep, LineType, Segment};
 use indicatif_text::columns::Refusal;
 use std::alloc::Global;
 
@@ -14,11 +14,14 @@ pub enum Call {
     Keep(u64),
 }
 
+/// The answer of a call, with what became of the rows of a bar if it keeps them.
+pub type Answer = Result<Option<Keep>, Refusal>;
+
 /// The bars that are drawn.
 #[derive(Drop)]
 pub struct Frame {
     alloc: Global,
-    bars: Vec<Segment>,
+    pub bars: Vec<Segment>,
     /// The number of the next new bar.
     next: u64,
 }
@@ -32,23 +35,18 @@ impl Frame {
         }
     }
 
-    pub fn bars(&self) -> &[Segment] {
-        &self.bars
-    }
-
     /// Changes it a little, or not at all.
     pub fn change(&mut self, numbers: &mut Numbers) -> Result<(), Refusal> {
         let at = numbers.below(self.bars.len() + 1);
-        match numbers.below(8) {
-            0 | 1 => self.add(at, numbers),
-            2 => {
-                self.take(at);
-                Ok(())
-            }
-            3 => self.lengthen(at, numbers),
-            4 | 5 => self.rewrite(at, numbers),
-            _ => Ok(()),
+        let change = numbers.below(8);
+        match (change, self.bars.get_mut(at)) {
+            (0 | 1, _) => self.add(at, numbers)?,
+            (2, _) => self.take(at),
+            (3, Some(bar)) => lengthen(self.alloc, &mut bar.lines, numbers)?,
+            (4 | 5, Some(bar)) => rewrite(self.alloc, &mut bar.lines, numbers)?,
+            _ => (),
         }
+        Ok(())
     }
 
     /// Adds a new bar of up to three lines.
@@ -71,58 +69,52 @@ impl Frame {
         }
     }
 
-    /// Adds a line to a bar.
-    fn lengthen(&mut self, at: usize, numbers: &mut Numbers) -> Result<(), Refusal> {
-        if at < self.bars.len() {
-            let line = line(self.alloc, numbers)?;
-            let place = numbers.below(self.bars[at].lines.len() + 1);
-            let lines = &mut self.bars[at].lines;
-            lines.insert(place.min(lines.len()), line)?;
-        }
-        Ok(())
-    }
-
-    /// Sets another text of a line.
-    fn rewrite(&mut self, at: usize, numbers: &mut Numbers) -> Result<(), Refusal> {
-        if at < self.bars.len() {
-            let line = match numbers.below(2) {
-                0 => LineType::Bar(progress(self.alloc, numbers)?),
-                _ => line(self.alloc, numbers)?,
-            };
-            let place = numbers.below(self.bars[at].lines.len());
-            if place < self.bars[at].lines.len() {
-                self.bars[at].lines[place] = line;
-            }
-        }
-        Ok(())
-    }
-
     /// A call that fits the frame.
     pub fn call(&mut self, numbers: &mut Numbers) -> Result<Call, Refusal> {
-        Ok(match numbers.below(16) {
-            0 | 1 => Call::Log(text(self.alloc, numbers)?),
-            2 => Call::Clear,
-            3 => match self.bars.first() {
-                Some(bar) => Call::Keep(bar.bar),
-                None => Call::Keep(0),
-            },
-            4 | 5 => Call::Draw(numbers.below(self.bars.len() + 1)),
+        Ok(match (numbers.below(16), self.bars.first()) {
+            (0 | 1, _) => Call::Log(text(self.alloc, numbers)?),
+            (2, _) => Call::Clear,
+            (3, Some(bar)) => Call::Keep(bar.bar),
+            (3, None) => Call::Keep(0),
+            (4 | 5, _) => Call::Draw(numbers.below(self.bars.len() + 1)),
             _ => Call::Draw(0),
         })
     }
 
     /// Removes the bars that were dropped or kept.
     pub fn follow(&mut self, call: &Call) {
-        match call {
-            Call::Draw(pass) => {
-                for _ in 0..*pass {
-                    self.take(0);
-                }
-            }
-            Call::Keep(_) => self.take(0),
-            Call::Log(_) | Call::Clear => {}
+        let gone = match call {
+            Call::Draw(pass) => *pass,
+            Call::Keep(_) => 1,
+            Call::Log(_) | Call::Clear => 0,
+        };
+        for _ in 0..gone {
+            self.take(0);
         }
     }
+}
+
+/// Adds a line.
+fn lengthen(
+    alloc: Global,
+    lines: &mut Vec<LineType>,
+    numbers: &mut Numbers,
+) -> Result<(), Refusal> {
+    let line = line(alloc, numbers)?;
+    let place = numbers.below(lines.len() + 1);
+    Ok(lines.insert(place.min(lines.len()), line)?)
+}
+
+/// Sets another text of a line.
+fn rewrite(alloc: Global, lines: &mut [LineType], numbers: &mut Numbers) -> Result<(), Refusal> {
+    let line = match numbers.one_in(2) {
+        true => LineType::Bar(progress(alloc, numbers)?),
+        false => line(alloc, numbers)?,
+    };
+    if let Some(old) = lines.get_mut(numbers.below(lines.len())) {
+        *old = line;
+    }
+    Ok(())
 }
 
 /// A line.
@@ -138,7 +130,7 @@ fn line(alloc: Global, numbers: &mut Numbers) -> Result<LineType, Refusal> {
 /// A text of one line or two.
 fn text(alloc: Global, numbers: &mut Numbers) -> Result<String, Refusal> {
     let mut text = characters(alloc, numbers)?;
-    if numbers.below(3) == 0 {
+    if numbers.one_in(3) {
         text.push('\n')?;
         text.push_str(characters(alloc, numbers)?.as_str())?;
     }
@@ -147,38 +139,20 @@ fn text(alloc: Global, numbers: &mut Numbers) -> Result<String, Refusal> {
 
 /// A progress bar in colours between narrow characters, as long as any other: of two such lines only some cells differ.
 fn progress(alloc: Global, numbers: &mut Numbers) -> Result<String, Refusal> {
-    let mut text = String::from_str(alloc, "c")?;
     let done = numbers.below(5);
-    text.push_str(match numbers.below(8) {
-        0 => "\u{1b}[35m",
-        _ => "\u{1b}[1m\u{1b}[36m",
-    })?;
-    text.push_str("bbbb".get(..done).unwrap_or(""))?;
-    text.push_str("\u{1b}[34m")?;
-    text.push_str("dd d".get(done..).unwrap_or(""))?;
-    text.push_str("\u{1b}[0m\u{1b}[0m")?;
-    text.push_str(match numbers.below(4) {
-        0 => "c",
-        1 => "\u{1b}[31mr\u{1b}[0m",
-        _ => "d",
-    })?;
-    Ok(text)
+    let colours = match numbers.one_in(8) {
+        true => "\u{1b}[35m",
+        false => "\u{1b}[1m\u{1b}[36m",
+    };
+    let last = numbers.piece_of("c|\u{1b}[31mr\u{1b}[0m|d|d");
+    let front = "bbbb".get(..done).unwrap_or("");
+    let back = "dd d".get(done..).unwrap_or("");
+    Ok(format!(in alloc; "c{colours}{front}\u{1b}[34m{back}\u{1b}[0m\u{1b}[0m{last}")?)
 }
 
-/// Some characters: narrow, wide and joined ones, and colours. The first isn't a zero-width one.
+/// Some characters: narrow, wide and joined ones, and colours.
 fn characters(alloc: Global, numbers: &mut Numbers) -> Result<String, Refusal> {
-    let mut text = String::new(alloc);
-    for at in 0..numbers.below(10) {
-        text.push_str(match numbers.below(12) {
-            0 | 1 => "国",
-            2 if at > 0 => "a\u{308}",
-            3 => "\u{1b}[31mr\u{1b}[0m",
-            4 => " ",
-            5 => "b",
-            6 => "\u{1b}[36mb\u{1b}[34md\u{1b}[0m\u{1b}[0m",
-            7 => "c",
-            _ => "d",
-        })?;
-    }
-    Ok(text)
+    let pieces =
+        "国|国|a\u{308}|\u{1b}[31mr\u{1b}[0m| |b|\u{1b}[36mb\u{1b}[34md\u{1b}[0m\u{1b}[0m|c|d|d|d|d";
+    numbers.joined(alloc, pieces, 9)
 }

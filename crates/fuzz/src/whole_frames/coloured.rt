@@ -1,56 +1,36 @@
 //! A terminal that keeps colours: one in memory that shows a character with colours as another one of its width.
+use crate::sweeps::record::Size;
 use indicatif_term::cells::Cells;
 use indicatif_text::columns::Refusal;
-use scripts::judged::record::Size;
 use std::alloc::Global;
 
-/// The open colours: whether letters are bold, and the colour's number, 0 for none.
-#[derive(Clone, Copy, Drop)]
-struct Look {
-    is_bold: bool,
-    colour: u8,
+/// The number of the open colours after a parameter of a colour sequence: 0 for none, 1 to 8 for `30` to `37`, and 9 more for bold letters.
+fn told(number: u8, parameter: &str) -> u8 {
+    match parameter.parse::<u8>() {
+        Ok(1) => (number % 9).saturating_add(9),
+        Ok(colour) if 30 <= colour && colour < 38 => {
+            (number / 9).saturating_mul(9).saturating_add(colour - 29)
+        }
+        _ => 0,
+    }
 }
 
-/// No colours.
-const PLAIN: Look = Look {
-    is_bold: false,
-    colour: 0,
-};
-
-impl Look {
-    /// The colours after a parameter of a colour sequence.
-    fn told(self, parameter: &str) -> Look {
-        match parameter.parse::<u8>() {
-            Ok(1) => Look {
-                is_bold: true,
-                colour: self.colour,
-            },
-            Ok(number) if 30 <= number && number < 38 => Look {
-                is_bold: self.is_bold,
-                colour: number - 29,
-            },
-            _ => PLAIN,
-        }
-    }
-
-    /// The character that shows this one with these colours: one of private use for an ASCII one, a wide one for a wide one.
-    fn shown(self, c: char) -> char {
-        let number = u32::from(self.colour) + if self.is_bold { 9 } else { 0 };
-        let other = match c {
-            _ if number == 0 => Some(c),
-            ' '..='~' => char::from_u32(0xE000 + 96 * number + c as u32),
-            '国' => char::from_u32('国' as u32 + number),
-            _ => Some(c),
-        };
-        other.unwrap_or(c)
-    }
+/// The character that shows this one with colours: one of private use for an ASCII one, a wide one for a wide one.
+fn shown(number: u8, c: char) -> char {
+    let other = match c {
+        ' '..='~' if number > 0 => char::from_u32(0xE000 + 96 * u32::from(number) + c as u32),
+        '国' => char::from_u32('国' as u32 + u32::from(number)),
+        _ => None,
+    };
+    other.unwrap_or(c)
 }
 
 /// A terminal with its colours, of which `0`, `1` and the eight of `30` to `37` are known.
 #[derive(Drop)]
 pub struct Coloured {
     cells: Cells,
-    look: Look,
+    /// The number of the open colours.
+    open: u8,
     /// How many bytes were read.
     read: usize,
     /// What was read of a sequence.
@@ -63,7 +43,7 @@ impl Coloured {
     pub fn new(alloc: Global, size: Size) -> Result<Coloured, Refusal> {
         Ok(Coloured {
             cells: Cells::new(alloc, size.rows, size.cols)?,
-            look: PLAIN,
+            open: 0,
             read: 0,
             sequence: String::new(alloc),
             fed: String::new(alloc),
@@ -86,7 +66,7 @@ impl Coloured {
 
     fn take(&mut self, c: char) -> Result<(), Refusal> {
         if self.sequence.is_empty() && c != '\u{1b}' {
-            self.fed.push(self.look.shown(c))?;
+            self.fed.push(shown(self.open, c))?;
             return Ok(());
         }
         self.sequence.push(c)?;
@@ -104,7 +84,7 @@ impl Coloured {
             .unwrap_or("")
             .strip_suffix('m')
         {
-            Some(parameter) => self.look = self.look.told(parameter),
+            Some(parameter) => self.open = told(self.open, parameter),
             None => self.fed.push_str(sequence)?,
         }
         self.sequence.clear();

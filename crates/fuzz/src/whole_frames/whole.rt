@@ -1,212 +1,177 @@
 //! An engine that writes whole frames: it erases all rows, and writes all lines again.
-use indicatif_term::target::{Keep, LineType, MultiProgressAlignment, Segment, TermLike};
+use crate::sweeps::record::Size;
+use crate::whole_frames::calls::{Answer, Call};
+use indicatif_term::target::{Keep, MultiProgressAlignment, Segment};
 use indicatif_text::columns::{Refusal, wrapped};
 use std::alloc::Global;
 use std::convert::AsStr;
-use std::io;
-
-/// How many rows a bar has.
-#[derive(Drop)]
-struct BarRows {
-    bar: u64,
-    rows: usize,
-}
-
-/// The shown part of a frame: lines from its front, and how many rows each bar has of them.
-#[derive(Drop)]
-struct Shown<'a> {
-    lines: Vec<&'a str>,
-    bars: Vec<BarRows>,
-}
 
 /// An engine that writes whole frames. Rows are counted from the first one that may still change.
 #[derive(Drop)]
-pub struct WholeFrames<T: TermLike + Drop> {
+pub struct WholeFrames {
     alloc: Global,
-    term: T,
+    size: Size,
+    written: String,
     kept: usize,
-    blanks: usize,
-    bars: Vec<BarRows>,
+    /// Whose each row below these is; nobody's if it is a blank one.
+    live: Vec<Option<u64>>,
     /// How many rows were reached.
     reach: usize,
     /// Whether the cursor is at the front of the row below all these; otherwise it waits at the end of the last.
     below: bool,
 }
 
-impl<T: TermLike + Drop> WholeFrames<T> {
-    pub fn new(alloc: Global, term: T) -> WholeFrames<T> {
+impl WholeFrames {
+    pub fn new(alloc: Global, size: Size) -> WholeFrames {
         WholeFrames {
             alloc,
-            term,
+            size,
+            written: String::new(alloc),
             kept: 0,
-            blanks: 0,
-            bars: Vec::new(alloc),
+            live: Vec::new(alloc),
             reach: 1,
             below: true,
         }
     }
 
-    pub fn term(&self) -> &T {
-        &self.term
+    /// What it has written.
+    pub fn written(&self) -> &[u8] {
+        self.written.as_str().as_bytes()
     }
 
-    /// Writes a frame over the last rows; above it a text, if one is given.
+    /// Makes a call: a draw writes a frame over the live rows, and keeps the rows of its first bars; a log writes a text above a frame, over
+    /// all rows; a clear writes nothing over all rows.
+    pub fn make(
+        &mut self,
+        call: &Call,
+        frame: &[Segment],
+        alignment: MultiProgressAlignment,
+    ) -> Answer {
+        let live = self.live.len();
+        let all = self.kept.saturating_add(live);
+        let above = match call {
+            Call::Draw(_) => self.replace(live, None, frame, alignment)?,
+            Call::Log(text) => self.replace(all, Some(text.as_str()), frame, alignment)?,
+            Call::Clear => self.replace(all, None, &[], alignment)?,
+            Call::Keep(bar) => return Ok(Some(self.keep(*bar)?)),
+        };
+        match call {
+            Call::Draw(pass) => self.scroll(frame.get(..*pass).unwrap_or(frame))?,
+            _ => {
+                self.kept = 0;
+                let reached = above.saturating_add(self.live.len());
+                self.reach = self.reach.max(reached).saturating_sub(above);
+            }
+        }
+        self.rest()?;
+        Ok(None)
+    }
+
+    /// Writes a text and below it a frame, over the last rows; how many rows the text has.
     fn replace(
         &mut self,
         taken: usize,
-        text: Option<(&str, usize)>,
+        text: Option<&str>,
         frame: &[Segment],
         alignment: MultiProgressAlignment,
-    ) -> Result<(), Refusal> {
-        let above = match text {
-            Some((_, rows)) => rows,
-            None => 0,
-        };
-        let shown = self.shown(frame)?;
-        let rows = total(&shown.bars);
+    ) -> Result<usize, Refusal> {
+        let mut lines = lines_of(self.alloc, text)?;
+        let above = self.rows_of(&lines)?;
+        let (shown, live) = self.shown(frame)?;
         let blanks = match alignment {
-            MultiProgressAlignment::Bottom if rows > 0 => {
-                taken.saturating_sub(above).saturating_sub(rows)
+            MultiProgressAlignment::Bottom if !live.is_empty() => {
+                taken.saturating_sub(above).saturating_sub(live.len())
             }
             _ => 0,
         };
+        lines.resize(lines.len().saturating_add(blanks), "")?;
+        lines.extend_from_slice(&shown)?;
         self.take_back(taken)?;
-        self.put(text, blanks, &shown.lines)?;
-        self.bars = shown.bars;
-        self.blanks = blanks;
+        for line in lines {
+            self.put(line)?;
+        }
+        self.live = Vec::from_elem(self.alloc, None, blanks)?;
+        self.live.extend_from_slice(&live)?;
+        Ok(above)
+    }
+
+    /// Keeps the rows of these bars; rows that the window left behind don't change anymore.
+    fn scroll(&mut self, passed: &[Segment]) -> Result<(), Refusal> {
+        let reached = self.kept.saturating_add(self.live.len());
+        self.reach = self.reach.max(reached);
+        for bar in passed {
+            self.keep(bar.bar)?;
+        }
+        let behind = self.reach.saturating_sub(usize::from(self.size.rows));
+        let gone = self.kept.min(behind);
+        self.kept = self.kept.saturating_sub(gone);
+        self.reach = self.reach.saturating_sub(gone);
         Ok(())
     }
 
-    /// Draws a frame over the live rows; the rows of its first bars are kept.
-    pub fn draw(
-        &mut self,
-        frame: &[Segment],
-        pass: usize,
-        alignment: MultiProgressAlignment,
-    ) -> Result<(), Refusal> {
-        let taken = self.live();
-        self.replace(taken, None, frame, alignment)?;
-        self.reach = self.reach.max(self.kept.saturating_add(self.live()));
-        for bar in frame.iter().take(pass) {
-            self.keep_first(bar.bar);
+    /// Keeps the rows of a bar that is gone, with the blanks above them, if they are the first.
+    fn keep(&mut self, bar: u64) -> Result<Keep, Refusal> {
+        let mut end = 0_usize;
+        let mut is_behind = false;
+        for (at, row) in self.live.iter().enumerate() {
+            if *row == Some(bar) {
+                end = at.saturating_add(1);
+            }
+            is_behind |= end == 0 && row.is_some();
         }
-        let gone = self.kept.min(self.reach.saturating_sub(self.height()));
-        self.kept -= gone;
-        self.reach = self.reach.saturating_sub(gone);
-        self.rest()
-    }
-
-    /// Writes a text above a frame, over all rows.
-    pub fn log(
-        &mut self,
-        text: &str,
-        frame: &[Segment],
-        alignment: MultiProgressAlignment,
-    ) -> Result<(), Refusal> {
-        let above = self.rows_of_text(text)?;
-        let taken = self.kept.saturating_add(self.live());
-        self.replace(taken, Some((text, above)), frame, alignment)?;
-        self.kept = 0;
-        let reached = above.saturating_add(self.live());
-        self.reach = self.reach.max(reached).saturating_sub(above);
-        self.rest()
-    }
-
-    /// Erases all rows.
-    pub fn clear(&mut self) -> Result<(), Refusal> {
-        self.take_back(self.kept.saturating_add(self.live()))?;
-        self.kept = 0;
-        self.blanks = 0;
-        self.bars.clear();
-        self.rest()
-    }
-
-    /// Keeps the rows of a bar that is gone, if they are the first.
-    pub fn keep(&mut self, bar: u64) -> Keep {
-        if self.keep_first(bar) {
-            return Keep::Passed;
-        }
-        for rows in &self.bars {
-            if rows.bar == bar {
-                return Keep::Behind;
+        match (end, is_behind) {
+            (0, _) => Ok(Keep::Absent),
+            (_, true) => Ok(Keep::Behind),
+            _ => {
+                self.kept = self.kept.saturating_add(end);
+                let rest = self.live.get(end..).unwrap_or(&[]);
+                self.live = Vec::from_slice(self.alloc, rest)?;
+                Ok(Keep::Passed)
             }
         }
-        Keep::Absent
-    }
-
-    /// Keeps the first bar's rows, with the blanks above them, if it is this one; whether it is.
-    fn keep_first(&mut self, bar: u64) -> bool {
-        if self.bars.is_empty() || self.bars[0].bar != bar {
-            return false;
-        }
-        let first = self.bars.remove(0);
-        self.kept = self
-            .kept
-            .saturating_add(self.blanks)
-            .saturating_add(first.rows);
-        self.blanks = 0;
-        true
-    }
-
-    fn live(&self) -> usize {
-        self.blanks.saturating_add(total(&self.bars))
     }
 
     fn width(&self) -> usize {
-        self.term.width() as usize
+        usize::from(self.size.cols)
     }
 
-    fn height(&self) -> usize {
-        self.term.height() as usize
-    }
-
-    fn rows_of_text(&self, text: &str) -> Result<usize, Refusal> {
-        if text.is_empty() {
-            return Ok(1);
-        }
+    /// How many rows these lines have.
+    fn rows_of(&self, lines: &[&str]) -> Result<usize, Refusal> {
         let mut rows = 0_usize;
-        for line in text.lines() {
+        for line in lines {
             rows = rows.saturating_add(wrapped(line, self.width())?.height);
         }
         Ok(rows)
     }
 
-    /// As many lines from the front as fit on the terminal's rows.
-    fn shown<'a>(&self, frame: &'a [Segment]) -> Result<Shown<'a>, Refusal> {
-        let mut shown = Shown {
-            lines: Vec::new(self.alloc),
-            bars: Vec::new(self.alloc),
-        };
-        let mut room = Some(self.height());
+    /// As many lines from the front of a frame as fit on the terminal's rows, and whose these rows are.
+    fn shown<'a>(&self, frame: &'a [Segment]) -> Result<(Vec<&'a str>, Vec<Option<u64>>), Refusal> {
+        let (mut lines, mut live) = (Vec::new(self.alloc), Vec::new(self.alloc));
+        let mut is_full = false;
         for bar in frame {
-            self.show(bar, &mut room, &mut shown)?;
+            is_full = self.show(bar, &mut lines, &mut live, is_full)?;
         }
-        Ok(shown)
+        Ok((lines, live))
     }
 
-    /// As many lines of a bar as fit on the rows that are left: none after a line that didn't fit.
+    /// As many lines of a bar as fit, none after one that didn't fit; whether there is such a line by now.
     fn show<'a>(
         &self,
         bar: &'a Segment,
-        room: &mut Option<usize>,
-        shown: &mut Shown<'a>,
-    ) -> Result<(), Refusal> {
-        let mut rows = 0_usize;
+        lines: &mut Vec<&'a str>,
+        live: &mut Vec<Option<u64>>,
+        mut is_full: bool,
+    ) -> Result<bool, Refusal> {
         for line in &bar.lines {
-            let height = wrapped(line.as_str(), self.width())?.height;
-            *room = match *room {
-                Some(left) => left.checked_sub(height),
-                None => None,
-            };
-            if room.is_some() {
-                shown.lines.push(line.as_str())?;
-                rows = rows.saturating_add(height);
+            let rows = wrapped(line.as_str(), self.width())?.height;
+            let end = live.len().saturating_add(rows);
+            is_full |= end > usize::from(self.size.rows);
+            if !is_full {
+                lines.push(line.as_str())?;
+                live.resize(end, Some(bar.bar))?;
             }
         }
-        if rows > 0 {
-            shown.bars.push(BarRows { bar: bar.bar, rows })?;
-        }
-        Ok(())
+        Ok(is_full)
     }
 
     /// Erases the last rows: the cursor is at the front of the first afterwards.
@@ -214,88 +179,62 @@ impl<T: TermLike + Drop> WholeFrames<T> {
         if rows == 0 {
             return Ok(());
         }
-        let up = if self.below { rows } else { rows - 1 };
-        told(self.term.move_cursor_up(up))?;
-        told(self.term.clear_line())?;
-        for _ in 1..rows {
-            told(self.term.write_line(""))?;
-            told(self.term.clear_line())?;
+        let last = rows.saturating_sub(1);
+        self.move_up(if self.below { rows } else { last })?;
+        self.written.push_str("\r\u{1b}[2K")?;
+        for _ in 0..last {
+            self.written.push_str("\r\n\r\u{1b}[2K")?;
         }
-        told(self.term.move_cursor_up(rows - 1))?;
         self.below = true;
-        Ok(())
+        self.move_up(last)
     }
 
-    /// Writes lines, each on its own row, and fills the last row.
-    fn put(
-        &mut self,
-        text: Option<(&str, usize)>,
-        blanks: usize,
-        lines: &[&str],
-    ) -> Result<(), Refusal> {
-        if let Some((text, _)) = text {
-            self.put_text(text)?;
-        }
-        self.put_blanks(blanks)?;
-        for line in lines {
-            self.put_line(line)?;
-        }
-        Ok(())
-    }
-
-    fn put_blanks(&mut self, blanks: usize) -> Result<(), Refusal> {
-        for _ in 0..blanks {
-            self.put_line("")?;
-        }
-        Ok(())
-    }
-
-    fn put_text(&mut self, text: &str) -> Result<(), Refusal> {
-        if text.is_empty() {
-            return self.put_line("");
-        }
-        for line in text.lines() {
-            self.put_line(line)?;
+    fn move_up(&mut self, rows: usize) -> Result<(), Refusal> {
+        if rows > 0 {
+            let up = format!(in self.alloc; "\u{1b}[{rows}A")?;
+            self.written.push_str(up.as_str())?;
         }
         Ok(())
     }
 
     /// Writes a line and fills its last row.
-    fn put_line(&mut self, line: &str) -> Result<(), Refusal> {
-        if !self.below {
-            told(self.term.write_line(""))?;
-        }
-        told(self.term.write_str(line))?;
-        let last = wrapped(line, self.width())?.last_line_width;
-        for _ in last..self.width() {
-            told(self.term.write_str(" "))?;
+    fn put(&mut self, line: &str) -> Result<(), Refusal> {
+        self.end_row()?;
+        self.written.push_str(line)?;
+        for _ in wrapped(line, self.width())?.last_line_width..self.width() {
+            self.written.push(' ')?;
         }
         self.below = false;
         Ok(())
     }
 
+    /// Goes below the row at whose end the cursor waits, if it does.
+    fn end_row(&mut self) -> Result<(), Refusal> {
+        if !self.below {
+            self.written.push_str("\r\n")?;
+        }
+        Ok(())
+    }
+
     /// Goes below the rows if no live one is left, and rows below them were reached.
     fn rest(&mut self) -> Result<(), Refusal> {
-        let goes_below = self.live() == 0 && self.reach > self.kept;
-        if goes_below && !self.below {
-            told(self.term.write_line(""))?;
+        let goes_below = self.live.is_empty() && self.reach > self.kept;
+        if goes_below {
+            self.end_row()?;
         }
         self.below = goes_below;
         Ok(())
     }
 }
 
-fn total(bars: &[BarRows]) -> usize {
-    let mut rows = 0_usize;
-    for bar in bars {
-        rows = rows.saturating_add(bar.rows);
+/// The lines of a text, if there is one: an empty one of an empty text.
+fn lines_of(alloc: Global, text: Option<&str>) -> Result<Vec<&str>, Refusal> {
+    let mut lines = Vec::new(alloc);
+    if text == Some("") {
+        lines.push("")?;
     }
-    rows
-}
-
-fn told(answer: io::Result<()>) -> Result<(), Refusal> {
-    match answer {
-        Ok(()) => Ok(()),
-        Err(e) => Err(Refusal::Terminal(e.kind())),
+    for line in text.unwrap_or("").lines() {
+        lines.push(line)?;
     }
+    Ok(lines)
 }

@@ -559,7 +559,7 @@ impl<K: Tracks> BarState<K> {
     }
 
     /// Tells the record that its owner is gone: a bar that isn't finished is finished by its stored finish, and a draw is forced; otherwise
-    /// nothing changes and no draw is asked for.
+    /// nothing changes, and the command wants no draw.
     ///
     /// Refused: `Memory`, only if it is finished with a message that isn't empty; then nothing has changed.
     pub fn dropped(&mut self, now: Moment) -> Result<Ask, Refusal>

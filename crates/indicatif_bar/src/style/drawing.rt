@@ -6,9 +6,9 @@ ghost use Rattle.indicatif_bar.specs.Bars.{is_bar_line};
 ghost use Rattle.std.specs.Str.{trim_end};
 ghost use Rattle.indicatif_term.specs.Frames.{line_text};
 ghost use Rattle.indicatif_bar.specs.Tabs.{expanded};
-ghost use Rattle.indicatif_bar.specs.Progress.{fraction, is_finished, shown_message};
+ghost use Rattle.indicatif_bar.specs.Progress.{fraction, shown_message};
 ghost use Rattle.indicatif_bar.specs.Layout.{bar_text, padded};
-ghost use Rattle.indicatif_bar.specs.Styles.{key_text, tick_string, final_tick_string, wide_text, with_fillers_as, lines_with, lines, columns_left, ends_in_filler, is_newline, is_filler, is_empty_style};
+ghost use Rattle.indicatif_bar.specs.Styles.{key_text, wide_text, with_fillers_as, lines_with, lines, columns_left, ends_in_filler, is_newline, is_filler, is_empty_style};
 ghost use Rattle.indicatif_bar.specs.Inside.Steps.{PutsSource, placeholder_layout, source_text, effect_text, wide_found};
 
 use crate::progress::ProgressState;
@@ -17,10 +17,6 @@ use crate::spare::SpareLines;
 use crate::style::ProgressStyle;
 use crate::style::bar::{RestLook, push_bar};
 use crate::style::filling::{Gap, has_break, has_filler, push_line, push_lines};
-use crate::style::key_texts::{
-    push_count, push_percent, push_percent_precise, push_rate, push_text, push_time,
-    push_whole_rate,
-};
 use crate::style::keys::Key;
 use crate::style::padding::{AtWidth, push_padded};
 use crate::style::steps::{Placeholder, Source, Step, WideKey, literal_at};
@@ -65,37 +61,15 @@ impl<K: Tracks> ProgressStyle<K> {
         ensures memory { IfErr result (λ e. e ≡ Refusal.Memory) }
     {
         match key {
-            Key::Bar => self.push_bar(
-                placeholder,
-                state,
-                u64::from(placeholder.width.unwrap_or(20)),
-                out,
-            ),
-            Key::WideBar | Key::WideMessage => push_text("\0", out),
-            Key::Spinner => push_text(self.spinner_text(state), out),
-            Key::Prefix => push_text(state.prefix(), out),
-            Key::Message => push_text(state.message(), out),
-            Key::Position(form) => push_count(form, state.pos(), out),
-            Key::Length(form) => push_count(form, state.len().unwrap_or(state.pos()), out),
-            Key::Percent => push_percent(state.fraction(), out),
-            Key::PercentPrecise => push_percent_precise(state.fraction(), out),
-            Key::Elapsed(form) => push_time(form, state.elapsed(now), out),
-            Key::Eta(form) => push_time(form, state.eta(now), out),
-            Key::Duration(form) => push_time(form, state.duration(now), out),
-            Key::PerSecond => push_rate(state.per_sec(now), placeholder.width.unwrap_or(4), out),
-            Key::BytesPerSecond(form) => push_whole_rate(form, state.per_sec(now), out),
+            Key::Bar => {
+                let width = u64::from(placeholder.width.unwrap_or(20));
+                self.push_bar(placeholder, state, width, out)?;
+            }
+            Key::WideBar | Key::WideMessage => out.push_str("\0")?,
+            Key::Text(key) => out.push_str(self.shown_text(key, state))?,
+            Key::Number(key) => key.push(state, now, placeholder.width, out)?,
         }
-    }
-
-    /// The spinner's text in this state, finished or not.
-    pub(crate) fn spinner_text(&self, state: &ProgressState) -> &str
-        ensures { result.now ≡ (if is_finished state.now then final_tick_string self.now.tick_strings
-            else tick_string self.now.tick_strings state.now.ticks) }
-    {
-        if state.is_finished() {
-            return self.get_final_tick_str();
-        }
-        self.get_tick_str(state.ticks())
+        Ok(())
     }
 
     /// Appends the text of the tracker at a place, its tabs expanded; nothing if there is none.

@@ -1,6 +1,6 @@
 //! Whether a style shows nothing.
 ghost use Rattle.std.specs.Prelude.{◌≡◌, ◌&&◌};
-ghost use Rattle.indicatif_bar.specs.Styles.{is_bare_layout, is_empty_key, is_empty_style};
+ghost use Rattle.indicatif_bar.specs.Styles.{is_bare_layout, is_empty_style};
 ghost use Rattle.indicatif_bar.specs.Inside.Steps.{effect_of, placeholder_layout, is_empty_source, is_empty_effect};
 
 use crate::progress::ProgressState;
@@ -45,22 +45,10 @@ impl<K: Tracks> ProgressStyle<K> {
             return false;
         }
         match placeholder.source {
-            Source::Tracker(_) => false,
-            Source::Known(key) => self.is_empty_key(key, placeholder, state),
+            Source::Known(Key::Bar) => placeholder.is_bare_bar(self.colours),
+            Source::Known(Key::Text(key)) => self.shown_text(key, state).is_empty(),
             Source::Nothing => true,
-        }
-    }
-
-    /// Whether a key has an empty text.
-    fn is_empty_key(&self, key: Key, placeholder: &Placeholder, state: &ProgressState) -> bool
-        ensures { result ≡ is_empty_key self.now state.now (placeholder_layout placeholder.now) key }
-    {
-        match key {
-            Key::Bar => placeholder.is_bare_bar(self.colours),
-            Key::Spinner => self.spinner_text(state).is_empty(),
-            Key::Prefix => state.prefix().is_empty(),
-            Key::Message => state.message().is_empty(),
-            _ => false,
+            Source::Known(_) | Source::Tracker(_) => false,
         }
     }
 }

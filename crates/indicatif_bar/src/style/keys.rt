@@ -1,6 +1,17 @@
-//! The keys of a template that need no tracker.
-ghost use Rattle.std.specs.Prelude.{◌≡◌};
-ghost use Rattle.indicatif_bar.specs.Keys.{key_named};
+//! The keys of a template that need no tracker: their names, and the texts and numbers that they show.
+ghost use Rattle.std.specs.Prelude.{◌≡◌, ◌<◌, ◌≤◌, ◌++◌, ◌+◌, ◌%◌, string_bytes, decimal, OnOk, IfErr};
+ghost use Rattle.indicatif_bar.specs.Keys.{key_named, shown_text, number_text, count_text, time_text, percent_text, rate_text, whole_rate_text};
+
+use crate::measures::{Fraction, Rate};
+use crate::progress::ProgressState;
+use crate::style::ProgressStyle;
+use crate::tracker::Tracks;
+use indicatif_text::columns::{Moment, Refusal};
+use indicatif_text::format::{
+    BinaryBytes, DecimalBytes, FormattedDuration, HumanCount, HumanDuration, HumanFloatCount,
+    nearest,
+};
+use itoa::Buffer;
 
 /// How a count is written.
 #[derive(Clone, Copy, Drop)]
@@ -24,21 +35,20 @@ pub enum TimeForm {
     Short,
 }
 
-/// A key that needs no tracker.
+/// A key that shows a text of the bar or of its spinner.
 #[derive(Clone, Copy, Drop)]
-pub enum Key {
-    /// The bar, at the placeholder's width or 20 columns.
-    Bar,
-    /// The bar, in the columns that the line leaves free.
-    WideBar,
-    /// The message, in the columns that the line leaves free.
-    WideMessage,
+pub enum TextKey {
     /// The spinner's text after the bar's ticks.
     Spinner,
     /// The prefix.
     Prefix,
     /// The message.
     Message,
+}
+
+/// A key that shows a number of the bar.
+#[derive(Clone, Copy, Drop)]
+pub enum NumberKey {
     /// The position.
     Position(CountForm),
     /// The length, or the position if there is none.
@@ -59,6 +69,21 @@ pub enum Key {
     BytesPerSecond(CountForm),
 }
 
+/// A key that needs no tracker.
+#[derive(Clone, Copy, Drop)]
+pub enum Key {
+    /// The bar, at the placeholder's width or 20 columns.
+    Bar,
+    /// The bar, in the columns that the line leaves free.
+    WideBar,
+    /// The message, in the columns that the line leaves free.
+    WideMessage,
+    /// A text.
+    Text(TextKey),
+    /// A number.
+    Number(NumberKey),
+}
+
 /// The key with a name.
 pub(crate) fn key_named(name: &str) -> Option<Key>
     ensures { result ≡ key_named name.now }
@@ -67,32 +92,165 @@ pub(crate) fn key_named(name: &str) -> Option<Key>
         "bar" => Key::Bar,
         "wide_bar" => Key::WideBar,
         "wide_msg" => Key::WideMessage,
-        "spinner" => Key::Spinner,
-        "prefix" => Key::Prefix,
-        "msg" => Key::Message,
-        "pos" => Key::Position(CountForm::Plain),
-        "human_pos" => Key::Position(CountForm::Human),
-        "bytes" => Key::Position(CountForm::Binary),
-        "binary_bytes" => Key::Position(CountForm::Binary),
-        "decimal_bytes" => Key::Position(CountForm::Decimal),
-        "len" => Key::Length(CountForm::Plain),
-        "human_len" => Key::Length(CountForm::Human),
-        "total_bytes" => Key::Length(CountForm::Binary),
-        "binary_total_bytes" => Key::Length(CountForm::Binary),
-        "decimal_total_bytes" => Key::Length(CountForm::Decimal),
-        "percent" => Key::Percent,
-        "percent_precise" => Key::PercentPrecise,
-        "elapsed" => Key::Elapsed(TimeForm::Short),
-        "elapsed_precise" => Key::Elapsed(TimeForm::Clock),
-        "eta" => Key::Eta(TimeForm::Short),
-        "eta_precise" => Key::Eta(TimeForm::Clock),
-        "duration" => Key::Duration(TimeForm::Short),
-        "duration_precise" => Key::Duration(TimeForm::Clock),
-        "per_sec" => Key::PerSecond,
-        "bytes_per_sec" => Key::BytesPerSecond(CountForm::Binary),
-        "binary_bytes_per_sec" => Key::BytesPerSecond(CountForm::Binary),
-        "decimal_bytes_per_sec" => Key::BytesPerSecond(CountForm::Decimal),
+        "spinner" => Key::Text(TextKey::Spinner),
+        "prefix" => Key::Text(TextKey::Prefix),
+        "msg" => Key::Text(TextKey::Message),
+        "pos" => Key::Number(NumberKey::Position(CountForm::Plain)),
+        "human_pos" => Key::Number(NumberKey::Position(CountForm::Human)),
+        "bytes" => Key::Number(NumberKey::Position(CountForm::Binary)),
+        "binary_bytes" => Key::Number(NumberKey::Position(CountForm::Binary)),
+        "decimal_bytes" => Key::Number(NumberKey::Position(CountForm::Decimal)),
+        "len" => Key::Number(NumberKey::Length(CountForm::Plain)),
+        "human_len" => Key::Number(NumberKey::Length(CountForm::Human)),
+        "total_bytes" => Key::Number(NumberKey::Length(CountForm::Binary)),
+        "binary_total_bytes" => Key::Number(NumberKey::Length(CountForm::Binary)),
+        "decimal_total_bytes" => Key::Number(NumberKey::Length(CountForm::Decimal)),
+        "percent" => Key::Number(NumberKey::Percent),
+        "percent_precise" => Key::Number(NumberKey::PercentPrecise),
+        "elapsed" => Key::Number(NumberKey::Elapsed(TimeForm::Short)),
+        "elapsed_precise" => Key::Number(NumberKey::Elapsed(TimeForm::Clock)),
+        "eta" => Key::Number(NumberKey::Eta(TimeForm::Short)),
+        "eta_precise" => Key::Number(NumberKey::Eta(TimeForm::Clock)),
+        "duration" => Key::Number(NumberKey::Duration(TimeForm::Short)),
+        "duration_precise" => Key::Number(NumberKey::Duration(TimeForm::Clock)),
+        "per_sec" => Key::Number(NumberKey::PerSecond),
+        "bytes_per_sec" => Key::Number(NumberKey::BytesPerSecond(CountForm::Binary)),
+        "binary_bytes_per_sec" => Key::Number(NumberKey::BytesPerSecond(CountForm::Binary)),
+        "decimal_bytes_per_sec" => Key::Number(NumberKey::BytesPerSecond(CountForm::Decimal)),
         _ => return None,
     };
     Some(key)
+}
+
+impl<K: Tracks> ProgressStyle<K> {
+    /// The text that a key shows in this state.
+    pub(crate) fn shown_text<'a>(&'a self, key: TextKey, state: &'a ProgressState) -> &'a str
+        ensures { result.now ≡ shown_text self.now.tick_strings state.now key }
+    {
+        match key {
+            TextKey::Spinner if state.is_finished() => self.get_final_tick_str(),
+            TextKey::Spinner => self.get_tick_str(state.ticks()),
+            TextKey::Prefix => state.prefix(),
+            TextKey::Message => state.message(),
+        }
+    }
+}
+
+impl NumberKey {
+    /// Appends the number that a key shows in this state, for a placeholder of this width.
+    pub(crate) fn push(
+        self,
+        state: &ProgressState,
+        now: Moment,
+        width: Option<u16>,
+        out: &mut String,
+    ) -> Result<(), Refusal>
+        ensures text { OnOk result (string_bytes out.new ≡ string_bytes out.old ++ number_text state.now now width self) }
+        ensures memory { IfErr result (λ e. e ≡ Refusal.Memory) }
+    {
+        match self {
+            NumberKey::Position(form) => push_count(form, state.pos(), out),
+            NumberKey::Length(form) => push_count(form, state.len().unwrap_or(state.pos()), out),
+            NumberKey::Percent => push_percent(state.fraction(), out),
+            NumberKey::PercentPrecise => push_percent_precise(state.fraction(), out),
+            NumberKey::Elapsed(form) => push_time(form, state.elapsed(now), out),
+            NumberKey::Eta(form) => push_time(form, state.eta(now), out),
+            NumberKey::Duration(form) => push_time(form, state.duration(now), out),
+            NumberKey::PerSecond => push_rate(state.per_sec(now), width.unwrap_or(4), out),
+            NumberKey::BytesPerSecond(form) => push_whole_rate(form, state.per_sec(now), out),
+        }
+    }
+}
+
+/// Appends the decimal digits of a number.
+fn push_number(n: u64, out: &mut String) -> Result<(), Refusal>
+    ensures text { OnOk result (string_bytes out.new ≡ string_bytes out.old ++ decimal n) }
+    ensures memory { IfErr result (λ e. e ≡ Refusal.Memory) }
+{
+    let mut digits = Buffer::new();
+    out.push_str(digits.format(n))?;
+    Ok(())
+}
+
+/// Appends a count in its form.
+fn push_count(form: CountForm, n: u64, out: &mut String) -> Result<(), Refusal>
+    ensures text { OnOk result (string_bytes out.new ≡ string_bytes out.old ++ count_text form n) }
+    ensures memory { IfErr result (λ e. e ≡ Refusal.Memory) }
+{
+    match form {
+        CountForm::Plain => push_number(n, out)?,
+        CountForm::Human => write!(out, "{}", HumanCount(n))?,
+        CountForm::Binary => write!(out, "{}", BinaryBytes(n))?,
+        CountForm::Decimal => write!(out, "{}", DecimalBytes(n))?,
+    }
+    Ok(())
+}
+
+/// Appends a time in its form.
+pub(crate) fn push_time(form: TimeForm, nanos: u64, out: &mut String) -> Result<(), Refusal>
+    ensures text { OnOk result (string_bytes out.new ≡ string_bytes out.old ++ time_text form nanos) }
+    ensures memory { IfErr result (λ e. e ≡ Refusal.Memory) }
+{
+    match form {
+        TimeForm::Clock => write!(out, "{}", FormattedDuration(nanos))?,
+        TimeForm::Short => HumanDuration(nanos).write_short(out)?,
+    }
+    Ok(())
+}
+
+/// Appends a fraction in whole hundredths.
+fn push_percent(done: Fraction, out: &mut String) -> Result<(), Refusal>
+    requires some { 0 < done.den }
+    requires whole { done.num ≤ done.den }
+    ensures text { OnOk result (string_bytes out.new ≡ string_bytes out.old ++ percent_text done 0) }
+    ensures memory { IfErr result (λ e. e ≡ Refusal.Memory) }
+{
+    push_number(nearest(u128::from(done.num) * 100, done.den), out)
+}
+
+/// Appends a fraction in hundredths, with three decimals.
+fn push_percent_precise(done: Fraction, out: &mut String) -> Result<(), Refusal>
+    requires some { 0 < done.den }
+    requires whole { done.num ≤ done.den }
+    ensures text { OnOk result (string_bytes out.new ≡ string_bytes out.old ++ percent_text done 3) }
+    ensures memory { IfErr result (λ e. e ≡ Refusal.Memory) }
+{
+    let scaled = nearest(u128::from(done.num) * 100_000, done.den);
+    push_number(scaled / 1000, out)?;
+    out.push('.')?;
+    out.push(digit(scaled / 100))?;
+    out.push(digit(scaled / 10))?;
+    out.push(digit(scaled))?;
+    Ok(())
+}
+
+/// The last decimal digit of a number.
+fn digit(n: u64) -> char
+    ensures { result ≡ 48 + n % 10 }
+{
+    char::from(b'0' + (n % 10) as u8)
+}
+
+/// Appends the steps a second, rounded to `decimals` decimals.
+pub(crate) fn push_rate(rate: Rate, decimals: u16, out: &mut String) -> Result<(), Refusal>
+    requires { 0 < rate.nanos }
+    ensures text { OnOk result (string_bytes out.new ≡ string_bytes out.old ++ rate_text rate decimals) }
+    ensures memory { IfErr result (λ e. e ≡ Refusal.Memory) }
+{
+    let steps = u128::from(rate.steps) * 1_000_000_000;
+    let count = HumanFloatCount::new(steps, rate.nanos).unwrap();
+    count.with_decimals(decimals, out)?;
+    out.push_str("/s")?;
+    Ok(())
+}
+
+/// Appends the whole steps a second, in a form.
+pub(crate) fn push_whole_rate(form: CountForm, rate: Rate, out: &mut String) -> Result<(), Refusal>
+    requires { 0 < rate.nanos }
+    ensures text { OnOk result (string_bytes out.new ≡ string_bytes out.old ++ whole_rate_text form rate) }
+    ensures memory { IfErr result (λ e. e ≡ Refusal.Memory) }
+{
+    push_count(form, rate.steps_a_second(), out)?;
+    out.push_str("/s")?;
+    Ok(())
 }

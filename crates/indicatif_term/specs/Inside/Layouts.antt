@@ -9,11 +9,11 @@ use Rattle.indicatif_term.specs.Shows.{looks_of}
 use Rattle.indicatif_term.specs.Counts.{RowCount, line_counts}
 use Rattle.indicatif_term.specs.Frames.{bar_lines, all_lines, text_lines, some_wide}
 use Rattle.indicatif_term.specs.Remembered.{live_lines}
-use Rattle.indicatif_term.specs.Inside.Edits.{AreSingle}
-use Rattle.indicatif_term.specs.Inside.Owned.{blank_count}
+use Rattle.indicatif_term.specs.Inside.Inks.{IsRead}
+use Rattle.indicatif_term.specs.Inside.Owned.{blank_count, no_plan}
 use Rattle.indicatif_term.specs.Inside.Fills.{line_end, last_or_none}
 use Rattle.indicatif_term.specs.Inside.Changes.{AreSitting}
-use Rattle.indicatif_term.specs.Inside.Plans.{IsPlan, IsSummed, IsLaidOut, IsWithheld, frame_lines, text_height}
+use Rattle.indicatif_term.specs.Inside.Plans.{passing_of, IsPlan, IsSummed, IsLaidOut, IsWithheld, frame_lines, text_height}
 use Rattle.indicatif_term.specs.Inside.Renewed.{AreFitting, renewed}
 use Rattle.indicatif_term.specs.Standing.{placed, texts, standing_rows, AreLines, AreReady}
 use Rattle.indicatif_term.specs.declared.engine.comparing.Turn.{Turn}
@@ -21,7 +21,7 @@ use Rattle.indicatif_term.specs.declared.engine.layout.Laid.{Laid}
 use Rattle.indicatif_term.specs.declared.engine.layout.OwnLine.{OwnLine}
 use Rattle.indicatif_term.specs.declared.engine.layout.Planned.{Planned}
 use Rattle.indicatif_term.specs.declared.engine.lines.Segment.{Segment}
-use Rattle.indicatif_term.specs.declared.engine.parting.Step.TheVariants.{Whole}
+use Rattle.indicatif_term.specs.declared.engine.comparing.Step.TheVariants.{Whole}
 use Rattle.indicatif_term.specs.declared.engine.remembered.Remembered.{Remembered}
 use Rattle.indicatif_term.specs.declared.engine.remembered.Span.{Span}
 use Rattle.indicatif_term.specs.declared.engine.remembered.StandingLine.{StandingLine}
@@ -31,7 +31,7 @@ pub record IsSized (w : ℕ) (line : List ℕ) (t : Turn) : Type 0 where
   pub rows_are : t.rows ≡ length (rows_of w line)
   pub last_is : t.last ≡ last_columns w line
   pub narrow : IsFalse (has_wide w line)
-  pub single : IsTrue t.narrow → AreSingle line
+  pub single : IsTrue t.narrow → IsRead line
 
 -- lines that are written as a whole
 abbrev pub AreWhole : List StandingLine → Type 0
@@ -105,28 +105,50 @@ pub record IsFrameLaid (w h pass : ℕ) (on : List StandingLine) (frame : List S
   pub is_laid : IsLaid w h on (frame_lines frame) (lines_of w (map bar_lines frame)) l
 
 -- a frame laid out, or why it isn't
-abbrev pub FrameLaid : ℕ → ℕ → ℕ → List StandingLine → List Segment → Result Laid Refusal → Type 0
-FrameLaid w h pass on frame result = MatchResult result (λ l. IsFrameLaid w h pass on frame l) (λ e. IsWithheld w (all_lines (map bar_lines frame)) e)
+abbrev pub FrameLaid : ℕ → ℕ → ℕ → List StandingLine → List Segment → Laid → Result Unit Refusal → Type 0
+FrameLaid w h pass on frame l result = MatchResult result (λ _. IsFrameLaid w h pass on frame l) (λ e. IsWithheld w (all_lines (map bar_lines frame)) e)
+
+-- no line yet
+pub record IsNoneLaid (l : Laid) : Type 0 where
+  pub plan_is : l.plan ≡ no_plan
+  pub blanks_are : l.blanks ≡ 0
+  pub at_is : l.at ≡ 0
+  pub none_changed : l.changed.items ≡ []
+  pub none_more : l.more.items ≡ []
+
+-- the first i members of a frame, which stand as they are: all lines of these keep their rows
+pub record IsFrontLaid (w h pass i : ℕ) (on : List StandingLine) (frame : List Segment) (l : Laid) : Type 0 where
+  pub within : i ≤ length frame
+  pub summed : IsSummed h l.plan
+  pub narrow : some_wide w (all_lines (map bar_lines (take i frame))) ≡ false
+  pub passing : l.plan.passing ≡ passing_of w h pass i frame
+  pub none_passes : (l.plan.passing ≡ 0) × (l.plan.passing_rows ≡ 0)
+  pub laid : IsLaid w h on (frame_lines (take i frame)) (lines_of w (map bar_lines (take i frame))) l
+
+-- the blank lines of a drawing in the place of so many rows
+pub record AreBlanksFor (bottom : Bool) (free : ℕ) (l : Laid) : Type 0 where
+  pub are : (taken text : ℕ) → free ≡ taken - text → l.blanks ≡ blanks_for bottom taken text l.plan.rows
+  pub room : l.blanks + l.plan.rows ≤ max free l.plan.rows
 
 -- ---- a drawing
 
 -- what is written is measured for a terminal's window, beside the remembered live lines, and none of its lines is too wide
-pub record IsPlannedFor (v : TermView) (pass : ℕ) (bottom : Bool) (text : List (List ℕ)) (frame : List Segment) (taken : ℕ) (r : Remembered) (p : Planned) : Type 0 where
+pub record IsPlannedFor (v : TermView) (pass : ℕ) (bottom : Bool) (text : List (List ℕ)) (frame : List Segment) (taken : ℕ) (r : Remembered) (l : Laid) (p : Planned) : Type 0 where
   pub columns_are : p.window.columns ≡ v.columns
   pub rows_are : p.window.rows ≡ v.rows
   pub narrow_text : IsFalse (some_wide v.columns (text_lines text))
   pub height_is : p.text.height ≡ min (text_height v.columns (text_lines text)) (2 ^ 64 - 1)
   pub text_ends : p.text.last_line_width ≡ line_end v.columns (last_or_none text)
-  pub frame_is : IsFrameLaid v.columns v.rows pass (live_lines r) frame p.laid
-  pub blanks_are : p.laid.blanks ≡ blanks_for bottom taken p.text.height p.laid.plan.rows
-  pub blank_room : p.laid.blanks + p.laid.plan.rows ≤ max (taken - p.text.height) p.laid.plan.rows
-  pub known : 0 < p.laid.at → r.width ≡ v.columns
-  pub below_text : 0 < length text → p.laid.at ≡ 0
+  pub frame_is : IsFrameLaid v.columns v.rows pass (live_lines r) frame l
+  pub blanks_are : l.blanks ≡ blanks_for bottom taken p.text.height l.plan.rows
+  pub blank_room : l.blanks + l.plan.rows ≤ max (taken - p.text.height) l.plan.rows
+  pub known : 0 < l.at → r.width ≡ v.columns
+  pub below_text : 0 < length text → l.at ≡ 0
 
 -- what is written is measured for a terminal's window, or nothing is written for this reason
-abbrev pub PlannedFor : TermView → ℕ → Bool → List (List ℕ) → List Segment → ℕ → Remembered → Result Planned Refusal → Type 0
-PlannedFor v pass bottom text frame taken r result =
-    MatchResult result (λ p. IsPlannedFor v pass bottom text frame taken r p) (λ e. IsWithheld v.columns (text_lines text ++ all_lines (map bar_lines frame)) e)
+abbrev pub PlannedFor : TermView → ℕ → Bool → List (List ℕ) → List Segment → ℕ → Remembered → Laid → Result Planned Refusal → Type 0
+PlannedFor v pass bottom text frame taken r l result =
+    MatchResult result (λ p. IsPlannedFor v pass bottom text frame taken r l p) (λ e. IsWithheld v.columns (text_lines text ++ all_lines (map bar_lines frame)) e)
 
 -- ---- the lines of a drawing, as they stand afterwards
 

@@ -3,12 +3,12 @@ use Rattle.std.specs.Prelude.{◌≡◌, ℕ, ◌+◌, ◌<◌, ◌≤◌, ◌++
 use Rattle.std.specs.List.{AllByRecursion}
 use Rattle.indicatif_text.specs.Columns.{Cell, visible, rows_of}
 use Rattle.indicatif_term.specs.Shows.{looks_of}
-use Rattle.indicatif_term.specs.Inside.Edits.{Edit, Tails, AreSingle, IsNarrowChar, plan, repainted, edit_colours}
-use Rattle.indicatif_term.specs.Inside.Inks.{Inked, NONE, in_colours, as_painted, painted, read, padded}
+use Rattle.indicatif_term.specs.Inside.Edits.{Edit, Tails, IsNarrowChar, plan, repainted, edit_colours}
+use Rattle.indicatif_term.specs.Inside.Inks.{Inked, IsRead, NONE, in_colours, as_painted, painted, read, padded}
 use Rattle.indicatif_term.specs.Inside.Changes as drawn
-use Rattle.indicatif_term.specs.declared.engine.parting.Part.{Part}
-use Rattle.indicatif_term.specs.declared.engine.parting.Step.{Step}
-use Rattle.indicatif_term.specs.declared.engine.parting.Step.TheVariants as steps
+use Rattle.indicatif_term.specs.declared.engine.comparing.Stretch.{Stretch}
+use Rattle.indicatif_term.specs.declared.engine.comparing.Step.{Step}
+use Rattle.indicatif_term.specs.declared.engine.comparing.Step.TheVariants as steps
 
 -- the characters of a text from one of its bytes on
 abbrev pub tail : ℕ → List ℕ → List ℕ
@@ -27,11 +27,11 @@ pub record IsRecoloured (from n : ℕ) (es : List Edit) (old new : List ℕ) : T
   pub none_open : edit_colours [] es ≡ []
 
 -- the edits of a part
-abbrev pub part_edits : Part → List ℕ → List ℕ → List Edit
+abbrev pub part_edits : Stretch → List ℕ → List ℕ → List Edit
 part_edits p old new = plan p.waits NONE (padded p.left (cells_at p.from old)) (padded p.left (cells_at p.from new))
 
 -- two lines of one row differ from here on; if the cursor has to wait at the row's end, they differ from some column of it to its end
-pub record Parted (w : ℕ) (waits plain : Bool) (old new : List ℕ) (p : Part) : Type 0 where
+pub record Parted (w : ℕ) (waits : Bool) (old new : List ℕ) (p : Stretch) : Type 0 where
   pub waits_is : p.waits ≡ waits
   pub own : IsCharBoundary old p.from
   pub other : IsCharBoundary new p.from
@@ -41,11 +41,11 @@ pub record Parted (w : ℕ) (waits plain : Bool) (old new : List ℕ) (p : Part)
   pub narrow : AllByRecursion IsNarrowChar tails.news
   pub to_end : IsTrue waits → (p.gap + p.left ≡ w) × (0 < p.left)
   pub last_is : p.last ≡ p.gap + length (visible (tail p.from new))
-  pub single : IsTrue plain → AreSingle (chars new)
+  pub read : IsRead (chars new)
   pub colours : IsRecoloured p.from p.left (part_edits p old new) old new
 
 -- what is written from there on fits in its row
-pub record HasPart (p : Part) (old new : List ℕ) : Type 0 where
+pub record HasPart (p : Stretch) (old new : List ℕ) : Type 0 where
   pub small : p.gap + p.left ≤ 65535
   pub own : IsCharBoundary old p.from
   pub other : IsCharBoundary new p.from

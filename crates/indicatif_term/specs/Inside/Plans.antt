@@ -5,9 +5,8 @@ use Rattle.indicatif_text.specs.Columns.{has_wide, rows_of, last_columns}
 use Rattle.indicatif_text.specs.declared.columns.Metrics.{Metrics}
 use Rattle.indicatif_text.specs.declared.refusal.Refusal.{Refusal}
 use Rattle.indicatif_term.specs.Lists.{BarLines, BarRows, shown_rows, fitting, lines_of, segments_height}
-use Rattle.indicatif_term.specs.Calls.{TermView}
-use Rattle.indicatif_term.specs.Frames.{line_text, bar_lines, all_lines, text_lines, logged_lines, some_wide, RefusesLines, is_fault}
-use Rattle.indicatif_term.specs.Counts.{RowCount, row_count, line_counts}
+use Rattle.indicatif_term.specs.Frames.{line_text, bar_lines, text_lines, logged_lines, some_wide, RefusesLines, is_fault}
+use Rattle.indicatif_term.specs.Counts.{RowCount, row_count}
 use Rattle.indicatif_term.specs.Inside.Owned.{through}
 use Rattle.indicatif_term.specs.Inside.Fills.{line_end, last_or_none}
 use Rattle.indicatif_term.specs.declared.engine.lines.Segment.{Segment}
@@ -44,6 +43,10 @@ pub record IsPlan (w h pass : ℕ) (frame : List BarLines) (p : Plan) : Type 0 w
   pub lines_are : p.lines ≡ length (fitting h (lines_of w frame))
   pub passing_is : p.passing ≡ through (length (fitting h (lines_of w (take pass frame)))) (map row_count (fitting h (lines_of w frame)))
   pub passing_rows_are : p.passing_rows ≡ segments_height (take p.passing (fitting h (lines_of w frame)))
+
+-- the lines of the members that are passed on, among the first i
+abbrev pub passing_of : ℕ → ℕ → ℕ → ℕ → List Segment → ℕ
+passing_of w h pass i frame = length (fitting h (lines_of w (map bar_lines (take (min pass i) frame))))
 
 -- its sums are right, and it takes at most h rows
 pub record IsSummed (h : ℕ) (p : Plan) : Type 0 where

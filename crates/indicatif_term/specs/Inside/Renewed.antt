@@ -3,11 +3,11 @@ use Rattle.std.specs.Prelude.{◌≡◌, ℕ, suc, ◌<◌, ◌≤◌, IsTrue, I
 use Rattle.indicatif_text.specs.Columns.{Cell, has_wide, rows_of, last_columns}
 use Rattle.indicatif_term.specs.Shows.{looks_of}
 use Rattle.indicatif_term.specs.Standing.{placed_of, texts, IsLine}
-use Rattle.indicatif_term.specs.Inside.Edits.{AreSingle}
+use Rattle.indicatif_term.specs.Inside.Inks.{IsRead}
 use Rattle.indicatif_term.specs.Inside.Changes.{Becomes, Ends}
 use Rattle.indicatif_term.specs.Inside.Parting.{IsTurned, IsReady}
 use Rattle.indicatif_term.specs.declared.engine.remembered.StandingLine.{StandingLine}
-use Rattle.indicatif_term.specs.declared.engine.renewed.NewLine.{NewLine}
+use Rattle.indicatif_term.specs.declared.engine.beside.NewLine.{NewLine}
 
 -- ---- new lines over old ones
 
@@ -18,7 +18,7 @@ pub record IsNew (w at rows : ℕ) (old text : List ℕ) (n : NewLine) : Type 0 
   pub rows_are : rows ≡ length (rows_of w (chars text))
   pub last_is : n.turn.last ≡ last_columns w (chars text)
   pub narrow : IsFalse (has_wide w (chars text))
-  pub single : IsTrue n.turn.narrow → AreSingle (chars text)
+  pub single : IsTrue n.turn.narrow → IsRead (chars text)
   pub turned : IsTurned w n.turn.step old text
 
 -- the rows of each line

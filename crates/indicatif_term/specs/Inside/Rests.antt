@@ -1,12 +1,12 @@
 -- The rest of a row that is edited.
-use Rattle.std.specs.Prelude.{◌≡◌, ℕ, ◌+◌, ◌≤◌, ◌==◌, ◌++◌, Bool, false, List, length, chars, IsCharBoundary}
+use Rattle.std.specs.Prelude.{◌≡◌, ℕ, ◌+◌, ◌≤◌, ◌==◌, ◌++◌, Bool, false, List, length, take, chars, IsCharBoundary}
 use Rattle.std.specs.List.{list_any}
 use Rattle.indicatif_term.specs.Inside.Inks.{Ink, Inked, read}
 use Rattle.indicatif_term.specs.Inside.Edits.{rest_bytes}
 use Rattle.indicatif_term.specs.Inside.Parting.{tail}
 use Rattle.indicatif_term.specs.declared.engine.inks.Colours.{Colours}
 use Rattle.indicatif_term.specs.declared.engine.inks.InkedText.{InkedText}
-use Rattle.indicatif_term.specs.declared.engine.parting.Parts.{Parts}
+use Rattle.indicatif_term.specs.declared.engine.inks.Alike.{Alike}
 use Rattle.indicatif_term.specs.declared.engine.row_edits.Rest.{Rest}
 
 -- the colours that are open
@@ -27,8 +27,15 @@ pub record HasRoom (r : Rest) : Type 0 where
   pub olds : length (cells r.old) ≤ r.left
   pub news : length (cells r.new) ≤ r.left
 
+-- two texts with the same first n bytes, without an escape character
+pub record AreShared (n : ℕ) (old new : List ℕ) : Type 0 where
+  pub own : n ≤ length old
+  pub other : n ≤ length new
+  pub same : take n old ≡ take n new
+  pub plain : list_any (λ b. b == 0x1B) (take n old) ≡ false
+
 -- the common prefix of two texts, without an escape character, and what follows in each
-pub record ArePlain (old new : List ℕ) (p : Parts) : Type 0 where
+pub record ArePlain (old new : List ℕ) (p : Alike) : Type 0 where
   pub own : IsCharBoundary old (length p.front.now)
   pub other : IsCharBoundary new (length p.front.now)
   pub own_is : chars p.own.now ≡ tail (length p.front.now) old

@@ -1,36 +1,57 @@
-//! The lines that stand, as a drawing finds them: beside its own, above them, and the room that they leave.
-ghost use Rattle.std.specs.Prelude.{◌≡◌, ◌⊎◌, ◌+◌, ◌-◌, ◌<◌, ◌^◌, ◌++◌, [], ℕ, List, Err, min, replicate, IsTrue, string_bytes, option_map, IfOk, IfErr, IfSome};
+//! The lines that stand, as a drawing finds them: beside its own, above them, and the room that they leave; and new lines in their place.
+ghost use Rattle.std.specs.Prelude.{Err, IfErr, IfOk, IfSome, IsTrue, List, [], get_or, length, min, option_map, replicate, string_bytes, ℕ, ◌++◌, ◌+◌, ◌-◌, ◌<◌, ◌^◌, ◌∷◌, ◌≡◌, ◌⊎◌};
 ghost use Rattle.indicatif_term.specs.Counts.{line_count, line_counts};
 ghost use Rattle.indicatif_term.specs.Inside.Owned.{blank_count};
 ghost use Rattle.indicatif_term.specs.Inside.Layouts.{AreBlank, AreWhole, IsFrameLaid};
 ghost use Rattle.indicatif_term.specs.Inside.Changes.{PlacedLine, placed_height};
 ghost use Rattle.indicatif_term.specs.Inside.Fills.{last_of};
 ghost use Rattle.indicatif_term.specs.Inside.Places.{IsWithin};
-ghost use Rattle.indicatif_term.specs.Standing.{placed, texts, AreLines};
+ghost use Rattle.indicatif_term.specs.Standing.{AreLines, placed, texts};
 ghost use Rattle.indicatif_term.specs.declared.engine.lines.Segment.{Segment};
+ghost use Rattle.indicatif_term.specs.Inside.Renewed.{FitsIn, AreFitting, AreInPlace, AreOver, renewed};
 
+use crate::engine::comparing::{Step, Turn};
 use crate::engine::layout::Laid;
-use crate::engine::parting::Step;
 use crate::engine::remembered::StandingLine;
 use crate::engine::spare::Spare;
 use indicatif_text::columns::Refusal;
+use std::mem::replace;
 
-/// The lines that stand where a frame is to be drawn; the first `blanks` are blank ones.
+/// The lines that stand where a frame is to be drawn: the first `blanks` are blank ones, and so many members from the front stand there as
+/// they are.
 #[derive(Clone, Copy)]
 pub struct Beside<'a> {
     pub lines: &'a [StandingLine],
     pub blanks: usize,
+    pub members: usize,
+    /// The lines that are remembered there, also where none keeps its rows.
+    pub known: &'a [StandingLine],
 }
 
 impl<'a> Beside<'a> {
     /// No line stands there.
     pub fn nothing() -> Beside<'a>
         ensures lines { result.lines.now ≡ [] }
-        ensures blanks { result.blanks ≡ 0 }
+        ensures none { (result.blanks ≡ 0) × (result.members ≡ 0) }
+        ensures known { result.known.now ≡ [] }
     {
         Beside {
             lines: &[],
             blanks: 0,
+            members: 0,
+            known: &[],
+        }
+    }
+
+    /// None of the lines keeps its rows.
+    pub fn whole(self) -> Beside<'a>
+        ensures lines { result.lines.now ≡ [] }
+        ensures none { (result.blanks ≡ 0) × (result.members ≡ 0) }
+        ensures known { result.known.now ≡ self.entry.known.now }
+    {
+        Beside {
+            known: self.known,
+            ..Beside::nothing()
         }
     }
 
@@ -38,16 +59,22 @@ impl<'a> Beside<'a> {
     pub fn of(lines: &'a [StandingLine], blanks: usize) -> Beside<'a>
         ensures lines { (result.lines.now ≡ []) ⊎ (result.lines.now ≡ lines.entry.now) }
         ensures blank { AreBlank result.blanks result.lines.now }
+        ensures known { (result.known.now ≡ []) ⊎ (result.known.now ≡ lines.entry.now) }
     {
         if are_blank(lines, blanks) {
-            Beside { lines, blanks }
+            Beside {
+                lines,
+                blanks,
+                members: 0,
+                known: lines,
+            }
         } else {
             Beside::nothing()
         }
     }
 }
 
-/// Whether the first so many lines are blank ones.
+/// Whether the first `blanks` lines are blank.
 fn are_blank(lines: &[StandingLine], blanks: usize) -> bool
     ensures { IsTrue result → AreBlank blanks lines.now }
 {
@@ -137,13 +164,12 @@ pub fn last_column(lines: &[StandingLine]) -> Option<usize>
 }
 
 /// A frame that was laid out beside nothing, below `blanks` blank lines.
-pub fn below_blanks(spare: &mut Spare, laid: Laid, blanks: usize) -> Result<Laid, Refusal>
+pub fn below_blanks(spare: &mut Spare, laid: &mut Laid, blanks: usize) -> Result<(), Refusal>
     ensures memory { IfErr result (λ e. (e ≡ Refusal.Memory) × (0 < blanks)) }
-    ensures blanks { IfOk result (λ l. l.blanks ≡ blanks) }
-    ensures laid { (w h pass : ℕ) (on : List StandingLine) (frame : List Segment) → IsFrameLaid w h pass [] frame laid → laid.blanks ≡ 0 →
-        IfOk result (λ l. IsFrameLaid w h pass on frame l) }
+    ensures blanks { IfOk result (λ _. laid.new.blanks ≡ blanks) }
+    ensures laid { (w h pass : ℕ) (on : List StandingLine) (frame : List Segment) → IsFrameLaid w h pass [] frame laid.old → laid.old.blanks ≡ 0 →
+        IfOk result (λ _. IsFrameLaid w h pass on frame laid.new) }
 {
-    let mut laid = laid;
     for _ in 0..blanks {
         laid.more.push(StandingLine {
             bar: 0,
@@ -157,5 +183,59 @@ pub fn below_blanks(spare: &mut Spare, laid: Laid, blanks: usize) -> Result<Laid
     }
     laid.more.rotate_right(blanks);
     laid.blanks = blanks;
-    Ok(laid)
+    Ok(())
+}
+
+/// A line that comes in the place of one that stands: the index of that, its text, and what becomes of the one that stands.
+#[derive(Drop)]
+pub struct NewLine {
+    pub at: usize,
+    pub text: String,
+    pub turn: Turn,
+}
+
+/// Puts new lines in the place of those that stand, the room of which becomes spare; the others stay.
+pub fn put_new(lines: &mut [StandingLine], spare: &mut Spare, changed: &mut Vec<NewLine>)
+    requires within { (w : ℕ) × AreFitting w lines.old (length lines.old) changed.old.items }
+    ensures texts { texts lines.new ≡ renewed (texts lines.old) changed.old.items }
+    ensures counts { line_counts lines.new ≡ line_counts lines.old }
+    ensures in_place { (w : ℕ) → AreLines w lines.old → AreFitting w lines.old (length lines.old) changed.old.items →
+        AreInPlace w lines.old lines.new }
+    ensures over { (w : ℕ) → AreFitting w lines.old (length lines.old) changed.old.items → AreOver w lines.old lines.new }
+{
+    leave_all(lines);
+    while let Some(line) = changed.pop() {
+        put_line(lines, spare, line);
+    }
+}
+
+/// Marks all lines that stand as lines that stay.
+fn leave_all(lines: &mut [StandingLine])
+    ensures texts { texts lines.new ≡ texts lines.old }
+    ensures counts { line_counts lines.new ≡ line_counts lines.old }
+    ensures in_place { (w : ℕ) → AreLines w lines.old → AreInPlace w lines.old lines.new }
+    ensures over { (w : ℕ) → AreOver w lines.old lines.new }
+{
+    for at in 0..lines.len() {
+        lines[at].step = Step::Leave;
+    }
+}
+
+/// Puts a new line in the place of the one that stands.
+fn put_line(lines: &mut [StandingLine], spare: &mut Spare, line: NewLine)
+    requires within { line.at < length lines.old }
+    ensures texts { texts lines.new ≡ renewed (texts lines.old) (line ∷ []) }
+    ensures counts { line_counts lines.new ≡ line_counts lines.old }
+    ensures in_place { (w : ℕ) (on : List StandingLine) → AreInPlace w on lines.old → FitsIn w on (length on) line → AreInPlace w on lines.new }
+    ensures over { (w : ℕ) (on : List StandingLine) → AreOver w on lines.old → FitsIn w on (length on) line →
+        get_or (texts lines.old) line.at [] ≡ get_or (texts on) line.at [] → AreOver w on lines.new }
+{
+    let NewLine { at, text, turn } = line;
+    let standing = &mut lines[at];
+    let old = replace(&mut standing.text, text);
+    let before = replace(&mut standing.before, old);
+    standing.last = turn.last;
+    standing.narrow = turn.narrow;
+    standing.step = turn.step;
+    spare.store_text(before);
 }

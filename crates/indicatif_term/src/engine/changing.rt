@@ -1,23 +1,25 @@
-//! The lines of a drawing in the place of those that stand: each stays, is edited, or is written as a whole.
-ghost use Rattle.std.specs.Prelude.{length, ◌≡◌, ◌==◌, ◌&&◌, ◌+◌, ◌-◌, ◌≤◌, ◌++◌, ◌∷◌, [], ℕ, List, string_bytes, IsTrue};
+//! The lines of a drawing in the place of those that stand: each stays, is edited, or is written as a whole; or all are written over those,
+//! so that the cursor only moves.
+ghost use Rattle.std.specs.Prelude.{length, ◌≡◌, ◌==◌, ◌&&◌, ◌+◌, ◌-◌, ◌*◌, ◌≤◌, ◌++◌, ◌∷◌, [], IsTrue, IfSome, chars, replicate, string_bytes};
+ghost use Rattle.indicatif_text.specs.Columns.{visible};
 ghost use Rattle.indicatif_term.specs.Calls.{Writes, DOWN, RIGHT, move_bytes};
-ghost use Rattle.indicatif_term.specs.Inside.Changes.{PlacedLine, placed_height, changed_bytes, filled_whole, ending, last_bytes, all_stay, stays, free_behind, among_bytes, ends_plainly, last_byte};
-ghost use Rattle.indicatif_term.specs.Inside.Edits.{edit_bytes, row_bytes};
-ghost use Rattle.indicatif_term.specs.Inside.Rests.{HasRoom, left_bytes};
-ghost use Rattle.indicatif_term.specs.Inside.Parting.{HasPart, IsReady, part_edits};
+ghost use Rattle.indicatif_term.specs.Inside.Changes.{placed_height, changed_bytes, filled_whole, last_bytes, all_stay, stays, free_behind, among_bytes, ends_plainly, last_byte};
+ghost use Rattle.indicatif_term.specs.Inside.Parting.{IsReady};
 ghost use Rattle.indicatif_term.specs.Inside.Fills.{last_of};
+ghost use Rattle.indicatif_term.specs.Inside.Moves.{filled_bytes, moved_bytes, joins, IsEven, AreEven};
 ghost use Rattle.indicatif_term.specs.Standing.{placed_of, placed, AreReady};
 
 use crate::engine::beside::height_of;
-use crate::engine::inks::{Colours, InkedText};
-use crate::engine::parting::{Part, Step};
+use crate::engine::comparing::Step;
+use crate::engine::inks::{Colours, InkedText, first_cell};
 use crate::engine::remembered::StandingLine;
-use crate::engine::row_edits::{Rest, close, go_right, write_next};
+use crate::engine::row_edits::{go_right, write_part};
 use crate::engine::writing::{empty_down, go_down, go_up, put_spaces};
 use crate::target::term_like::TermLike;
+use indicatif_text::columns::{columns, width as width_of_char};
 use std::io;
 
-/// Writes lines in the place of others, from the first down: those that stay are skipped. Below their rows so many were taken back, and the
+/// Writes lines in the place of others, from the first down: those that stay are skipped. Below their rows `taken` ones were taken back, and the
 /// cursor is on the first of these; if there are none, it is at the end of the lines' last row. It comes to the end of that, and
 /// nothing is written where all stay and no row was taken back.
 pub fn put_among<T: TermLike>(
@@ -94,53 +96,6 @@ fn is_left(line: &StandingLine) -> bool
         Step::Leave => true,
         Step::Within(_) => false,
         Step::Whole => false,
-    }
-}
-
-/// Goes down to the last row of a line and to its front, and writes what differs in a part of it.
-fn write_part<T: TermLike>(
-    term: &mut T,
-    down: usize,
-    line: &StandingLine,
-    part: Part,
-) -> io::Result<()>
-    requires small { down + line.now.rows ≤ 65536 }
-    requires part { HasPart part (string_bytes line.now.before) (string_bytes line.now.text) }
-    ensures { Writes (move_bytes DOWN (down + line.now.rows - 1) ++ row_bytes part.gap (part_edits part (string_bytes line.now.before) (string_bytes line.now.text)))
-        (T.view term.old) (T.view term.new) result }
-{
-    let far = down + line.rows;
-    go_down(term, far.saturating_sub(1))?;
-    term.write_str("\r")?;
-    let mut now = all_of(line, part);
-    'columns: while now.left > 0 {
-        now = write_next(term, now, part.waits)?;
-    }
-    close(term, now.ink)
-}
-
-/// What is left of a row before a part of it is written: the whole part.
-fn all_of(line: &StandingLine, part: Part) -> Rest<'_>
-    requires { HasPart part (string_bytes line.now.before) (string_bytes line.now.text) }
-    ensures room { HasRoom result }
-    ensures bytes { left_bytes part.waits result ≡ edit_bytes part.gap (part_edits part (string_bytes line.now.before) (string_bytes line.now.text)) }
-{
-    let ink = Colours {
-        base: "",
-        group: "",
-    };
-    Rest {
-        old: InkedText {
-            text: &line.before[part.from..],
-            ink,
-        },
-        new: InkedText {
-            text: &line.text[part.from..],
-            ink,
-        },
-        left: part.left,
-        gap: part.gap,
-        ink,
     }
 }
 
@@ -242,4 +197,82 @@ fn last_char(line: &str) -> &str
     ensures { result.now ≡ last_byte line.now }
 {
     &line[line.len() - 1..]
+}
+
+/// Whether all rows of these lines but the last of each are full, and none of the lines joins the one before it.
+pub fn are_even(lines: &[StandingLine], width: usize) -> bool
+    ensures { IsTrue result → AreEven width lines.now }
+{
+    for line in lines {
+        if !is_even(line, width) {
+            return false;
+        }
+    }
+    true
+}
+
+/// Whether all rows of one line but the last are full, and it joins no line before it.
+fn is_even(line: &StandingLine, width: usize) -> bool
+    ensures { IsTrue result → IsEven width line.now }
+{
+    match columns_of_rows(line, width) {
+        Some(count) => columns(&line.text) == count && !joins(&line.text),
+        None => false,
+    }
+}
+
+/// How many columns a line takes if all its rows but the last are full.
+fn columns_of_rows(line: &StandingLine, width: usize) -> Option<usize>
+    ensures { IfSome result (λ n. n ≡ (line.now.rows - 1) * width + line.now.last) }
+{
+    let before = line.rows.saturating_sub(1).checked_mul(width)?;
+    before.checked_add(line.last)
+}
+
+/// Whether the first visible character of a text takes no columns, so that it would join one before it.
+fn joins(text: &str) -> bool
+    ensures { result ≡ joins (visible (chars text.now)) }
+{
+    let ink = Colours {
+        base: "",
+        group: "",
+    };
+    let (first, _) = first_cell(InkedText { text, ink });
+    width_of_char(first) == 0
+}
+
+/// Writes lines over rows, on the last of which the cursor rests, or from its own row on if there are no rows. It goes up to the first of
+/// them and to its front; no line end and no row is emptied.
+pub fn put_over<T: TermLike>(
+    term: &mut T,
+    taken: usize,
+    lines: &[StandingLine],
+    width: usize,
+) -> io::Result<()>
+    ensures { Writes (moved_bytes width taken (placed lines.now)) (T.view term.old) (T.view term.new) result }
+{
+    go_up(term, taken.saturating_sub(1))?;
+    term.write_str("\r")?;
+    for line in lines {
+        put_filled(term, line, width)?;
+    }
+    Ok(())
+}
+
+/// Writes one line over rows, and the spaces that fill its last one.
+fn put_filled<T: TermLike>(term: &mut T, line: &StandingLine, width: usize) -> io::Result<()>
+    ensures { Writes (filled_bytes width (placed_of line.now)) (T.view term.old) (T.view term.new) result }
+{
+    term.write_str(&line.text)?;
+    put_fill(term, width.saturating_sub(line.last))
+}
+
+/// Writes the spaces that fill a line's last row; an empty text if there are none.
+fn put_fill<T: TermLike>(term: &mut T, count: usize) -> io::Result<()>
+    ensures { Writes (replicate count 0x20) (T.view term.old) (T.view term.new) result }
+{
+    if count == 0 {
+        return term.write_str("");
+    }
+    put_spaces(term, count)
 }

@@ -191,7 +191,7 @@ impl Counts {
         }
     }
 
-    /// The counts after the blank rows and so many live ones below them passed to kept.
+    /// The counts after the blank rows and `rows` live ones below them became kept ones.
     pub fn passed(&self, rows: usize) -> Counts
         ensures { self.now.blanks + rows ≤ self.now.live → IsPassed self.now rows result }
     {

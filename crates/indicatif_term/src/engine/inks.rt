@@ -1,15 +1,10 @@
-//! A text read cell by cell, with the colour sequences that are open at each.
-ghost use Rattle.std.specs.Prelude.{◌≡◌, ◌≤◌, ◌-◌, ◌∷◌, ◌^◌, min, suc, ℕ, List, [], IsTrue, IfSome, IsCharBoundary, None, take, length, chars, unwrap_or, if◌then◌else◌};
-ghost use Rattle.std.specs.Str.{IsAscii};
-ghost use Rattle.indicatif_text.specs.Columns.{colour_length, is_parameter, visible};
-ghost use Rattle.indicatif_text.specs.Pieces.{TextPiece, shown};
-ghost use Rattle.indicatif_text.specs.PieceLaws.{run_text};
-ghost use Rattle.indicatif_term.specs.Inside.Edits.{AreSingle};
-ghost use Rattle.indicatif_term.specs.Inside.Inks.{IsRead, NONE, closes, same_ink, in_ink, padded, read, is_tidy};
-ghost use Rattle.indicatif_term.specs.Inside.Rests.{ink_of, cells};
+//! A text read cell by cell, with the colour sequences that are open at each; and what two texts begin with alike.
+ghost use Rattle.std.specs.Prelude.{◌≡◌, ◌≤◌, ◌-◌, ◌∷◌, suc, ℕ, [], IsTrue, IsCharBoundary, None, drop, length, chars, if◌then◌else◌};
+ghost use Rattle.indicatif_text.specs.Columns.{colour_length};
+ghost use Rattle.indicatif_term.specs.Inside.Inks.{NONE, closes, same_ink, in_ink, padded, read};
+ghost use Rattle.indicatif_term.specs.Inside.Rests.{ArePlain, AreShared, ink_of, cells};
 
-use crate::engine::parting::narrow_count;
-use indicatif_text::columns::{Piece, colour_len, pieces};
+use indicatif_text::columns::colour_len;
 
 /// The sequence that closes all others.
 pub const RESET: &str = "\u{1b}[0m";
@@ -125,7 +120,7 @@ fn group_or_none(closed: bool, group: &str) -> &str
 }
 
 /// Whether a colour sequence closes all that are open.
-fn closes(sequence: &str) -> bool
+pub fn closes(sequence: &str) -> bool
     ensures { result ≡ closes (chars sequence.now) }
 {
     sequence == RESET
@@ -134,7 +129,11 @@ fn closes(sequence: &str) -> bool
 /// Whether a text leaves colours open: whether its last escape character begins another sequence than the one that closes all.
 pub fn leaves_open(text: &str) -> bool {
     let bytes = text.as_bytes();
-    let mut at = bytes.len();
+    let mut at = if bytes.contains(&0x1B) {
+        bytes.len()
+    } else {
+        0
+    };
     'bytes: while at > 0 {
         at -= 1;
         if bytes[at] == 0x1B {
@@ -144,70 +143,87 @@ pub fn leaves_open(text: &str) -> bool {
     false
 }
 
-/// How many visible characters a text has, if each takes one column, in colours that are read right.
-pub fn inked_count(text: &str) -> Option<usize>
-    ensures count { IfSome result (λ n. n ≡ min (length (visible (chars text.now))) (2 ^ 64 - 1)) }
-    ensures read { IfSome result (λ n. IsRead (chars text.now)) }
-{
-    let mut depth = Depth {
-        groups: 0,
-        fresh: false,
-    };
-    let mut count: usize = 0;
-    for piece in pieces(text) {
-        let more = piece_count(piece)?;
-        depth = behind(depth, piece)?;
-        count = count.saturating_add(more);
-    }
-    if depth.groups > 0 {
-        return None;
-    }
-    Some(count)
-}
-
-/// How many groups of colour sequences are open, each of sequences next to one another, and whether no character came since the last
-/// sequence.
+/// What two texts begin with, without an escape character, and what follows in each.
 #[derive(Clone, Copy)]
-struct Depth {
-    groups: usize,
-    fresh: bool,
+pub struct Alike<'a> {
+    pub front: &'a str,
+    pub own: &'a str,
+    pub other: &'a str,
 }
 
-/// How many characters a piece shows, if each takes one column.
-fn piece_count(piece: Piece<'_>) -> Option<usize>
-    ensures count { IfSome result (λ n. n ≡ min (length (run_text (shown piece.entry))) (2 ^ 64 - 1)) }
-    ensures single { IfSome result (λ n. AreSingle (run_text (shown piece.entry))) }
+/// Two texts as what both begin with, up to the first escape character, and what follows: something of the second one, if that isn't empty.
+pub fn split<'a>(old: &'a str, new: &'a str) -> Alike<'a>
+    ensures { ArePlain old.entry.now new.entry.now result }
 {
-    if piece.colour {
-        return Some(0);
-    }
-    narrow_count(piece.text)
+    let from = shared(old, new);
+    let (front, own) = old.split_at(from);
+    let (_, other) = new.split_at(from);
+    Alike { front, own, other }
 }
 
-/// What is open behind a piece, if that are no more than two groups.
-fn behind(depth: Depth, piece: Piece<'_>) -> Option<Depth>
-    ensures { IfSome result (λ d. (ps : List TextPiece) → is_tidy depth.fresh depth.groups (shown piece.entry ∷ ps) ≡ is_tidy d.fresh d.groups ps) }
+/// A place up to which two texts are the same, without an escape character, where a character begins; not behind all of the second one.
+fn shared(old: &str, new: &str) -> usize
+    ensures boundary { IsCharBoundary old.now result }
+    ensures same { AreShared result old.now new.now }
 {
-    if !piece.colour {
-        return Some(Depth {
-            groups: depth.groups,
-            fresh: false,
-        });
+    let news = new.as_bytes();
+    let most = news.len().saturating_sub(1);
+    old.floor_char_boundary(shared_bytes(old.as_bytes(), &news[..most]))
+}
+
+/// How many bytes two texts begin with alike, up to the first escape character.
+#[inline(always)]
+fn shared_bytes(a: &[u8], b: &[u8]) -> usize
+    ensures { AreShared result a.now b.now }
+{
+    let mut at = shared_blocks(a, b);
+    'bytes: while at < a.len() && at < b.len() && a[at] == b[at] && a[at] != 0x1B {
+        at += 1;
     }
-    if closes(piece.text) {
-        return Some(Depth {
-            groups: 0,
-            fresh: true,
-        });
+    at
+}
+
+/// The same, in whole blocks.
+#[inline(always)]
+fn shared_blocks(a: &[u8], b: &[u8]) -> usize
+    ensures { AreShared result a.now b.now }
+{
+    let mut at: usize = 0;
+    'whole: while is_block_shared(a, b, at) {
+        at += 16;
     }
-    if depth.fresh && depth.groups > 0 {
-        return Some(depth);
+    at
+}
+
+/// Whether two texts have the same block at a place, without an escape character.
+#[inline(always)]
+fn is_block_shared(a: &[u8], b: &[u8], at: usize) -> bool
+    requires own { at ≤ length a.now }
+    requires other { at ≤ length b.now }
+    ensures { IsTrue result → AreShared 16 (drop at a.now) (drop at b.now) }
+{
+    if a.len() - at < 16 || b.len() - at < 16 {
+        return false;
     }
-    if depth.groups >= 2 {
-        return None;
+    are_plain(&a[at..at + 16], &b[at..at + 16])
+}
+
+/// Whether two slices are the same, without an escape character. It looks at each byte, so that many are compared at once.
+#[inline(always)]
+fn are_plain(a: &[u8], b: &[u8]) -> bool
+    requires { length a.now ≡ length b.now }
+    ensures { IsTrue result → AreShared (length a.now) a.now b.now }
+{
+    let mut same = true;
+    for at in 0..a.len() {
+        same = same & (a[at] == b[at]) & (a[at] != 0x1B);
     }
-    Some(Depth {
-        groups: depth.groups + 1,
-        fresh: true,
-    })
+    same
+}
+
+/// How many characters a text has.
+pub fn char_count(text: &str) -> usize
+    ensures { result ≡ length (chars text.now) }
+{
+    text.chars().count()
 }

@@ -6,23 +6,22 @@ ghost use Rattle.indicatif_term.specs.Frames.{bar_lines, line_text, all_lines, s
 ghost use Rattle.indicatif_term.specs.Standing.{placed, IsLine, AreLines};
 ghost use Rattle.indicatif_term.specs.Inside.Changes.{placed_height};
 ghost use Rattle.indicatif_term.specs.Inside.Plans.{IsSummed, IsWithheld, MeasuredLine, MeasuredText, text_above};
-ghost use Rattle.indicatif_term.specs.Inside.Layouts.{IsSized, IsBeside, AreBlank, own_lines, LaidOn, LineLaidOn, IsFrameLaid, FrameLaid, PlannedFor};
+ghost use Rattle.indicatif_term.specs.Inside.Layouts.{IsSized, IsBeside, AreBlank, AreBlanksFor, own_lines, LaidOn, IsLaidOn, LineLaidOn, IsNoneLaid, IsFrontLaid, IsFrameLaid, FrameLaid, PlannedFor};
 ghost use Rattle.indicatif_term.specs.Remembered.{live_lines};
 ghost use Rattle.indicatif_term.specs.Counts.{line_counts};
 ghost use Rattle.indicatif_term.specs.Inside.Owned.{run_length, through, kept_below, no_plan};
 
-use crate::engine::beside::{Beside, below_blanks};
-use crate::engine::comparing::{Turn, compare, measure};
+use crate::engine::beside::{Beside, NewLine, below_blanks};
+use crate::engine::comparing::{Step, Turn, compare, measure};
 use crate::engine::counts::blanks_of;
 use crate::engine::inks::leaves_open;
 use crate::engine::lines::Segment;
-use crate::engine::parting::Step;
 use crate::engine::remembered::{Remembered, StandingLine};
-use crate::engine::renewed::NewLine;
 use crate::engine::spare::Spare;
 use crate::engine::window::Window;
 use crate::target::term_like::TermLike;
 use indicatif_text::columns::{Metrics, Refusal, wrapped};
+use std::alloc::Global;
 use std::convert::AsStr;
 
 /// What a frame shows: how many lines and rows of which bars.
@@ -52,7 +51,7 @@ impl Plan {
         }
     }
 
-    /// How many lines of a drawing of it below so many blank ones become kept ones.
+    /// How many lines become kept ones if it is drawn below `blanks` blank lines.
     pub fn kept_below(self, blanks: usize) -> usize
         requires { blanks + self.passing ≤ 2 ^ 64 - 1 }
         ensures { result ≡ kept_below self blanks }
@@ -77,6 +76,19 @@ pub struct Laid {
 }
 
 impl Laid {
+    /// Nothing yet. It takes no memory.
+    pub fn none(alloc: Global) -> Laid
+        ensures { IsNoneLaid result }
+    {
+        Laid {
+            plan: Plan::none(),
+            blanks: 0,
+            at: 0,
+            changed: Vec::new(alloc),
+            more: Vec::new(alloc),
+        }
+    }
+
     /// Whether a new line leaves colours open.
     pub fn leaves_open(&self) -> bool {
         for line in &self.changed {
@@ -98,7 +110,7 @@ fn some_open(lines: &[StandingLine]) -> bool {
     false
 }
 
-/// What is asked of a drawing: bars, of which the first `pass` are dropped, in the place of what stands.
+/// What a drawing has to show: bars, of which the first `pass` are dropped, in the place of what stands.
 #[derive(Clone, Copy)]
 pub struct Asked<'a> {
     pub frame: &'a [Segment],
@@ -113,38 +125,40 @@ pub struct Asked<'a> {
     pub taken: usize,
 }
 
-/// A text and a frame, measured for a terminal's window.
-#[derive(Drop)]
+/// A terminal's window, and a text measured for it: its rows, and how many columns its last line takes of its last row; both 0 where there
+/// is no text.
+#[derive(Clone, Copy, Drop)]
 pub struct Planned {
     pub window: Window,
-    /// The rows of the text, and how many columns its last line takes of its last row; both 0 where there is no text.
     pub text: Metrics,
-    pub laid: Laid,
 }
 
 /// Measures what is to be written on a terminal: a text that is logged, if any is, and a frame, beside the lines that are remembered of the
-/// terminal, unless the text comes above it. New texts stand in spare room.
+/// terminal, unless the text comes above it. New texts stand in spare room; none is taken where the frame stands as it is.
+#[inline(always)]
 pub fn plan_drawing<T: TermLike>(
     term: &T,
     spare: &mut Spare,
+    laid: &mut Laid,
     text: Option<&str>,
     asked: Asked<'_>,
 ) -> Result<Planned, Refusal>
-    ensures planned { PlannedFor (T.view term.now) asked.entry.pass asked.entry.bottom (text_above text.entry) asked.entry.frame.now asked.entry.taken asked.entry.shown.now result }
+    requires { IsNoneLaid laid.old }
+    ensures planned { PlannedFor (T.view term.now) asked.entry.pass asked.entry.bottom (text_above text.entry) asked.entry.frame.now asked.entry.taken asked.entry.shown.now laid.new result }
     ensures memory { result ≡ Err Refusal.Memory →
         (0 < (T.view term.now).columns) × (0 < length (all_lines (map bar_lines asked.entry.frame.now))) }
 {
     let window = Window::of(term)?;
     let metrics = metrics_above(text, window)?;
     let beside = beside_of(text, asked, window);
-    let laid = lay_frame(spare, beside, asked, window)?;
-    let free = asked.taken.saturating_sub(metrics.height);
-    let blanks = blanks_of(asked.bottom, free, laid.plan.rows);
-    let laid = with_blanks(spare, laid, blanks, asked, window)?;
+    let free = Asked {
+        taken: asked.taken.saturating_sub(metrics.height),
+        ..asked
+    };
+    lay_out(spare, laid, &beside, &free, window)?;
     Ok(Planned {
         window,
         text: metrics,
-        laid,
     })
 }
 
@@ -154,105 +168,215 @@ fn beside_of<'a>(text: Option<&str>, asked: Asked<'a>, window: Window) -> Beside
     ensures blank { AreBlank result.blanks result.lines.now }
     ensures live { (result.lines.now ≡ []) ⊎ ((asked.entry.shown.now.width ≡ window.columns) × (result.lines.now ≡ live_lines asked.entry.shown.now)) }
     ensures nothing { 0 < length (text_above text.entry) → result.lines.now ≡ [] }
+    ensures known { AreLines window.columns result.known.now }
 {
+    let beside = asked.shown.beside(window.columns, asked.blanks);
     if asked.whole {
-        return Beside::nothing();
+        return beside.whole();
     }
     match text {
-        Some(_) => Beside::nothing(),
-        None => asked.shown.beside(window.columns, asked.blanks),
+        Some(_) => beside.whole(),
+        None => beside,
     }
 }
 
-/// A frame that was laid out, below so many blank lines. Where others stand, or a new line leaves colours open, which go on in the lines
-/// below it, it is laid out anew, with nothing beside it.
-fn with_blanks(
+/// Lays a frame out beside some lines, below blank ones. All is done at once where each member stands as it is.
+#[inline(always)]
+fn lay_out(
     spare: &mut Spare,
-    laid: Laid,
-    blanks: usize,
-    asked: Asked<'_>,
+    laid: &mut Laid,
+    beside: &Beside<'_>,
+    asked: &Asked<'_>,
     window: Window,
-) -> Result<Laid, Refusal>
-    ensures laid { (on : List StandingLine) → IsFrameLaid window.columns window.rows asked.entry.pass on asked.entry.frame.now laid →
-        FrameLaid window.columns window.rows asked.entry.pass on asked.entry.frame.now result }
-    ensures blanks { IfOk result (λ l. l.blanks ≡ blanks) }
-    ensures memory { result ≡ Err Refusal.Memory → (0 < length (all_lines (map bar_lines asked.entry.frame.now))) ⊎ (0 < blanks) }
+) -> Result<(), Refusal>
+    requires none { IsNoneLaid laid.old }
+    requires standing { AreLines window.columns beside.now.lines.now }
+    requires known { AreLines window.columns beside.now.known.now }
+    requires blank { AreBlank beside.now.blanks beside.now.lines.now }
+    ensures laid { FrameLaid window.columns window.rows asked.now.pass beside.now.lines.now asked.now.frame.now laid.new result }
+    ensures blanks { IfOk result (λ _. AreBlanksFor asked.now.bottom asked.now.taken laid.new) }
+    ensures memory { result ≡ Err Refusal.Memory → 0 < length (all_lines (map bar_lines asked.now.frame.now)) }
 {
-    if laid.blanks == blanks && !laid.leaves_open() {
-        return Ok(laid);
+    let members = pass_front(laid, beside, asked, window);
+    if members == asked.frame.len()
+        && laid.blanks == blanks_of(asked.bottom, asked.taken, laid.plan.rows)
+    {
+        return Ok(());
     }
-    let laid = beside_nothing(spare, laid, asked, window)?;
+    let mut rest = *beside;
+    rest.members = members;
+    lay_rest(spare, laid, &rest, asked, window)
+}
+
+/// Passes those members from the front that stand as they are, below blank ones, and says how many they are. None is, if some are dropped.
+#[inline(never)]
+fn pass_front(laid: &mut Laid, beside: &Beside<'_>, asked: &Asked<'_>, window: Window) -> usize
+    requires none { IsNoneLaid laid.old }
+    requires standing { AreLines window.columns beside.now.lines.now }
+    requires blank { AreBlank beside.now.blanks beside.now.lines.now }
+    ensures front { IsFrontLaid window.columns window.rows asked.now.pass result beside.now.lines.now asked.now.frame.now laid.new }
+    ensures none { (laid.new.changed.items ≡ []) × (laid.new.more.items ≡ []) }
+{
+    laid.blanks = beside.blanks;
+    laid.at = beside.blanks;
+    if asked.pass > 0 {
+        return 0;
+    }
+    for at in 0..asked.frame.len() {
+        if !pass_member(laid, beside.lines, &asked.frame[at], window) {
+            return at;
+        }
+    }
+    asked.frame.len()
+}
+
+/// Passes one member, if all its lines stand as they are; and says whether they do.
+fn pass_member(laid: &mut Laid, standing: &[StandingLine], member: &Segment, window: Window) -> bool
+    requires summed { IsSummed window.rows laid.old.plan }
+    requires standing { AreLines window.columns standing.now }
+    requires beside { (laid.old.at ≤ length standing.now) × (laid.old.more.items ≡ []) × (laid.old.plan.full ≡ false) }
+    ensures passed { IsTrue result → IsLaidOn window.columns window.rows standing.now (map line_text member.now.lines.items) (bar_lines member.now).lines
+        (lines_of window.columns (bar_lines member.now ∷ [])) laid.old laid.new }
+    ensures new { laid.new ≡ record laid.old { plan = record laid.old.plan { rows = laid.new.plan.rows; lines = laid.new.plan.lines }; at = laid.new.at } }
+    ensures left { IsFalse result → laid.new ≡ laid.old }
+{
+    let count = member.lines.len();
+    if standing.len() - laid.at < count {
+        return false;
+    }
+    let mut rows = laid.plan.rows;
+    for at in 0..count {
+        let line = &standing[laid.at + at];
+        let own = OwnLine {
+            bar: member.bar,
+            text: member.lines[at].as_str(),
+        };
+        if !stands_as(line, own, window.rows - rows) {
+            return false;
+        }
+        rows += line.rows;
+    }
+    laid.plan.rows = rows;
+    laid.plan.lines += count;
+    laid.at += count;
+    true
+}
+
+/// Whether a line stands as this one of a bar, in so many rows at most.
+fn stands_as(line: &StandingLine, own: OwnLine<'_>, rows: usize) -> bool
+    ensures { IsTrue result → (line.now.bar ≡ own.entry.bar) × (line.now.rows ≤ rows) × (string_bytes line.now.text ≡ own.entry.text.now) }
+{
+    line.bar == own.bar && line.rows <= rows && line.text.as_str() == own.text
+}
+
+/// Lays out the members behind those that stand as they are, in spare room, which is kept where it is refused.
+#[inline(never)]
+fn lay_rest(
+    spare: &mut Spare,
+    laid: &mut Laid,
+    beside: &Beside<'_>,
+    asked: &Asked<'_>,
+    window: Window,
+) -> Result<(), Refusal>
+    requires front { IsFrontLaid window.columns window.rows asked.now.pass beside.now.members beside.now.lines.now asked.now.frame.now laid.old }
+    requires standing { AreLines window.columns beside.now.lines.now }
+    requires known { AreLines window.columns beside.now.known.now }
+    requires none { (laid.old.changed.items ≡ []) × (laid.old.more.items ≡ []) }
+    ensures laid { FrameLaid window.columns window.rows asked.now.pass beside.now.lines.now asked.now.frame.now laid.new result }
+    ensures blanks { IfOk result (λ _. AreBlanksFor asked.now.bottom asked.now.taken laid.new) }
+    ensures memory { result ≡ Err Refusal.Memory → 0 < length (all_lines (map bar_lines asked.now.frame.now)) }
+{
+    spare.lend(laid);
+    if let Err(e) = lay_below_blanks(spare, laid, beside, asked, window) {
+        spare.store_laid(laid);
+        return Err(e);
+    }
+    Ok(())
+}
+
+/// Lays out the members behind those that stand as they are. Where other blank lines stand, or a new line leaves colours open, which go on in
+/// the lines below it, the frame is laid out anew, with nothing beside it.
+fn lay_below_blanks(
+    spare: &mut Spare,
+    laid: &mut Laid,
+    beside: &Beside<'_>,
+    asked: &Asked<'_>,
+    window: Window,
+) -> Result<(), Refusal>
+    requires front { IsFrontLaid window.columns window.rows asked.now.pass beside.now.members beside.now.lines.now asked.now.frame.now laid.old }
+    requires standing { AreLines window.columns beside.now.lines.now }
+    requires known { AreLines window.columns beside.now.known.now }
+    ensures laid { FrameLaid window.columns window.rows asked.now.pass beside.now.lines.now asked.now.frame.now laid.new result }
+    ensures blanks { IfOk result (λ _. AreBlanksFor asked.now.bottom asked.now.taken laid.new) }
+    ensures memory { result ≡ Err Refusal.Memory → 0 < length (all_lines (map bar_lines asked.now.frame.now)) }
+{
+    lay_frame(spare, laid, beside, asked, window)?;
+    let blanks = blanks_of(asked.bottom, asked.taken, laid.plan.rows);
+    if laid.blanks == blanks && !laid.leaves_open() {
+        return Ok(());
+    }
+    beside_nothing(spare, laid, asked, window)?;
     below_blanks(spare, laid, blanks)
 }
 
 /// A frame of which no line keeps its rows, as it was laid out, or else laid out anew.
 fn beside_nothing(
     spare: &mut Spare,
-    laid: Laid,
-    asked: Asked<'_>,
+    laid: &mut Laid,
+    asked: &Asked<'_>,
     window: Window,
-) -> Result<Laid, Refusal>
-    ensures laid { (on : List StandingLine) → IsFrameLaid window.columns window.rows asked.entry.pass on asked.entry.frame.now laid →
-        FrameLaid window.columns window.rows asked.entry.pass [] asked.entry.frame.now result }
-    ensures blanks { IfOk result (λ l. l.blanks ≡ 0) }
-    ensures memory { result ≡ Err Refusal.Memory → 0 < length (all_lines (map bar_lines asked.entry.frame.now)) }
+) -> Result<(), Refusal>
+    ensures laid { (on : List StandingLine) → IsFrameLaid window.columns window.rows asked.now.pass on asked.now.frame.now laid.old →
+        FrameLaid window.columns window.rows asked.now.pass [] asked.now.frame.now laid.new result }
+    ensures blanks { IfOk result (λ _. laid.new.blanks ≡ 0) }
+    ensures memory { result ≡ Err Refusal.Memory → 0 < length (all_lines (map bar_lines asked.now.frame.now)) }
 {
     if laid.at == 0 && laid.blanks == 0 {
-        return Ok(laid);
+        return Ok(());
     }
-    spare.store_laid(laid);
-    lay_frame(spare, Beside::nothing(), asked, window)
+    spare.empty(laid);
+    lay_frame(spare, laid, &Beside::nothing(), asked, window)
 }
 
-/// Lays a frame out beside some lines. Its new lines stand in spare room, which is kept where it is refused.
+/// Lays out the members of a frame behind those that stand as they are, in spare room.
 fn lay_frame(
     spare: &mut Spare,
-    beside: Beside<'_>,
-    asked: Asked<'_>,
+    laid: &mut Laid,
+    beside: &Beside<'_>,
+    asked: &Asked<'_>,
     window: Window,
-) -> Result<Laid, Refusal>
-    requires standing { AreLines window.columns beside.lines.now }
-    requires blank { AreBlank beside.blanks beside.lines.now }
-    ensures laid { FrameLaid window.columns window.rows asked.entry.pass beside.entry.lines.now asked.entry.frame.now result }
-    ensures blanks { IfOk result (λ l. l.blanks ≡ beside.entry.blanks) }
-    ensures memory { result ≡ Err Refusal.Memory → 0 < length (all_lines (map bar_lines asked.entry.frame.now)) }
+) -> Result<(), Refusal>
+    requires front { IsFrontLaid window.columns window.rows asked.now.pass beside.now.members beside.now.lines.now asked.now.frame.now laid.old }
+    requires standing { AreLines window.columns beside.now.lines.now }
+    requires known { AreLines window.columns beside.now.known.now }
+    ensures laid { FrameLaid window.columns window.rows asked.now.pass beside.now.lines.now asked.now.frame.now laid.new result }
+    ensures blanks { IfOk result (λ _. laid.new.blanks ≡ laid.old.blanks) }
+    ensures memory { result ≡ Err Refusal.Memory → 0 < length (all_lines (map bar_lines asked.now.frame.now)) }
 {
-    let standing = beside.lines;
-    let mut laid = Laid {
-        plan: Plan::none(),
-        blanks: beside.blanks,
-        at: beside.blanks,
-        changed: spare.take_new(),
-        more: spare.take_lines(),
-    };
-    let mut left = asked.pass;
-    for member in asked.frame {
-        if let Err(e) = lay_member(&mut laid, spare, standing, member, window) {
-            spare.store_laid(laid);
-            return Err(e);
-        }
-        if left > 0 {
-            left -= 1;
+    for at in beside.members..asked.frame.len() {
+        lay_member(laid, spare, beside, &asked.frame[at], window)?;
+        if at < asked.pass {
             laid.plan.passing = laid.plan.lines;
         }
     }
-    let passing = through_run(&laid, standing);
-    laid.plan.passing_rows = height_passing(&laid, standing, passing);
+    let passing = through_run(laid, beside.lines);
+    laid.plan.passing_rows = height_passing(laid, beside.lines, passing);
     laid.plan.passing = passing;
-    Ok(laid)
+    Ok(())
 }
 
 /// Lays out the lines of one member of the frame.
 fn lay_member(
     laid: &mut Laid,
     spare: &mut Spare,
-    standing: &[StandingLine],
+    beside: &Beside<'_>,
     member: &Segment,
     window: Window,
 ) -> Result<(), Refusal>
     requires summed { IsSummed window.rows laid.old.plan }
-    requires standing { AreLines window.columns standing.now }
-    ensures laid { LaidOn window.columns window.rows standing.now (map line_text member.now.lines.items) (bar_lines member.now).lines
+    requires standing { AreLines window.columns beside.now.lines.now }
+    requires known { AreLines window.columns beside.now.known.now }
+    ensures laid { LaidOn window.columns window.rows beside.now.lines.now (map line_text member.now.lines.items) (bar_lines member.now).lines
         (lines_of window.columns (bar_lines member.now ∷ [])) laid.old laid.new result }
     ensures memory { result ≡ Err Refusal.Memory → 0 < length (bar_lines member.now).lines }
 {
@@ -261,7 +385,7 @@ fn lay_member(
             bar: member.bar,
             text: line.as_str(),
         };
-        lay_line(laid, spare, standing, own, window)?;
+        lay_line(laid, spare, beside, own, window)?;
     }
     Ok(())
 }
@@ -273,25 +397,67 @@ pub struct OwnLine<'a> {
     pub text: &'a str,
 }
 
-/// Lays out one more line of a bar: where it stands already, or as a new one.
+/// Lays out one more line of a bar: where it stands already; or as a new one, in the place of the one that stands there, if it has as many
+/// rows, else below.
 fn lay_line(
     laid: &mut Laid,
     spare: &mut Spare,
-    standing: &[StandingLine],
+    beside: &Beside<'_>,
     own: OwnLine<'_>,
     window: Window,
 ) -> Result<(), Refusal>
     requires summed { IsSummed window.rows laid.old.plan }
-    requires standing { AreLines window.columns standing.now }
-    ensures laid { LineLaidOn window.columns window.rows standing.now own.entry laid.old laid.new result }
+    requires standing { AreLines window.columns beside.now.lines.now }
+    requires known { AreLines window.columns beside.now.known.now }
+    ensures laid { LineLaidOn window.columns window.rows beside.now.lines.now own.entry laid.old laid.new result }
 {
-    if let Some(line) = next_beside(laid, standing, own.bar, window) {
-        if line.text.as_str() == own.text {
-            go_on(laid, line.rows);
-            return Ok(());
-        }
+    let Some(line) = next_beside(laid, beside.lines, own.bar, window) else {
+        let turn = measure_beside(beside.known, laid.plan.lines, own.text, window)?;
+        return lay_below(laid, spare, own, turn, window);
+    };
+    if line.text.as_str() == own.text {
+        go_on(laid, line.rows);
+        return Ok(());
     }
-    lay_new(laid, spare, standing, own, window)
+    let waits = laid.at + 1 == beside.lines.len();
+    let turn = compare(line, own.text, window, waits)?;
+    if turn.rows != line.rows {
+        return lay_below(laid, spare, own, turn, window);
+    }
+    let text = spare.copied(own.text)?;
+    let new = NewLine {
+        at: laid.at,
+        text,
+        turn,
+    };
+    laid.changed.push(new)?;
+    go_on(laid, turn.rows);
+    Ok(())
+}
+
+/// What becomes of the rows of a line that is written as a whole. It isn't measured where the line that is remembered at its place has its text.
+fn measure_beside(
+    known: &[StandingLine],
+    place: usize,
+    text: &str,
+    window: Window,
+) -> Result<Turn, Refusal>
+    requires { AreLines window.columns known.now }
+    ensures { MatchResult result (λ t. IsSized window.columns (chars text.now) t) (λ e. IsWithheld window.columns (chars text.now ∷ []) e) }
+{
+    if place >= known.len() {
+        return measure(text, window);
+    }
+    let line = &known[place];
+    if line.text.as_str() == text {
+        return Ok(Turn {
+            step: Step::Whole,
+            rows: line.rows,
+            last: line.last,
+            narrow: line.narrow,
+        });
+    }
+    measure(text, window)
 }
 
 /// The line that stands where the next one of this bar is to stand, if it is of the same bar, its rows fit, and all lines before it keep their
@@ -316,40 +482,7 @@ fn next_beside<'a>(
     Some(line)
 }
 
-/// Lays out a new line: in the place of the one that stands there, if it has as many rows, else below.
-#[inline(never)]
-fn lay_new(
-    laid: &mut Laid,
-    spare: &mut Spare,
-    standing: &[StandingLine],
-    own: OwnLine<'_>,
-    window: Window,
-) -> Result<(), Refusal>
-    requires summed { IsSummed window.rows laid.old.plan }
-    requires standing { AreLines window.columns standing.now }
-    ensures laid { LineLaidOn window.columns window.rows standing.now own.entry laid.old laid.new result }
-{
-    let Some(line) = next_beside(laid, standing, own.bar, window) else {
-        let turn = measure(own.text, window)?;
-        return lay_below(laid, spare, own, turn, window);
-    };
-    let waits = laid.at + 1 == standing.len();
-    let turn = compare(line, own.text, window, waits)?;
-    if turn.rows != line.rows {
-        return lay_below(laid, spare, own, turn, window);
-    }
-    let text = spare.copied(own.text)?;
-    let new = NewLine {
-        at: laid.at,
-        text,
-        turn,
-    };
-    laid.changed.push(new)?;
-    go_on(laid, turn.rows);
-    Ok(())
-}
-
-/// Passes a line of so many rows that keeps them.
+/// Passes a line that keeps its `rows` rows.
 fn go_on(laid: &mut Laid, rows: usize)
     requires rows { laid.old.plan.rows + rows ≤ 65535 }
     requires lines { laid.old.plan.lines ≤ 65535 }
@@ -462,6 +595,7 @@ pub fn metrics_of(line: &str, window: Window) -> Result<Metrics, Refusal>
 }
 
 /// The rows of a logged text, and how many columns its last line takes of its last row; 0 of each without a text.
+#[inline(always)]
 fn metrics_above(text: Option<&str>, window: Window) -> Result<Metrics, Refusal>
     ensures measured { MeasuredText window.columns (text_above text.entry) result }
     ensures no_memory { result ≢ Err Refusal.Memory }
@@ -476,6 +610,7 @@ fn metrics_above(text: Option<&str>, window: Window) -> Result<Metrics, Refusal>
 }
 
 /// The rows of the lines of a logged text, or 2^64 - 1 if there are more, and how many columns the last line takes of its last row.
+#[inline(never)]
 fn metrics_of_text(text: &str, window: Window) -> Result<Metrics, Refusal>
     ensures measured { MeasuredText window.columns (logged_lines text.now) result }
     ensures no_memory { result ≢ Err Refusal.Memory }

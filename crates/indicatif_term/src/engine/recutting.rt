@@ -3,15 +3,15 @@ ghost use Rattle.std.specs.Prelude.{◌≡◌, ℕ, ◌+◌, ◌<◌, ◌≤◌,
 ghost use Rattle.std.specs.List.{list_all};
 ghost use Rattle.indicatif_text.specs.Columns.{columns_in, glyphs_of, visible};
 ghost use Rattle.indicatif_text.specs.PieceLaws.{run_text};
-ghost use Rattle.indicatif_text.specs.Pieces.{shown};
+ghost use Rattle.indicatif_text.specs.Pieces.{text_piece};
 ghost use Rattle.indicatif_term.specs.Lists.{Lists, live_rows};
 ghost use Rattle.indicatif_term.specs.Counts.{CountsOf};
 ghost use Rattle.indicatif_term.specs.Resizes.{has_place, recut_lists, settled_whole};
 ghost use Rattle.indicatif_term.specs.Standing.{texts, IsLine, AreLines};
 ghost use Rattle.indicatif_term.specs.Inside.Recutting.{guarded_char, without_spaces, fits_alone, keeps, IsFitting, new_pieces, cut_pieces, cut_line, cut_lines, line_bars, cut_bars, Gains, shown_line, shown_lines, row_line, HasMore, row_heights, end_row};
 
+use crate::engine::comparing::Step;
 use crate::engine::counts::Counts;
-use crate::engine::parting::Step;
 use crate::engine::remembered::{Remembered, StandingLine};
 use indicatif_text::columns::{Piece, Refusal, pieces, width as width_of_char};
 use std::alloc::Global;
@@ -203,7 +203,7 @@ fn line_of(alloc: Global, bar: u64, seen: &[char], width: usize) -> Result<Stand
     })
 }
 
-/// Whether a row has place for a character: a joiner goes where the character before it does.
+/// Whether a row of the new width has place for a character of a line that is cut: a joiner goes where the character before it does.
 fn keeps(c: char, width: usize, before: bool) -> bool
     ensures { result ≡ keeps width before c }
 {
@@ -269,7 +269,7 @@ fn visible_chars(alloc: Global, text: &str) -> Result<Vec<char>, Refusal>
 
 /// Appends the characters of a piece, if it is no colour sequence. Refused: `Memory`.
 fn push_run(seen: &mut Vec<char>, piece: Piece<'_>) -> Result<(), Refusal>
-    ensures pushed { OnOk result (seen.new.items ≡ seen.old.items ++ run_text (shown piece.entry)) }
+    ensures pushed { OnOk result (seen.new.items ≡ seen.old.items ++ run_text (text_piece piece.entry)) }
     ensures memory { IfErr result (λ e. e ≡ Refusal.Memory) }
 {
     if piece.colour {
@@ -337,7 +337,7 @@ fn rows_below(below: bool) -> usize
     if below { 1 } else { 0 }
 }
 
-/// How many rows the cut rows are together. Refused: `Memory` where they are 2^32 or more: no terminal has so many.
+/// How many rows the cut rows are together. Refused: `Memory` where they are 2^32 or more: more than any terminal has.
 fn rows_in(heights: &[usize]) -> Result<usize, Refusal>
     ensures rows { IfOk result (λ n. n ≡ sum heights.now) }
     ensures small { IfOk result (λ n. n ≤ 0xFFFF_FFFF) }

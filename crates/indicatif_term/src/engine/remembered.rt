@@ -2,10 +2,9 @@
 ghost use Rattle.std.specs.Prelude.{◌≡◌, ◌⊎◌, ◌+◌, ◌-◌, ◌^◌, ◌<◌, ◌≤◌, ◌==◌, ◌++◌, [], ℕ, List, take, drop, length, if◌then◌else◌, IfOk, IfErr};
 ghost use Rattle.indicatif_term.specs.Standing.{AreLines};
 
-use crate::engine::beside::Beside;
+use crate::engine::beside::{Beside, put_new};
+use crate::engine::comparing::Step;
 use crate::engine::layout::Laid;
-use crate::engine::parting::Step;
-use crate::engine::renewed::put_new;
 use crate::engine::spare::Spare;
 use indicatif_text::columns::Refusal;
 use std::alloc::Global;
@@ -22,7 +21,7 @@ pub struct StandingLine {
     /// Its rows, and how many columns it takes of the last one.
     pub rows: usize,
     pub last: usize,
-    /// Whether each of its characters takes one column, as far as that was looked at.
+    /// Whether each visible character takes one column, in colours that are read right, as far as that was looked at.
     pub narrow: bool,
     /// What becomes of it in that drawing.
     pub step: Step,
@@ -77,36 +76,27 @@ impl StandingLines {
         spare: &mut Spare,
         stays: Span,
         first: usize,
-        laid: Laid,
+        laid: &mut Laid,
     ) -> Result<(), Refusal>
         requires within { stays.to ≤ length self.old }
         requires first { first ≤ stays.to - stays.from }
-        requires fit { (w : ℕ) × (let on = drop first (drop stays.from (take stays.to self.old)) in AreFitting w on (length on) laid.changed.items) }
-        ensures refused { IfErr result (λ e. (e ≡ Refusal.Memory) × (0 < length laid.more.items) × (self.new ≡ self.old)) }
+        requires fit { (w : ℕ) × (let on = drop first (drop stays.from (take stays.to self.old)) in AreFitting w on (length on) laid.old.changed.items) }
+        ensures refused { IfErr result (λ e. (e ≡ Refusal.Memory) × (0 < length laid.old.more.items) × (self.new ≡ self.old)) }
         ensures small { length self.new ≤ 2 ^ 64 - 1 }
         ensures lines { let all = drop stays.from (take stays.to self.old) in
             let on = drop first all in
-            IfOk result (λ _. (front : List StandingLine) × (self.new ≡ (take first all ++ front) ++ laid.more.items)
-            × (texts front ≡ renewed (texts on) laid.changed.items)
+            IfOk result (λ _. (front : List StandingLine) × (self.new ≡ (take first all ++ front) ++ laid.old.more.items)
+            × (texts front ≡ renewed (texts on) laid.old.changed.items)
             × (line_counts front ≡ line_counts on)
-            × ((w : ℕ) → AreLines w on → AreFitting w on (length on) laid.changed.items → AreInPlace w on front)
-            × ((w : ℕ) → AreFitting w on (length on) laid.changed.items → AreOver w on front)) }
+            × ((w : ℕ) → AreLines w on → AreFitting w on (length on) laid.old.changed.items → AreInPlace w on front)
+            × ((w : ℕ) → AreFitting w on (length on) laid.old.changed.items → AreOver w on front)) }
     {
-        let Laid {
-            plan: _,
-            blanks: _,
-            at: _,
-            changed,
-            more,
-        } = laid;
-        let mut more = more;
-        if self.lines.reserve(more.len()).is_err() {
+        if self.lines.reserve(laid.more.len()).is_err() {
             return Err(Refusal::Memory);
         }
         spare.store_around(&mut self.lines, stays);
-        put_new(&mut self.lines[first..], spare, changed);
-        let _ = self.lines.append(&mut more);
-        spare.store_lines(more);
+        put_new(&mut self.lines[first..], spare, &mut laid.changed);
+        let _ = self.lines.append(&mut laid.more);
         Ok(())
     }
 }
@@ -143,7 +133,7 @@ impl Remembered {
         }
     }
 
-    /// Lines of a terminal of so many columns, of which the last so many are live.
+    /// Lines of a terminal of `width` columns; the last `live` of them are live.
     pub fn of(width: usize, lines: Vec<StandingLine>, live: usize) -> Remembered
         requires right { 0 < width → AreLines width lines.items }
         ensures lines { result.lines ≡ lines.items }
@@ -158,7 +148,7 @@ impl Remembered {
         }
     }
 
-    /// Where the first so many live lines were kept, on a terminal of so many columns: all stand where they stood, but blank rows may
+    /// Where the first `count` live lines were kept, on a terminal of `width` columns: all stand where they stood, but blank rows may
     /// have other columns than then.
     pub fn keep(&mut self, width: usize, count: usize)
         requires within { count ≤ length (live_lines self.old) }
@@ -186,7 +176,7 @@ impl Remembered {
         self.behind(self.kept)
     }
 
-    /// The lines of the live rows behind so many blank ones.
+    /// The lines of the live rows behind the first `blanks`.
     pub fn own(&self, blanks: usize) -> &[StandingLine]
         requires { blanks ≤ length (live_lines self.now) }
         ensures { result.now ≡ drop blanks (live_lines self.now) }
@@ -194,12 +184,13 @@ impl Remembered {
         &self.live()[blanks..]
     }
 
-    /// The remembered lines of the live rows of a terminal of `width` columns, of which the first so many are blank ones; none if they aren't
+    /// The remembered lines of the live rows of a terminal of `width` columns, of which the first `blanks` are blank; none if they aren't
     /// known.
     pub fn beside(&self, width: usize, blanks: usize) -> Beside<'_>
         ensures right { 0 < width → AreLines width result.lines.now }
         ensures blank { AreBlank result.blanks result.lines.now }
         ensures live { (result.lines.now ≡ []) ⊎ ((self.now.width ≡ width) × (result.lines.now ≡ live_lines self.now)) }
+        ensures known { 0 < width → AreLines width result.known.now }
     {
         if self.width == width {
             Beside::of(self.live(), blanks)
@@ -232,14 +223,14 @@ impl Remembered {
         &mut self,
         spare: &mut Spare,
         above: Span,
-        laid: Laid,
+        laid: &mut Laid,
         width: usize,
     ) -> Result<(), Refusal>
         requires some { 0 < width }
-        requires fits { CanPut width above self.old laid }
-        ensures refused { IfErr result (λ e. (e ≡ Refusal.Memory) × (0 < length laid.more.items) × (self.new ≡ self.old)) }
-        ensures next { IfOk result (λ _. (ls : List StandingLine) × ArePut width (live_lines self.old) laid ls
-            × IsNext width (kept_below laid.plan laid.blanks) (drop above.from (take above.to self.old.lines)) ls self.new) }
+        requires fits { CanPut width above self.old laid.old }
+        ensures refused { IfErr result (λ e. (e ≡ Refusal.Memory) × (0 < length laid.old.more.items) × (self.new ≡ self.old)) }
+        ensures next { IfOk result (λ _. (ls : List StandingLine) × ArePut width (live_lines self.old) laid.old ls
+            × IsNext width (kept_below laid.old.plan laid.old.blanks) (drop above.from (take above.to self.old.lines)) ls self.new) }
     {
         let plan = laid.plan;
         let blanks = laid.blanks;

@@ -1,13 +1,16 @@
 //! A part of a row written again, character by character, among cells that stay.
-ghost use Rattle.std.specs.Prelude.{◌≡◌, ◌≤◌, ◌<◌, ◌++◌, ◌==◌, ◌&&◌, not, ℕ, Bool, List, length, chars, MatchResult};
+ghost use Rattle.std.specs.Prelude.{◌≡◌, ◌+◌, ◌-◌, ◌≤◌, ◌<◌, ◌++◌, ◌==◌, ◌&&◌, not, ℕ, Bool, List, MatchResult, string_bytes};
 ghost use Rattle.std.specs.IoError.{error_kind};
-ghost use Rattle.indicatif_term.specs.Calls.{Writes, LeadsOn, BreaksOff, RIGHT, move_bytes};
-ghost use Rattle.indicatif_term.specs.Inside.Inks.{NONE, colours_of, in_ink, is_alike, padded};
-ghost use Rattle.indicatif_term.specs.Inside.Edits.{row_bytes, plan, reset_bytes, ink_bytes};
+ghost use Rattle.indicatif_term.specs.Calls.{Writes, LeadsOn, BreaksOff, DOWN, RIGHT, move_bytes};
+ghost use Rattle.indicatif_term.specs.Inside.Inks.{colours_of, in_ink, is_alike};
+ghost use Rattle.indicatif_term.specs.Inside.Edits.{edit_bytes, row_bytes, reset_bytes, ink_bytes};
+ghost use Rattle.indicatif_term.specs.Inside.Parting.{HasPart, part_edits};
 ghost use Rattle.indicatif_term.specs.Inside.Rests.{HasRoom, ink_of, left_bytes};
 
-use crate::engine::inks::{Colours, InkedText, RESET, are_same, first_cell};
-use crate::engine::parting::split;
+use crate::engine::comparing::Stretch;
+use crate::engine::inks::{Colours, InkedText, RESET, are_same, char_count, first_cell, split};
+use crate::engine::remembered::StandingLine;
+use crate::engine::writing::go_down;
 use crate::target::term_like::TermLike;
 use std::io;
 
@@ -22,8 +25,55 @@ pub struct Rest<'a> {
     pub ink: Colours<'a>,
 }
 
-/// Goes over one column of the row, which stays or gets its character in its colours, and then over those that stay.
-pub fn write_next<'a, T: TermLike>(term: &mut T, rest: Rest<'a>, ends: bool) -> io::Result<Rest<'a>>
+/// Goes down to the last row of a line and to its front, and writes what differs in a part of it.
+pub fn write_part<T: TermLike>(
+    term: &mut T,
+    down: usize,
+    line: &StandingLine,
+    part: Stretch,
+) -> io::Result<()>
+    requires small { down + line.now.rows ≤ 65536 }
+    requires part { HasPart part (string_bytes line.now.before) (string_bytes line.now.text) }
+    ensures { Writes (move_bytes DOWN (down + line.now.rows - 1) ++ row_bytes part.gap (part_edits part (string_bytes line.now.before) (string_bytes line.now.text)))
+        (T.view term.old) (T.view term.new) result }
+{
+    let far = down + line.rows;
+    go_down(term, far.saturating_sub(1))?;
+    term.write_str("\r")?;
+    let mut now = all_of(line, part);
+    'columns: while now.left > 0 {
+        now = skip(write_next(term, now, part.waits)?);
+    }
+    close(term, now.ink)
+}
+
+/// What is left of a row before a part of it is written: the whole part.
+fn all_of(line: &StandingLine, part: Stretch) -> Rest<'_>
+    requires { HasPart part (string_bytes line.now.before) (string_bytes line.now.text) }
+    ensures room { HasRoom result }
+    ensures bytes { left_bytes part.waits result ≡ edit_bytes part.gap (part_edits part (string_bytes line.now.before) (string_bytes line.now.text)) }
+{
+    let ink = Colours {
+        base: "",
+        group: "",
+    };
+    Rest {
+        old: InkedText {
+            text: &line.before[part.from..],
+            ink,
+        },
+        new: InkedText {
+            text: &line.text[part.from..],
+            ink,
+        },
+        left: part.left,
+        gap: part.gap,
+        ink,
+    }
+}
+
+/// Goes over one column of the row, which stays or gets its character in its colours.
+fn write_next<'a, T: TermLike>(term: &mut T, rest: Rest<'a>, ends: bool) -> io::Result<Rest<'a>>
     requires some { 0 < rest.left }
     requires room { HasRoom rest }
     ensures { MatchResult result
@@ -41,11 +91,11 @@ pub fn write_next<'a, T: TermLike>(term: &mut T, rest: Rest<'a>, ends: bool) -> 
         ink: new.ink,
     };
     if stays(stands, c, next, ends) {
-        return Ok(skip(Rest {
+        return Ok(Rest {
             gap: rest.gap + 1,
             ink: rest.ink,
             ..next
-        }));
+        });
     }
     recolour(term, rest.ink, new.ink)?;
     go_right(term, rest.gap)?;
@@ -88,7 +138,7 @@ fn put<T: TermLike>(term: &mut T, sequences: &str) -> io::Result<()>
 }
 
 /// Closes all colours that an edit of the row left open, if any are.
-pub fn close<T: TermLike>(term: &mut T, ink: Colours<'_>) -> io::Result<()>
+fn close<T: TermLike>(term: &mut T, ink: Colours<'_>) -> io::Result<()>
     ensures { Writes (reset_bytes (colours_of (ink_of ink.entry))) (T.view term.old) (T.view term.new) result }
 {
     if ink.base.is_empty() && ink.group.is_empty() {
@@ -107,10 +157,7 @@ fn skip<'a>(rest: Rest<'a>) -> Rest<'a>
     if !are_same(rest.old.ink, rest.new.ink) {
         return rest;
     }
-    let parts = match split(rest.old.text, rest.new.text, false) {
-        Some(parts) => parts,
-        None => return rest,
-    };
+    let parts = split(rest.old.text, rest.new.text);
     let count = char_count(parts.front);
     if count >= rest.left {
         return rest;
@@ -130,13 +177,6 @@ fn skip<'a>(rest: Rest<'a>) -> Rest<'a>
         gap: rest.gap + columns,
         ink: rest.ink,
     }
-}
-
-/// How many characters a text has.
-fn char_count(text: &str) -> usize
-    ensures { result ≡ length (chars text.now) }
-{
-    text.chars().count()
 }
 
 /// Goes right over columns of the row that stay; none is no call.

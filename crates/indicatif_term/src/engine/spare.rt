@@ -1,13 +1,13 @@
 //! Room that was taken before.
 ghost use Rattle.std.specs.Prelude.{◌≡◌, ◌≤◌, [], length, take, drop, vec_capacity, string_bytes, IfOk, IfErr};
 
-use crate::engine::layout::Laid;
+use crate::engine::beside::NewLine;
+use crate::engine::layout::{Laid, Plan};
 use crate::engine::remembered::{Span, StandingLine};
-use crate::engine::renewed::NewLine;
 use indicatif_text::columns::Refusal;
 use std::alloc::Global;
 use std::marker::Model;
-use std::mem::replace;
+use std::mem::swap;
 
 /// Room for the next lines and texts, so that a drawing takes none anew. Contracts see nothing of it.
 pub struct Spare {
@@ -35,6 +35,8 @@ impl Model for Spare {
 }
 
 impl Spare {
+    ghost use Rattle.indicatif_term.specs.Inside.Layouts.{IsNoneLaid};
+
     /// No spare room yet.
     pub fn new(alloc: Global) -> Spare {
         Spare {
@@ -45,22 +47,15 @@ impl Spare {
         }
     }
 
-    /// Takes the spare room for lines that there is.
-    pub fn take_lines(&mut self) -> Vec<StandingLine>
-        ensures { result.items ≡ [] }
+    /// Lends the spare room for lines that there is to a frame that has none.
+    pub fn lend(&mut self, laid: &mut Laid)
+        ensures same { laid.new ≡ record laid.old { changed = laid.new.changed; more = laid.new.more } }
+        ensures none { (laid.new.changed.items ≡ []) × (laid.new.more.items ≡ []) }
     {
-        let mut lines = replace(&mut self.lines, Vec::new(self.alloc));
-        lines.clear();
-        lines
-    }
-
-    /// Takes the spare room for new lines that there is.
-    pub fn take_new(&mut self) -> Vec<NewLine>
-        ensures { result.items ≡ [] }
-    {
-        let mut changed = replace(&mut self.changed, Vec::new(self.alloc));
-        changed.clear();
-        changed
+        swap(&mut self.changed, &mut laid.changed);
+        swap(&mut self.lines, &mut laid.more);
+        laid.changed.clear();
+        laid.more.clear();
     }
 
     /// Takes spare room for a text.
@@ -93,35 +88,31 @@ impl Spare {
         String::new(self.alloc)
     }
 
-    /// Keeps as spare the room of lines that are no more, and of their texts.
-    pub fn store_lines(&mut self, lines: Vec<StandingLine>) {
-        let mut lines = lines;
-        self.store_behind(&mut lines, 0);
-        if lines.capacity() > self.lines.capacity() {
-            self.lines = lines;
-        }
+    /// Takes back the room that was lent to a frame.
+    pub fn store_laid(&mut self, laid: &mut Laid) {
+        self.empty(laid);
+        swap(&mut self.changed, &mut laid.changed);
+        swap(&mut self.lines, &mut laid.more);
     }
 
-    /// Keeps as spare the room of a frame that was laid out.
-    pub fn store_laid(&mut self, laid: Laid) {
-        let Laid {
-            plan: _,
-            blanks: _,
-            at: _,
-            changed,
-            more,
-        } = laid;
-        self.store_new(changed);
-        self.store_lines(more);
+    /// Takes all lines of a frame away, and keeps the room of their texts as spare.
+    pub fn empty(&mut self, laid: &mut Laid)
+        ensures { IsNoneLaid laid.new }
+    {
+        laid.plan = Plan::none();
+        laid.blanks = 0;
+        laid.at = 0;
+        self.store_new(&mut laid.changed);
+        self.store_behind(&mut laid.more, 0);
     }
 
-    /// Keeps as spare the room of new lines that are no more, and of their texts.
-    pub fn store_new(&mut self, changed: Vec<NewLine>) {
-        let mut changed = changed;
+    /// Takes new lines away, and keeps the room of their texts as spare.
+    fn store_new(&mut self, changed: &mut Vec<NewLine>)
+        ensures { changed.new.items ≡ [] }
+    {
         while let Some(line) = changed.pop() {
             self.store_text(line.text);
         }
-        self.changed = changed;
     }
 
     /// Keeps as spare the room of a text that is no more, if there is room for that.

@@ -6,9 +6,8 @@ ghost use Rattle.indicatif_term.specs.Inside.Writings.{CanWrite, is_inside, is_a
 ghost use Rattle.indicatif_term.specs.Standing.{texts};
 ghost use Rattle.indicatif_term.specs.Inside.Plans.{text_above};
 
-use crate::engine::changing::put_among;
+use crate::engine::changing::{put_among, put_over};
 use crate::engine::counts::Fresh;
-use crate::engine::moving::put_over;
 use crate::engine::remembered::StandingLine;
 use crate::target::term_like::TermLike;
 use std::io;
@@ -24,9 +23,9 @@ pub struct Drawing<'a> {
 /// Which of its lines come in the place of others; the rest come below all these.
 #[derive(Clone, Copy)]
 pub enum Manner {
-    /// So many, from the front, in the rows above those that are taken back. Of these lines only what changes is written.
+    /// As many as the number says, from the front, in the rows above those that are taken back. Of these lines only what changes is written.
     Among(usize),
-    /// All, whole, over so many rows, of which none is emptied.
+    /// All, whole, over this number of rows, of which none is emptied.
     Over(usize),
 }
 

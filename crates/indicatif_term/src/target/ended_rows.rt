@@ -2,7 +2,7 @@
 ghost use Rattle.std.specs.Prelude.{◌≡◌, ◌-◌, ◌≤◌, ◌⊎◌, ◌↔◌, Bool, Option, None, List, [], ◌∷◌, true, false, is_some, chars, nat_lt, nat_le, ◌&&◌, Err, IsTrue, IsFalse, IfErr, OnOk, OnErr};
 ghost use Rattle.unicode_width.specs.Width.{char_width};
 ghost use Rattle.indicatif_text.specs.Columns.{visible, is_plain};
-ghost use Rattle.indicatif_text.specs.Pieces.{Colour, shown};
+ghost use Rattle.indicatif_text.specs.Pieces.{Colour, text_piece};
 ghost use Rattle.indicatif_text.specs.PieceLaws.{IsExact, run_text};
 ghost use Rattle.indicatif_term.specs.Screen.{Put, performed};
 ghost use Rattle.indicatif_term.specs.Calls.{TermView, Writes, move_bytes, line_bytes, clear_bytes, UP, DOWN, RIGHT, LEFT};
@@ -386,8 +386,8 @@ impl<T: TermLike> EndedRows<T> {
 
     /// Writes a colour sequence, a return to the front of the row, or a run of visible characters.
     fn put_piece(&mut self, piece: Piece<'_>) -> io::Result<()>
-        ensures { Falls T.view (WithinIf T.view (AreShown (run_text (shown piece.entry)) × IsExact (shown piece.entry)))
-            (Within T.view) (all_put (run_text (shown piece.entry))) self.old self.new result }
+        ensures { Falls T.view (WithinIf T.view (AreShown (run_text (text_piece piece.entry)) × IsExact (text_piece piece.entry)))
+            (Within T.view) (all_put (run_text (text_piece piece.entry))) self.old self.new result }
     {
         if piece.colour {
             return self.put_colour(piece.text);
@@ -445,7 +445,7 @@ impl<T: TermLike> EndedRows<T> {
         self.send(text)
     }
 
-    /// Goes to the next row, if this one hasn't `wide` columns left.
+    /// Ends the row and begins the next one, if this one hasn't `wide` columns left.
     fn make_room(&mut self, wide: usize) -> io::Result<()>
         ensures { Falls T.view (Within T.view) (WithinRoom T.view wide) (with_room wide) self.old self.new result }
     {

@@ -1,12 +1,15 @@
-//! Shared bars and boards, on terminals in memory, and how they are made.
-use crate::front::clock::RowClock;
+//! Shared bars and boards, on terminals in memory with clocks of listed moments, and how they are made.
 use indicatif::{
-    InMemoryTerm, Moment, MultiProgress, NoTracker, ProgressBar, ProgressDrawTarget, ProgressStyle,
-    Refusal, Setup, WeakProgressBar,
+    Clock, Drawn, InMemoryTerm, Moment, MultiProgress, NoTracker, ProgressBar, ProgressDrawTarget,
+    ProgressStyle, Refusal, Setup, StepClock, WeakProgressBar,
 };
-use scripts::got::{Bad, Got};
+use scripts::got::{Bad, Done, Got};
+use scripts::row::{Words, number};
 use std::alloc::Global;
 use std::sync::Wait;
+
+/// The answer of a call.
+pub type Told = Result<Drawn, Refusal>;
 
 /// A shared bar, as `indicatif` has it.
 pub type Front<R> = ProgressBar<InMemoryTerm, RowClock, R>;
@@ -15,63 +18,85 @@ pub type Front<R> = ProgressBar<InMemoryTerm, RowClock, R>;
 #[derive(Drop)]
 pub struct Bar<R: Wait + Copy + Clone + Drop>(pub Front<R>);
 
-/// A bar without an owner.
+/// A weak bar: one without an owner, or one that refers to no bar.
 #[derive(Drop)]
-pub struct Weak<R: Wait + Copy + Clone + Drop>(WeakProgressBar<InMemoryTerm, RowClock, R>);
-
-impl<R: Wait + Copy + Clone + Drop> Weak<R> {
-    /// A weak bar that refers to no bar.
-    pub fn never() -> Weak<R> {
-        Weak(WeakProgressBar::new())
-    }
-
-    /// A weak bar that refers to this bar.
-    pub fn of(bar: &Front<R>) -> Result<Weak<R>, Bad> {
-        let weak = bar.downgrade()?;
-        Ok(Weak(weak.clone()?))
-    }
-
-    /// An owner, if there are owners.
-    pub fn upgrade(&self) -> Result<Option<Bar<R>>, Bad> {
-        Ok(match self.0.upgrade()? {
-            Some(bar) => Some(Bar(bar)),
-            None => None,
-        })
-    }
-}
-
-/// A shared board, as `indicatif` has it.
-pub type FrontBoard<R> = MultiProgress<InMemoryTerm, RowClock, R>;
+pub struct Weak<R: Wait + Copy + Clone + Drop>(pub WeakProgressBar<InMemoryTerm, RowClock, R>);
 
 /// A shared board as a separate type.
 #[derive(Drop)]
-pub struct Shared<R: Wait + Copy + Clone + Drop>(pub FrontBoard<R>);
+pub struct Shared<R: Wait + Copy + Clone + Drop>(pub MultiProgress<InMemoryTerm, RowClock, R>);
 
 /// A target to draw on.
 pub type Target = ProgressDrawTarget<InMemoryTerm>;
 
-/// The rate of a target, and when it was made.
+// ---- clocks
+
+/// How many readings of a clock give one moment, and the moment; several in order.
+type Listed = [(u64, Moment); 4];
+
+/// A clock that gives listed moments, which may also go back, and then advances by steps.
 #[derive(Clone, Copy, Drop)]
-pub struct Pace {
-    pub hz: u8,
-    pub made: Moment,
+pub struct RowClock {
+    pub listed: Listed,
+    steps: StepClock,
 }
 
-/// The size of terminals, their rate if it is limited, and the moments of clocks.
+impl Clock for RowClock {
+    fn now(&mut self) -> Moment {
+        for (count, moment) in &mut self.listed {
+            if *count > 0 {
+                *count -= 1;
+                return *moment;
+            }
+        }
+        self.steps.now()
+    }
+}
+
+/// The readings of words: the number, and the moment, of each.
+pub fn moments_of(words: &mut Words<'_>) -> Result<Listed, Bad> {
+    let mut listed = [(0, 0); 4];
+    for readings in &mut listed {
+        if !words.rest().is_empty() {
+            *readings = (words.number()?, words.number()?);
+        }
+    }
+    Ok(listed)
+}
+
+// ---- terminals, bars and boards
+
+/// The size of terminals; if their rate is limited, the rate of a target and when it was made; and the moments of clocks.
 #[derive(Clone, Copy, Drop)]
 pub struct Room {
     pub rows: u16,
     pub cols: u16,
-    pub pace: Option<Pace>,
+    pub pace: Option<(u8, Moment)>,
     pub clock: RowClock,
 }
 
 impl Room {
+    /// The next four words, `ROWS COLS FROM STEP`: the clock starts at `FROM`, and advances by `STEP` with each reading.
+    pub fn of(words: &mut Words<'_>) -> Result<Room, Bad> {
+        let (rows, cols) = (words.number()?, words.number()?);
+        let (next, step) = (words.number()?, words.number()?);
+        let clock = RowClock {
+            listed: [(0, 0); 4],
+            steps: StepClock { next, step },
+        };
+        Ok(Room {
+            rows,
+            cols,
+            pace: None,
+            clock,
+        })
+    }
+
     /// A terminal with nothing on it.
     pub fn target(self, alloc: Global) -> Result<Target, Refusal> {
         let term = InMemoryTerm::new(alloc, self.rows, self.cols)?;
         match self.pace {
-            Some(Pace { hz, made }) => ProgressDrawTarget::term_like_with_hz(term, hz, made),
+            Some((hz, made)) => ProgressDrawTarget::term_like_with_hz(term, hz, made),
             None => Ok(ProgressDrawTarget::term_like(term)),
         }
     }
@@ -85,26 +110,76 @@ impl Room {
     }
 }
 
-/// Makes bars and boards.
+/// Boards and owners of bars, and how they are made.
 #[derive(Drop)]
-pub struct Maker<R> {
+pub struct Fronts<R: Wait + Copy + Clone + Drop> {
     pub rt: R,
     pub alloc: Global,
     pub room: Room,
+    pub boards: Vec<Shared<R>>,
+    pub on: usize,
+    pub bars: Vec<Bar<R>>,
+    pub weak: Weak<R>,
+    pub looked_at: usize,
+    /// The answer of the last call, if it is known.
+    pub answer: Option<Told>,
+    pub noted: u64,
 }
 
-impl<R: Wait + Copy + Clone + Drop> Maker<R> {
-    /// A board with this mark, which keeps its history if it is recorded.
-    pub fn board(&self, mark: u64, is_recorded: bool) -> Result<Shared<R>, Bad> {
-        let Setup { target, clock } = self.room.setup(self.alloc)?;
-        Ok(Shared(match is_recorded {
-            true => MultiProgress::recorded(self.rt, self.alloc, target, clock, mark)?,
-            false => MultiProgress::new(self.rt, self.alloc, Setup { target, clock }, mark)?,
-        }))
+impl<R: Wait + Copy + Clone + Drop> Fronts<R> {
+    /// None yet.
+    pub fn new(rt: R, room: Room, alloc: Global) -> Fronts<R> {
+        Fronts {
+            rt,
+            alloc,
+            room,
+            boards: Vec::new(alloc),
+            on: 0,
+            bars: Vec::new(alloc),
+            weak: Weak(WeakProgressBar::new()),
+            looked_at: 0,
+            answer: None,
+            noted: 0,
+        }
     }
 
-    /// A bar made in this way: `new`, without a length if there is none, `spinner`, or on a `target`.
+    /// The current board.
+    pub fn board(&self) -> Result<&Shared<R>, Bad> {
+        self.boards.get(self.on).ok_or(Bad::Step)
+    }
+
+    /// The bar of the owner with this number.
+    pub fn bar(&self, place: &str) -> Result<&Bar<R>, Bad> {
+        let place: usize = number(place)?;
+        self.bars.get(place).ok_or(Bad::Step)
+    }
+
+    /// Another owner of the same bar.
+    pub fn another(&self, place: &str) -> Result<Bar<R>, Bad> {
+        Ok(Bar(self.bar(place)?.0.clone()?))
+    }
+
+    /// Adds a board, which keeps its history if it is recorded.
+    pub fn begins(&mut self, is_recorded: bool) -> Done {
+        let count = self.boards.len();
+        let mark = (count as u64).wrapping_add(1);
+        let Setup { target, clock } = self.room.setup(self.alloc)?;
+        self.boards.push(Shared(match is_recorded {
+            true => MultiProgress::recorded(self.rt, self.alloc, target, clock, mark)?,
+            false => MultiProgress::new(self.rt, self.alloc, Setup { target, clock }, mark)?,
+        }))?;
+        self.on = count;
+        Ok(())
+    }
+
+    /// A bar made in this way: `new`, without a length if there is none; `spinner`; on a `target`; or by the `board`.
     pub fn made(&self, way: &str, len: Option<u64>) -> Result<Bar<R>, Bad> {
+        if way == "board" {
+            return Ok(Bar(match len {
+                Some(len) => self.board()?.0.new_bar(len)?,
+                None => self.board()?.0.new_spinner()?,
+            }));
+        }
         let setup = self.room.setup(self.alloc)?;
         Ok(Bar(match (way, len) {
             ("target", _) => {
@@ -119,14 +194,14 @@ impl<R: Wait + Copy + Clone + Drop> Maker<R> {
     }
 
     /// A bar with this length in the style of a template.
-    pub fn bar(&self, len: Option<u64>, template: &str) -> Result<Bar<R>, Bad> {
+    pub fn templated(&self, len: Option<u64>, template: &str) -> Result<Bar<R>, Bad> {
         let style = ProgressStyle::with_template(self.alloc, template)?;
         Ok(Bar(self.made("new", len)?.0.with_style(style)?))
     }
 
     /// A bar whose one line is its message, this text.
     pub fn saying(&self, text: &str) -> Result<Bar<R>, Bad> {
-        Ok(Bar(self.bar(None, "{msg}")?.0.with_message(text)?))
+        Ok(Bar(self.templated(None, "{msg}")?.0.with_message(text)?))
     }
 }
 
@@ -144,7 +219,7 @@ pub fn contents(term: Option<&InMemoryTerm>) -> Option<Result<String, Refusal>> 
 }
 
 /// Appends the contents; `nothing` if there is no terminal.
-pub fn push_contents(contents: Option<Result<String, Refusal>>, got: &mut Got) -> Result<(), Bad> {
+pub fn push_contents(contents: Option<Result<String, Refusal>>, got: &mut Got) -> Done {
     match contents {
         Some(contents) => got.text(contents?.as_str()),
         None => got.text("nothing"),

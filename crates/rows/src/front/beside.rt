@@ -5,19 +5,16 @@
 //! size, with clocks that start at `FROM` and advance by `STEP`; they are drawn at most `RATE` times a second if that isn't 0, and with the
 //! rate `hidden` there is no terminal. `turn RATE` gives both another terminal. `call CALL` makes a call of both, `each` makes the kept
 //! calls, and `random N SEED` N of them, by the numbers of a generator: `same`, or the call and what differs after it.
-use crate::front::bars::{Bar, Pace, Room, Target, spinner};
-use crate::front::clock::RowClock;
-use crate::front::fronts::room_of;
-use crate::front::tell::{Told, further, tell};
+use crate::front::bars::{Bar, Room, RowClock, Target, Told, spinner};
+use crate::front::tell::further;
 use indicatif::{
     BarCommand, BarState, Clock, InMemoryTerm, LoneBar, LoneCall, Moment, NoTracker, ProgressBar,
     ProgressDrawTarget, ProgressStyle, Refusal, Setup,
 };
-use scripts::got::{Bad, Got};
-use scripts::lone::lone_call;
+use scripts::got::{Bad, Done, Got};
+use scripts::lone::{lone_call, read_bar};
 use scripts::replay::rows_of;
-use scripts::row::{Words, headed};
-use scripts::spelling::number;
+use scripts::row::{At, Words, headed, number};
 use std::alloc::Global;
 use std::sync::Wait;
 
@@ -39,12 +36,15 @@ struct Both<R: Wait + Copy + Clone + Drop> {
 #[derive(Drop)]
 pub struct Pair<R: Wait + Copy + Clone + Drop> {
     rt: R,
-    alloc: Global,
     calls: Vec<String>,
     both: Option<Box<Both<R>>>,
 }
 
 const TEMPLATE: &str = "{prefix}{msg} {pos}/{len}\n{spinner} {elapsed_precise}";
+
+/// The readings of both.
+const READINGS: &str =
+    "pos len ticks finished tab_width message prefix last_tick eta duration elapsed rate";
 
 fn style(alloc: Global) -> Result<ProgressStyle<NoTracker>, Refusal> {
     ProgressStyle::with_template(alloc, TEMPLATE)?.tick_strings(&["-", "+", "ok"])
@@ -57,47 +57,28 @@ fn target(alloc: Global, room: Room, rate: &str) -> Result<Target, Bad> {
     }
     let pace = match number(rate)? {
         0 => None,
-        hz => Some(Pace { hz, made: 0 }),
+        hz => Some((hz, 0)),
     };
     Ok(Room { pace, ..room }.target(alloc)?)
 }
 
-/// A shared bar with this rate.
-fn shared<R: Wait + Copy + Clone + Drop>(
-    rt: R,
-    alloc: Global,
-    (room, rate): (Room, &str),
-) -> Result<Bar<R>, Bad> {
-    let style = style(alloc)?;
-    let setup = Setup {
-        target: target(alloc, room, rate)?,
-        clock: room.clock,
-    };
-    Ok(Bar(ProgressBar::new(rt, alloc, 10, setup)?.with_style(style)?))
-}
-
-/// A `LoneBar` with this rate, made at the moment of the first, and then given the same style.
-fn lone_bar(
-    alloc: Global,
-    (room, rate): (Room, &str),
-    clock: &mut RowClock,
-) -> Result<Box<Lone>, Bad> {
-    let style = style(alloc)?;
-    let target = target(alloc, room, rate)?;
-    let bar = BarState::new(alloc, Some(10), clock.now())?;
-    let mut bar = Box::new(alloc, Lone(LoneBar::new(bar, target)))?;
-    bar.0.with_style(style, clock.now())?;
-    Ok(bar)
-}
-
 impl<R: Wait + Copy + Clone + Drop> Both<R> {
+    /// The shared bar, and a `LoneBar` that is made at the moment of the first, and then given the same style.
     fn on(rt: R, alloc: Global, rest: &str) -> Result<Box<Both<R>>, Bad> {
         let mut words = Words::of(rest);
-        let room = room_of(&mut words)?;
+        let room = Room::of(&mut words)?;
         let mut clock = room.clock;
-        let lone = lone_bar(alloc, (room, words.rest()), &mut clock)?;
+        let bar = BarState::new(alloc, Some(10), clock.now())?;
+        let lone = LoneBar::new(bar, target(alloc, room, words.rest())?);
+        let mut lone = Box::new(alloc, Lone(lone))?;
+        lone.0.with_style(style(alloc)?, clock.now())?;
+        let setup = Setup {
+            target: target(alloc, room, words.rest())?,
+            clock: room.clock,
+        };
+        let shared = Bar(ProgressBar::new(rt, alloc, 10, setup)?.with_style(style(alloc)?)?);
         let both = Both {
-            shared: shared(rt, alloc, (room, words.rest()))?,
+            shared,
             lone,
             clock,
             alloc,
@@ -108,74 +89,50 @@ impl<R: Wait + Copy + Clone + Drop> Both<R> {
 
     /// Whether both show the same.
     fn show_same(&self) -> bool {
-        match (
-            self.shared.0.with_term(rows_of),
-            rows_of(self.lone.0.term()),
-        ) {
-            (Ok(one), Ok(other)) => one == other,
+        let (one, other) = (&self.shared.0, &self.lone.0);
+        match (one.with_term(rows_of), rows_of(other.term())) {
+            (Ok(rows), Ok(wanted)) => rows == wanted && one.is_hidden() == other.is_hidden(),
             _ => false,
         }
     }
 
-    /// Whether both have the same numbers.
-    fn count_same(&self) -> bool {
-        let (one, record) = (&self.shared.0, self.lone.0.bar());
-        let other = record.state();
-        one.position() == other.pos()
-            && one.length() == other.len()
-            && one.ticks() == other.ticks()
-            && one.is_finished() == other.is_finished()
-            && one.tab_width() == record.tab_width()
-            && one.is_hidden() == self.lone.0.is_hidden()
+    /// Whether a reading gives the same for both. Some take a moment.
+    fn read_same(&mut self, name: &str) -> Result<bool, Bad> {
+        let (mut one, mut other) = (Got::new(self.alloc), Got::new(self.alloc));
+        let now = match name {
+            "eta" | "duration" | "elapsed" | "rate" => self.clock.now(),
+            _ => 0,
+        };
+        let are_read = self.shared.read(name, &mut one)?
+            && read_bar(self.lone.0.bar(), name, now, &mut other)?;
+        Ok(are_read && one.as_str() == other.as_str())
     }
 
-    /// Whether both have the same times; each reading has its moment.
-    fn time_same(&mut self) -> bool {
-        let shared = &self.shared.0;
-        let one = (shared.eta(), shared.duration());
-        let (eta, duration) = (self.clock.now(), self.clock.now());
-        let other = self.lone.0.bar().state();
-        let same = one == (other.eta(eta), other.duration(duration));
-        let one = (shared.elapsed(), shared.per_sec());
-        let (elapsed, rate) = (self.clock.now(), self.clock.now());
-        same && one == (other.elapsed(elapsed), other.per_sec(rate))
-    }
-
-    /// Whether both have the same texts, and the last texts of their styles are the same.
-    fn say_same(&self) -> bool {
-        let (one, other) = (&self.shared.0, self.lone.0.bar());
-        match (one.message(), one.prefix(), one.style()) {
-            (Ok(message), Ok(prefix), Ok(style)) => {
-                message.as_str() == other.message()
-                    && prefix.as_str() == other.prefix()
-                    && style.get_final_tick_str() == other.style().get_final_tick_str()
+    /// The reading that differs, if one does.
+    fn unlike(&mut self) -> Result<Option<&'static str>, Bad> {
+        for name in READINGS.split(' ') {
+            if !self.read_same(name)? {
+                return Ok(Some(name));
             }
-            _ => false,
         }
+        Ok(None)
     }
 
     /// What differs after the same call of both, if anything does.
     fn differ_by(&mut self, call: &str) -> Result<Option<&'static str>, Bad> {
-        let answer = tell(&self.shared.0, self.alloc, call)?;
+        let answer = self.shared.tell(self.alloc, call)?;
         let now = self.clock.now();
-        let alone = tell_alone(&mut self.lone, self.alloc, call, now)?;
-        Ok(if alone != answer {
-            Some("answers")
-        } else if !self.show_same() {
-            Some("rows")
-        } else if !self.count_same() {
-            Some("numbers")
-        } else if !self.time_same() {
-            Some("times")
-        } else if !self.say_same() {
-            Some("texts")
-        } else {
-            None
-        })
+        if tell_alone(&mut self.lone, self.alloc, call, now)? != answer {
+            return Ok(Some("answers"));
+        }
+        match self.show_same() {
+            true => self.unlike(),
+            false => Ok(Some("rows")),
+        }
     }
 
     /// Sets another target with this rate for both: the answer of the shared one, and whether they show the same.
-    fn turn(&mut self, rate: &str, got: &mut Got) -> Result<(), Bad> {
+    fn turn(&mut self, rate: &str, got: &mut Got) -> Done {
         let one = target(self.alloc, self.room, rate)?;
         let other = target(self.alloc, self.room, rate)?;
         got.answer(self.shared.0.set_draw_target(one));
@@ -186,15 +143,15 @@ impl<R: Wait + Copy + Clone + Drop> Both<R> {
 
     /// Makes a call of both; whether nothing differs, otherwise appends what does.
     fn is_same(&mut self, call: &str, got: &mut Got) -> Result<bool, Bad> {
-        let Some(what) = self.differ_by(call)? else {
-            return Ok(true);
-        };
-        got.number(format_args!("{call}: {what}"));
-        Ok(false)
+        let differs = self.differ_by(call)?;
+        if let Some(what) = differs {
+            got.number(format_args!("{call}: {what}"));
+        }
+        Ok(differs.is_none())
     }
 
     /// Makes each of these calls.
-    fn each(&mut self, calls: &[String], got: &mut Got) -> Result<(), Bad> {
+    fn each(&mut self, calls: &[String], got: &mut Got) -> Done {
         for call in calls {
             if !self.is_same(call.as_str(), got)? {
                 return Ok(());
@@ -204,13 +161,10 @@ impl<R: Wait + Copy + Clone + Drop> Both<R> {
         Ok(())
     }
 
-    /// Makes `times` of these calls, by the numbers of a generator.
-    fn random(
-        &mut self,
-        calls: &[String],
-        (times, mut seed): (u32, u64),
-        got: &mut Got,
-    ) -> Result<(), Bad> {
+    /// Makes `N` of these calls, by the numbers of a generator: `N SEED`.
+    fn random(&mut self, calls: &[String], words: &str, got: &mut Got) -> Done {
+        let (times, seed) = headed(words);
+        let (times, mut seed): (u32, u64) = (number(times)?, number(seed)?);
         for _ in 0..times {
             if !self.is_same(chosen(calls, &mut seed)?, got)? {
                 return Ok(());
@@ -229,57 +183,38 @@ fn chosen<'a>(calls: &'a [String], seed: &mut u64) -> Result<&'a str, Bad> {
     x ^= x.wrapping_shl(17);
     *seed = x;
     let count = calls.len().max(1) as u64;
-    match calls.get((x % count) as usize) {
-        Some(call) => Ok(call.as_str()),
-        None => Err(Bad::Step),
-    }
+    let call = calls.get((x % count) as usize).ok_or(Bad::Step)?;
+    Ok(call.as_str())
 }
 
 /// No bars yet, and no calls.
-pub fn begin<R: Wait + Copy + Clone + Drop>(rt: R, alloc: Global) -> Result<Box<Pair<R>>, Bad> {
-    let pair = Pair {
+pub fn begin<R: Wait + Copy + Clone + Drop>(rt: R, at: At) -> Result<Box<Pair<R>>, Bad> {
+    at.boxed(Pair {
         rt,
-        alloc,
-        calls: Vec::new(alloc),
+        calls: Vec::new(at.alloc),
         both: None,
-    };
-    Ok(Box::new(alloc, pair)?)
+    })
 }
 
 impl<R: Wait + Copy + Clone + Drop> Pair<R> {
     /// Makes a step.
-    pub fn step(&mut self, step: &str, got: &mut Got) -> Result<(), Bad> {
-        match headed(step) {
-            ("learn", call) => self.calls.push(String::from_str(self.alloc, call)?)?,
-            ("on", rest) => self.both = Some(Both::on(self.rt, self.alloc, rest)?),
-            _ => self.tell(step, got)?,
+    pub fn step(&mut self, step: &str, at: At, got: &mut Got) -> Done {
+        let (name, rest) = headed(step);
+        match (name, &mut self.both) {
+            ("learn", _) => self.calls.push(String::from_str(at.alloc, rest)?)?,
+            ("on", both) => *both = Some(Both::on(self.rt, at.alloc, rest)?),
+            ("each", Some(both)) => both.each(&self.calls, got)?,
+            ("turn", Some(both)) => both.turn(rest, got)?,
+            ("random", Some(both)) => both.random(&self.calls, rest, got)?,
+            ("call", Some(both)) => {
+                let is_same = both.is_same(rest, got)?;
+                got.text(if is_same { "same" } else { "" });
+            }
+            _ => return Err(Bad::Step),
         }
         Ok(())
     }
-
-    /// Makes a step of both bars.
-    fn tell(&mut self, step: &str, got: &mut Got) -> Result<(), Bad> {
-        let Some(both) = &mut self.both else {
-            return Err(Bad::Step);
-        };
-        match headed(step) {
-            ("each", "") => both.each(&self.calls, got),
-            ("turn", rate) => both.turn(rate, got),
-            ("random", rest) => {
-                let (times, seed) = headed(rest);
-                both.random(&self.calls, (number(times)?, number(seed)?), got)
-            }
-            ("call", call) => {
-                let is_same = both.is_same(call, got)?;
-                got.text(if is_same { "same" } else { "" });
-                Ok(())
-            }
-            _ => Err(Bad::Step),
-        }
-    }
 }
-
-// ---- calls of a bar that stands alone
 
 /// Makes the call of a text of a `LoneBar`. A wrapper's call, and a builder, become a command.
 fn tell_alone(bar: &mut Lone, alloc: Global, text: &str, now: Moment) -> Result<Told, Bad> {
@@ -293,7 +228,6 @@ fn tell_alone(bar: &mut Lone, alloc: Global, text: &str, now: Moment) -> Result<
         ("set_style" | "with_style", last) => BarCommand::SetStyle(spinner(alloc, last)?),
         ("advance", n) => BarCommand::Inc(number(n)?),
         ("place", n) => BarCommand::SetPosition(number(n)?),
-        ("with_elapsed", n) => BarCommand::SetElapsed(number(n)?),
         _ => return Ok(bar.0.call(lone_call(alloc, text)?, now)),
     };
     Ok(bar.0.call(LoneCall::Bar(command), now))

@@ -12,153 +12,182 @@
 //!
 //! A failure is spelled as in `scripted`.
 use crate::front::counted::Counted;
-use crate::front::polls::{Asked, poll};
-use crate::front::scripted::{Scripted, kind_name, script_of};
+use crate::scripted::{Scripted, kind_name, script_of};
+use futures::stream::Stream;
+use futures::task::Poll;
 use futures::test::MockTask;
 use indicatif::{Drawn, Moves, ProgressBarIter, Refusal};
-use scripts::got::{Bad, Got};
-use scripts::row::{Words, headed};
-use scripts::spelling::{number, unescaped};
+use scripts::got::{Bad, Done, Got};
+use scripts::row::{Words, headed, number, unescaped};
 use std::alloc::Global;
+use std::fmt::Display;
 use std::io::{self, BufRead, Read, Seek, SeekFrom, Write};
 use std::random::RandomSource;
+use tokio::io::{AsyncRead, AsyncWrite};
 
 /// The wrapped value.
 pub type Wrapped<P> = ProgressBarIter<Scripted, P>;
 
-/// The wrapped value, a buffer for reads, and a task for polls.
+/// The wrapped value, none once it was unwrapped; a buffer for reads, and a task for polls.
 #[derive(Drop)]
 pub struct Over<P> {
-    pub wrapped: Option<Wrapped<P>>,
-    pub room: [u8; 16],
-    pub task: MockTask,
+    wrapped: Option<Wrapped<P>>,
+    room: [u8; 16],
+    task: MockTask,
     alloc: Global,
 }
 
-/// A wrapped value with a bar that counts its moves.
-pub type OverCounted = Over<Counted>;
-
-/// Steps over a value that is wrapped already.
-pub fn passed_over<R: AllocGlobal + RandomSource, P: Drop>(
-    rt: &R,
-    alloc: Global,
-    wrapped: Wrapped<P>,
-) -> Result<Box<Over<P>>, Bad> {
-    let Ok(task) = MockTask::new(rt) else {
-        return Err(Bad::Step);
-    };
-    let over = Over {
-        wrapped: Some(wrapped),
-        room: [0; 16],
-        task,
-        alloc,
-    };
-    Ok(Box::new(alloc, over)?)
-}
-
-/// A new one with a bar that counts its moves.
-pub fn begin<R: AllocGlobal + RandomSource>(
-    rt: &R,
-    alloc: Global,
-    rest: &str,
-) -> Result<Box<OverCounted>, Bad> {
-    let mut words = Words::of(rest);
-    let bar = Counted::at(words.number()?);
-    let wrapped = ProgressBarIter::new(script_of(alloc, words.rest())?, bar);
-    passed_over(rt, alloc, wrapped)
-}
-
-/// Makes a step, or reads the bar.
-pub fn step(over: &mut OverCounted, step: &str, got: &mut Got) -> Result<(), Bad> {
-    let Some(wrapped) = &mut over.wrapped else {
-        return Err(Bad::Step);
-    };
-    let bar = &mut wrapped.progress;
-    match headed(step) {
-        ("place", place) => bar.position = number(place)?,
-        ("finished", "") => got.flag(bar.finished),
-        ("pos", "") => got.number(bar.position),
-        ("stands", "") => bar.push(got),
-        _ => return asks(over, step, got),
+impl<P: Drop> Over<P> {
+    /// Steps over a value that is wrapped already.
+    pub fn of<R: AllocGlobal + RandomSource>(rt: &R, wrapped: Wrapped<P>) -> Result<Over<P>, Bad> {
+        Ok(Over {
+            wrapped: Some(wrapped),
+            room: [0; 16],
+            task: MockTask::new(rt).ok().ok_or(Bad::Step)?,
+            alloc: rt.alloc(),
+        })
     }
-    Ok(())
 }
 
-/// Makes a step of the wrapped value.
-pub fn asks<P: Moves + Drop>(over: &mut Over<P>, step: &str, got: &mut Got) -> Result<(), Bad> {
-    match headed(step) {
-        ("written", "") => unwraps(over, got),
-        (name @ ("write" | "write_all" | "poll_write"), text) => {
-            let text = unescaped(over.alloc, text)?;
-            writes(over, (name, text.as_bytes()), got)
+impl Over<Counted> {
+    /// A new one with a bar that counts its moves.
+    pub fn begin<R: AllocGlobal + RandomSource>(rt: &R, rest: &str) -> Result<Over<Counted>, Bad> {
+        let mut words = Words::of(rest);
+        let bar = Counted::at(words.number()?);
+        let script = script_of(rt.alloc(), words.rest())?;
+        Over::of(rt, ProgressBarIter::new(script, bar))
+    }
+
+    /// Makes a step, or reads the bar.
+    pub fn step(&mut self, step: &str, got: &mut Got) -> Done {
+        let bar = &mut self.wrapped.as_mut().ok_or(Bad::Step)?.progress;
+        match headed(step) {
+            ("place", place) => bar.position = number(place)?,
+            ("finished", "") => got.flag(bar.finished),
+            ("pos", "") => got.number(bar.position),
+            ("stands", "") => bar.push(got),
+            _ => return self.asks(step, got),
         }
-        ("seek", to) => seeks(over, seek_of(to)?, got),
-        (name, "") => bare(over, name, got),
-        (name, count) => counts(over, (name, number(count)?), got),
+        Ok(())
     }
 }
 
-/// Unwraps, and shows what was written.
-fn unwraps<P: Moves + Drop>(over: &mut Over<P>, got: &mut Got) -> Result<(), Bad> {
-    let Some(wrapped) = over.wrapped.take() else {
-        return Err(Bad::Step);
-    };
-    let (inner, bar) = wrapped.into_inner();
-    drop(bar);
-    got.bytes(inner.written());
-    Ok(())
-}
-
-// ---- what came
-
-/// Appends the first bytes of a buffer, or a failure.
-pub fn push_read(read: io::Result<usize>, room: &[u8], got: &mut Got) {
-    match read {
-        Ok(count) => got.bytes(room.get(..count).unwrap_or(&[])),
-        Err(e) => got.text(kind_name(e.kind())),
+impl<P: Moves + Drop> Over<P> {
+    /// Makes a step of the wrapped value.
+    pub fn asks(&mut self, step: &str, got: &mut Got) -> Done {
+        match headed(step) {
+            ("written", "") => self.unwraps(got),
+            (name @ ("write" | "write_all" | "poll_write"), text) => {
+                let text = unescaped(self.alloc, text)?;
+                self.writes(name, text.as_bytes(), got)
+            }
+            (name, "") => self.bare(name, got),
+            ("seek", to) => {
+                let place = self.wrapped()?.seek(seek_of(to)?);
+                push_number(place, got);
+                Ok(())
+            }
+            ("consume", count) => {
+                self.wrapped()?.consume(number(count)?);
+                Ok(())
+            }
+            ("poll_next", count) => self.polls_next(number(count)?, got),
+            (name, count) => self.reads(name, number(count)?, got),
+        }
     }
-}
 
-/// Appends a number, or a failure.
-pub fn push_number<N: std::fmt::Display + Drop>(number: io::Result<N>, got: &mut Got) {
-    match number {
-        Ok(number) => got.number(number),
-        Err(e) => got.text(kind_name(e.kind())),
+    fn wrapped(&mut self) -> Result<&mut Wrapped<P>, Bad> {
+        self.wrapped.as_mut().ok_or(Bad::Step)
     }
-}
 
-/// Appends `done`, or a failure.
-pub fn push_done(done: io::Result<()>, got: &mut Got) {
-    match done {
-        Ok(()) => got.text("done"),
-        Err(e) => got.text(kind_name(e.kind())),
+    /// Unwraps, and shows what was written.
+    fn unwraps(&mut self, got: &mut Got) -> Done {
+        let (inner, bar) = self.wrapped.take().ok_or(Bad::Step)?.into_inner();
+        drop(bar);
+        got.bytes(inner.written());
+        Ok(())
     }
-}
 
-// ---- calls
-
-fn writes<P: Moves + Drop>(
-    over: &mut Over<P>,
-    (name, bytes): (&str, &[u8]),
-    got: &mut Got,
-) -> Result<(), Bad> {
-    let Some(wrapped) = &mut over.wrapped else {
-        return Err(Bad::Step);
-    };
-    match name {
-        "write" => push_number(wrapped.write(bytes), got),
-        "write_all" => push_done(wrapped.write_all(bytes), got),
-        _ => poll(wrapped, &over.task, Asked::Write(bytes), got),
+    fn writes(&mut self, name: &str, bytes: &[u8], got: &mut Got) -> Done {
+        let wrapped = self.wrapped.as_mut().ok_or(Bad::Step)?;
+        match name {
+            "write" => push_number(wrapped.write(bytes), got),
+            "write_all" => push_done(wrapped.write_all(bytes), got),
+            _ => {
+                let polled = self.task.enter(|cx| wrapped.poll_write(cx, bytes));
+                if let Some(written) = ready(polled, got) {
+                    push_number(written, got);
+                }
+            }
+        }
+        Ok(())
     }
-    Ok(())
-}
 
-fn seeks<P: Moves + Drop>(over: &mut Over<P>, to: SeekFrom, got: &mut Got) -> Result<(), Bad> {
-    let Some(wrapped) = &mut over.wrapped else {
-        return Err(Bad::Step);
-    };
-    push_number(wrapped.seek(to), got);
-    Ok(())
+    fn polls_next(&mut self, count: u64, got: &mut Got) -> Done {
+        let wrapped = self.wrapped.as_mut().ok_or(Bad::Step)?;
+        for _ in 0..count {
+            let polled = self.task.enter(|cx| wrapped.poll_next(cx));
+            if let Some(item) = ready(polled, got) {
+                push_item(item, got);
+            }
+        }
+        Ok(())
+    }
+
+    /// A read into the front of the buffer, or the buffer itself.
+    fn reads(&mut self, name: &str, count: usize, got: &mut Got) -> Done {
+        let wrapped = self.wrapped.as_mut().ok_or(Bad::Step)?;
+        let room = self.room.get_mut(..count).ok_or(Bad::Step)?;
+        let read = match name {
+            "room" => Some(Ok(count)),
+            "read" => Some(wrapped.read(room)),
+            "read_exact" => Some(wrapped.read_exact(room).and(Ok(count))),
+            "poll_read" => ready(self.task.enter(|cx| wrapped.poll_read(cx, room)), got),
+            _ => return Err(Bad::Step),
+        };
+        match read {
+            Some(Ok(count)) => got.bytes(room.get(..count).unwrap_or(&[])),
+            Some(Err(e)) => got.text(kind_name(e.kind())),
+            None => (),
+        }
+        Ok(())
+    }
+
+    fn bare(&mut self, name: &str, got: &mut Got) -> Done {
+        let wrapped = self.wrapped.as_mut().ok_or(Bad::Step)?;
+        match name {
+            "position" => push_number(wrapped.stream_position(), got),
+            "flush" => push_done(wrapped.flush(), got),
+            "fill_buf" => match wrapped.fill_buf() {
+                Ok(bytes) => got.bytes(bytes),
+                Err(e) => got.text(kind_name(e.kind())),
+            },
+            "next" => push_item(Iterator::next(wrapped), got),
+            "last" => push_last(wrapped.last_draw(), got),
+            "poll_next" => return self.polls_next(1, got),
+            "poll_flush" => push_polled(self.task.enter(|cx| wrapped.poll_flush(cx)), got),
+            "poll_shutdown" => push_polled(self.task.enter(|cx| wrapped.poll_shutdown(cx)), got),
+            _ => return self.to_end(name, got),
+        }
+        Ok(())
+    }
+
+    /// The rest, or a line of it.
+    fn to_end(&mut self, name: &str, got: &mut Got) -> Done {
+        let (mut text, mut bytes) = (String::new(self.alloc), Vec::new(self.alloc));
+        let wrapped = self.wrapped()?;
+        match name {
+            "read_to_string" => push_number(wrapped.read_to_string(&mut text), got),
+            "read_line" => push_number(wrapped.read_line(&mut text), got),
+            "read_to_end" => push_number(wrapped.read_to_end(&mut bytes), got),
+            "copy" => push_number(io::copy(wrapped, &mut bytes), got),
+            _ => return Err(Bad::Step),
+        }
+        got.text(" ");
+        got.text(text.as_str());
+        got.bytes(&bytes);
+        Ok(())
+    }
 }
 
 fn seek_of(to: &str) -> Result<SeekFrom, Bad> {
@@ -170,72 +199,40 @@ fn seek_of(to: &str) -> Result<SeekFrom, Bad> {
     }
 }
 
-/// A call with a number: bytes that are consumed, items, or a read into the front of the buffer.
-fn counts<P: Moves + Drop>(
-    over: &mut Over<P>,
-    (name, count): (&str, usize),
-    got: &mut Got,
-) -> Result<(), Bad> {
-    let Some(wrapped) = &mut over.wrapped else {
-        return Err(Bad::Step);
-    };
-    match name {
-        "consume" => wrapped.consume(count),
-        "poll_next" => {
-            for _ in 0..count {
-                poll(wrapped, &over.task, Asked::Next, got);
-            }
+// ---- what came
+
+/// What a poll gives; none, and `pending`, if it isn't ready.
+fn ready<T>(polled: Poll<T>, got: &mut Got) -> Option<T> {
+    match polled {
+        Poll::Ready(value) => Some(value),
+        Poll::Pending => {
+            got.text("pending");
+            None
         }
-        _ => return reads(over, (name, count), got),
     }
-    Ok(())
 }
 
-/// A read into the front of the buffer, or the buffer itself.
-fn reads<P: Moves + Drop>(
-    over: &mut Over<P>,
-    (name, count): (&str, usize),
-    got: &mut Got,
-) -> Result<(), Bad> {
-    let (Some(wrapped), Some(room)) = (&mut over.wrapped, over.room.get_mut(..count)) else {
-        return Err(Bad::Step);
-    };
-    match name {
-        "room" => got.bytes(room),
-        "read" => {
-            let read = wrapped.read(room);
-            push_read(read, room, got);
-        }
-        "read_exact" => match wrapped.read_exact(room) {
-            Ok(()) => got.bytes(room),
-            Err(e) => got.text(kind_name(e.kind())),
-        },
-        "poll_read" => poll(wrapped, &over.task, Asked::Read(room), got),
-        _ => return Err(Bad::Step),
+/// Appends a number, or a failure.
+fn push_number<N: Display + Drop>(number: io::Result<N>, got: &mut Got) {
+    match number {
+        Ok(number) => got.number(number),
+        Err(e) => got.text(kind_name(e.kind())),
     }
-    Ok(())
 }
 
-fn bare<P: Moves + Drop>(over: &mut Over<P>, name: &str, got: &mut Got) -> Result<(), Bad> {
-    let Some(wrapped) = &mut over.wrapped else {
-        return Err(Bad::Step);
-    };
-    let task = &over.task;
-    match name {
-        "position" => push_number(wrapped.stream_position(), got),
-        "flush" => push_done(wrapped.flush(), got),
-        "fill_buf" => match wrapped.fill_buf() {
-            Ok(bytes) => got.bytes(bytes),
-            Err(e) => got.text(kind_name(e.kind())),
-        },
-        "next" => push_item(Iterator::next(wrapped), got),
-        "last" => push_last(wrapped.last_draw(), got),
-        "poll_next" => poll(wrapped, task, Asked::Next, got),
-        "poll_flush" => poll(wrapped, task, Asked::Flush, got),
-        "poll_shutdown" => poll(wrapped, task, Asked::ShutDown, got),
-        _ => return to_end(wrapped, over.alloc, name, got),
+/// Appends `done`, or a failure.
+fn push_done(done: io::Result<()>, got: &mut Got) {
+    match done {
+        Ok(()) => got.text("done"),
+        Err(e) => got.text(kind_name(e.kind())),
     }
-    Ok(())
+}
+
+/// Appends what such a poll gives.
+fn push_polled(polled: Poll<io::Result<()>>, got: &mut Got) {
+    if let Some(done) = ready(polled, got) {
+        push_done(done, got);
+    }
 }
 
 /// Appends the answer of the last draw, or `none`.
@@ -247,31 +244,9 @@ pub fn push_last(last: Option<Result<Drawn, Refusal>>, got: &mut Got) {
 }
 
 /// Appends an item, or `end`.
-pub fn push_item(item: Option<u8>, got: &mut Got) {
+fn push_item(item: Option<u8>, got: &mut Got) {
     match item {
         Some(byte) => got.bytes(&[byte]),
         None => got.text("end"),
     }
-}
-
-/// The rest, or a line of it.
-fn to_end<P: Moves + Drop>(
-    wrapped: &mut Wrapped<P>,
-    alloc: Global,
-    name: &str,
-    got: &mut Got,
-) -> Result<(), Bad> {
-    let mut text = String::new(alloc);
-    let mut bytes = Vec::new(alloc);
-    match name {
-        "read_to_string" => push_number(wrapped.read_to_string(&mut text), got),
-        "read_line" => push_number(wrapped.read_line(&mut text), got),
-        "read_to_end" => push_number(wrapped.read_to_end(&mut bytes), got),
-        "copy" => push_number(io::copy(wrapped, &mut bytes), got),
-        _ => return Err(Bad::Step),
-    }
-    got.text(" ");
-    got.text(text.as_str());
-    got.bytes(&bytes);
-    Ok(())
 }

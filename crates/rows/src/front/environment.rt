@@ -2,14 +2,14 @@
 //! the kind, in quotes, or `none`; `colours VARIABLE=TEXT ..` whether colours are wanted; `stream VARIABLE=TEXT ..` rows and columns of the
 //! setup of a bar there, and who ends a full row, the `program` or the `terminal`, or `hidden`; `sized ROWS COLS VARIABLE=TEXT ..` the same
 //! for a target of this size there. A stream that is no terminal has `not` before its variables.
+use crate::scripted::Scripted;
 use indicatif::machine::{StreamTerm, facts_of, on_stream, sized_target, wants_colors};
 use indicatif::{Facts, ProgressDrawTarget, TermLike};
-use scripts::got::{Bad, Got};
-use scripts::row::Words;
-use scripts::spelling::unescaped_bytes;
+use scripts::got::{Bad, Done, Got};
+use scripts::row::{At, Words, unescaped_bytes};
 use std::alloc::Global;
 use std::env::{Env, FillError};
-use std::io::{self, ErrorKind, IsTerminal, Write};
+use std::io::{self, ErrorKind};
 use std::time::{Clock, Duration};
 
 /// A program's environment: variables and their values with escapes, separated by spaces.
@@ -23,10 +23,9 @@ impl<'a> Told<'a> {
     /// The value of the variable.
     fn said(&self, name: &str) -> Option<&'a str> {
         for word in self.words.split(' ') {
-            if let Some((variable, text)) = word.split_once('=') {
-                if variable == name {
-                    return Some(text);
-                }
+            match word.split_once('=') {
+                Some((variable, text)) if variable == name => return Some(text),
+                _ => (),
             }
         }
         None
@@ -39,12 +38,9 @@ impl Env for Told<'_> {
     }
 
     fn var(&self, name: &str, buf: &mut [u8]) -> Result<usize, FillError> {
-        let Some(text) = self.said(name) else {
-            return Err(FillError::NotPresent);
-        };
-        let Ok(bytes) = unescaped_bytes(self.alloc, text) else {
-            return Err(FillError::NotPresent);
-        };
+        let text = self.said(name).ok_or(FillError::NotPresent)?;
+        let bytes = unescaped_bytes(self.alloc, text).ok();
+        let bytes = bytes.ok_or(FillError::NotPresent)?;
         match buf.get_mut(..bytes.len()) {
             Some(front) => {
                 front.copy_from_slice(&bytes);
@@ -70,46 +66,18 @@ impl Clock for Told<'_> {
     }
 }
 
-/// A stream that is a terminal, or isn't one, and what was written to it.
-#[derive(Drop)]
-struct Stream {
-    attended: bool,
-    bytes: Vec<u8>,
-}
-
-impl Stream {
-    /// A terminal, unless the words begin with `not`.
-    fn of(alloc: Global, words: &str) -> Stream {
-        Stream {
-            attended: !words.starts_with("not"),
-            bytes: Vec::new(alloc),
-        }
-    }
-}
-
-impl IsTerminal for Stream {
-    fn is_terminal(&self) -> bool {
-        self.attended
-    }
-}
-
-impl Write for Stream {
-    fn write(&mut self, buf: &[u8]) -> io::Result<usize> {
-        match self.bytes.extend_from_slice(buf) {
-            Ok(()) => Ok(buf.len()),
-            Err(_) => Err(io::Error::from(ErrorKind::OutOfMemory)),
-        }
-    }
-
-    fn flush(&mut self) -> io::Result<()> {
-        Ok(())
-    }
+/// A stream that is a terminal, unless the words begin with `not`.
+fn stream_of(words: &str, alloc: Global) -> Scripted {
+    let mut stream = Scripted::new(alloc, Vec::new(alloc), Vec::new(alloc));
+    stream.is_terminal = !words.starts_with("not");
+    stream
 }
 
 /// Appends what a question asks of an environment; whether the step with this name is one.
-pub fn asked(alloc: Global, name: &str, rest: &str, got: &mut Got) -> Result<bool, Bad> {
+pub fn asked(name: &str, rest: &str, at: At, got: &mut Got) -> Result<bool, Bad> {
+    let alloc = at.alloc;
     let rt = (Told { words: rest, alloc }, alloc);
-    let stream = Stream::of(alloc, rest);
+    let stream = stream_of(rest, alloc);
     match name {
         "environment" => push_facts(&facts_of(&rt, &stream)?, got),
         "colours" => got.flag(wants_colors(&rt, &stream)?),
@@ -121,18 +89,18 @@ pub fn asked(alloc: Global, name: &str, rest: &str, got: &mut Got) -> Result<boo
 }
 
 /// Appends a target on a stream with a given size.
-fn push_sized(alloc: Global, rest: &str, got: &mut Got) -> Result<(), Bad> {
+fn push_sized(alloc: Global, rest: &str, got: &mut Got) -> Done {
     let mut words = Words::of(rest);
     let (rows, cols) = (words.number()?, words.number()?);
     let words = words.rest();
-    let stream = Stream::of(alloc, words);
+    let stream = stream_of(words, alloc);
     let target = sized_target(&(Told { words, alloc }, alloc), stream, rows, cols)?;
     push_target(target, got);
     Ok(())
 }
 
 /// Appends a target's size, and who ends full rows there.
-fn push_target(target: ProgressDrawTarget<StreamTerm<Stream>>, got: &mut Got) {
+fn push_target(target: ProgressDrawTarget<StreamTerm<Scripted>>, got: &mut Got) {
     match target.into_term() {
         Some(mut term) => {
             got.number(format_args!("{} {}", term.height(), term.width()));
@@ -147,11 +115,11 @@ fn push_target(target: ProgressDrawTarget<StreamTerm<Stream>>, got: &mut Got) {
 }
 
 /// Whether a draw begins with an escape sequence: that turns the terminal's own wrap off.
-fn turns_wrap_off(term: &mut StreamTerm<Stream>) -> io::Result<bool> {
+fn turns_wrap_off(term: &mut StreamTerm<Scripted>) -> io::Result<bool> {
     term.write_str("a")?;
     term.flush()?;
-    let written = &term.term().writer().get_ref().get_ref().bytes;
-    Ok(written.first() == Some(&0x1b))
+    let stream = term.term().writer().get_ref().get_ref();
+    Ok(stream.written().first() == Some(&0x1b))
 }
 
 fn push_facts(facts: &Facts, got: &mut Got) {

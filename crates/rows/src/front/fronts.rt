@@ -26,23 +26,18 @@
 //!   CALL`: a call, and what it adds. It is followed by `!answer` if the last of them is kept with another answer than was given, and by
 //!   `!run` if a new board that makes all kept calls gives another answer or shows something else.
 use crate::front::bars::{
-    Bar, Front, FrontBoard, Maker, Pace, Room, Shared, Target, Weak, contents, push_contents,
+    Bar, Front, Fronts, Room, Told, Weak, contents, moments_of, push_contents,
 };
-use crate::front::bytes::{Over, asks, passed_over};
-use crate::front::clock::{RowClock, moments_of};
-use crate::front::history::{Answered, Look, Question, shown};
-use crate::front::readings::read;
-use crate::front::scripted::script_of;
-use crate::front::tell::{Told, tell};
+use crate::front::bytes::Over;
+use crate::front::history::{Look, Question};
+use crate::scripted::script_of;
 use indicatif::machine::Shares;
-use indicatif::{Drawn, MultiProgressAlignment, ProgressBar, ProgressDrawTarget, Refusal};
-use scripts::got::{Bad, Got};
-use scripts::row::{Words, headed};
-use scripts::spelling::{flag, number, optional, unescaped};
-use std::alloc::Global;
+use indicatif::{Drawn, MultiProgressAlignment, ProgressBar, ProgressDrawTarget, WeakProgressBar};
+use scripts::got::{Bad, Done, Got};
+use scripts::row::{At, Words, flag, headed, number, optional, unescaped};
 use std::random::RandomSource;
 use std::sync::Wait;
-use std::thread::{self, Threads};
+use std::thread;
 use std::time::{Clock, Duration};
 
 /// A value that a bar wraps.
@@ -56,83 +51,15 @@ pub struct WithWrapped<R: Wait + Copy + Clone + Drop> {
     wrapped: Option<Wrapped<R>>,
 }
 
-/// Boards and owners of bars.
-#[derive(Drop)]
-struct Fronts<R: Wait + Copy + Clone + Drop> {
-    maker: Maker<R>,
-    boards: Vec<Shared<R>>,
-    on: usize,
-    bars: Vec<Bar<R>>,
-    weak: Weak<R>,
-    looked_at: usize,
-    answer: Answered,
-    noted: u64,
-}
-
-/// The next four words, `ROWS COLS FROM STEP`.
-pub fn room_of(words: &mut Words<'_>) -> Result<Room, Bad> {
-    Ok(Room {
-        rows: words.number()?,
-        cols: words.number()?,
-        pace: None,
-        clock: RowClock::stepping(words.number()?, words.number()?),
-    })
-}
-
-/// Nothing yet.
-pub fn begin<R: Wait + Copy + Clone + Drop>(
-    rt: R,
-    alloc: Global,
-    rest: &str,
-) -> Result<Box<WithWrapped<R>>, Bad> {
-    let room = room_of(&mut Words::of(rest))?;
-    let fronts = Fronts {
-        maker: Maker { rt, alloc, room },
-        boards: Vec::new(alloc),
-        on: 0,
-        bars: Vec::new(alloc),
-        weak: Weak::never(),
-        looked_at: 0,
-        answer: Answered::Untold,
-        noted: 0,
-    };
-    let world = WithWrapped {
-        fronts,
-        wrapped: None,
-    };
-    Ok(Box::new(alloc, world)?)
-}
-
 impl<R: Wait + Copy + Clone + Drop> Fronts<R> {
-    /// The current board.
-    fn board(&self) -> Result<&FrontBoard<R>, Bad> {
-        match self.boards.get(self.on) {
-            Some(board) => Ok(&board.0),
-            None => Err(Bad::Step),
-        }
-    }
-
-    /// The bar of the owner with this number.
-    fn bar(&self, place: &str) -> Result<&Front<R>, Bad> {
-        match self.bars.get(number::<usize>(place)?) {
-            Some(bar) => Ok(&bar.0),
-            None => Err(Bad::Step),
-        }
-    }
-
     // ---- what is made from now on
 
     /// Sets how bars are made, or the current board.
-    fn sets(&mut self, step: &str) -> Result<(), Bad> {
+    fn sets(&mut self, step: &str) -> Done {
         let mut words = Words::of(step);
         match words.word() {
-            "rate" => {
-                self.maker.room.pace = Some(Pace {
-                    hz: words.number()?,
-                    made: words.number()?,
-                });
-            }
-            "moments" => self.maker.room.clock.told = moments_of(&mut words)?,
+            "rate" => self.room.pace = Some((words.number()?, words.number()?)),
+            "moments" => self.room.clock.listed = moments_of(&mut words)?,
             _ => self.on = words.number::<usize>()?.wrapping_sub(1),
         }
         Ok(())
@@ -140,99 +67,74 @@ impl<R: Wait + Copy + Clone + Drop> Fronts<R> {
 
     // ---- boards and owners
 
-    /// Adds a board, with or without a history.
-    fn begins(&mut self, is_recorded: bool) -> Result<(), Bad> {
-        let count = self.boards.len();
-        let mark = (count as u64).wrapping_add(1);
-        self.boards.push(self.maker.board(mark, is_recorded)?)?;
-        self.on = count;
-        Ok(())
-    }
-
     /// Releases or drops the last owner.
-    fn goes(&mut self, is_released: bool) -> Result<(), Bad> {
-        self.answer = Answered::Untold;
-        match (self.bars.pop(), is_released) {
-            (Some(bar), true) => bar.0.release(),
-            (Some(bar), false) => drop(bar),
-            (None, _) => return Err(Bad::Step),
+    fn goes(&mut self, is_released: bool) -> Done {
+        self.answer = None;
+        let bar = self.bars.pop().ok_or(Bad::Step)?;
+        match is_released {
+            true => bar.0.release(),
+            false => drop(bar),
         }
         Ok(())
     }
 
     /// A bar that stands alone, or another owner, if the step asks for one.
     fn coming(&self, step: &str) -> Result<Option<Bar<R>>, Bad> {
-        let Maker { rt, alloc, room } = &self.maker;
+        let alloc = self.alloc;
         Ok(Some(match headed(step) {
-            ("hidden_bar", "") => Bar(ProgressBar::hidden(*rt, *alloc, room.clock)?),
-            ("upgrade", "") => match self.weak.upgrade()? {
-                Some(bar) => bar,
+            ("hidden_bar", "") => Bar(ProgressBar::hidden(self.rt, alloc, self.room.clock)?),
+            ("upgrade", "") => match self.weak.0.upgrade()? {
+                Some(bar) => Bar(bar),
                 None => return Err(Bad::Step),
             },
-            ("alone", text) => self.maker.saying(text)?,
+            ("alone", text) => self.saying(text)?,
             ("bar", rest) => {
                 let (len, template) = headed(rest);
-                let template = unescaped(*alloc, template)?;
-                self.maker.bar(optional(len)?, template.as_str())?
+                self.templated(optional(len)?, unescaped(alloc, template)?.as_str())?
             }
             ("own", place) => self.another(place)?,
-            ("made", rest) => self.made(rest)?,
+            ("made", rest) => {
+                let (way, len) = headed(rest);
+                self.made(way, optional(len)?)?
+            }
             _ => return Ok(None),
         }))
-    }
-
-    /// A bar made in one of the ways.
-    fn made(&self, rest: &str) -> Result<Bar<R>, Bad> {
-        let (way, len) = headed(rest);
-        match (way, optional(len)?) {
-            ("board", Some(len)) => Ok(Bar(self.board()?.new_bar(len)?)),
-            ("board", None) => Ok(Bar(self.board()?.new_spinner()?)),
-            (way, len) => self.maker.made(way, len),
-        }
-    }
-
-    /// Another owner of the same bar.
-    fn another(&self, place: &str) -> Result<Bar<R>, Bad> {
-        Ok(Bar(self.bar(place)?.clone()?))
     }
 
     // ---- insertions
 
     /// Inserts a bar, whose owner comes back from the board.
-    fn takes_in(&mut self, step: &str, got: &mut Got) -> Result<(), Bad> {
+    fn takes_in(&mut self, step: &str, got: &mut Got) -> Done {
         let mut words = Words::of(step);
         let name = words.word();
         let place = match name {
             "add" => "",
             "insert" | "back" | "before" | "after" => words.word(),
-            _ => return self.settles(step, got),
+            _ => return self.calls(step, got),
         };
         let bar = self.entrant(words.rest())?;
         let bar = self.taken((name, place), bar)?;
-        self.answer = Answered::Answer(Ok(Drawn::Limited));
+        self.answer = Some(Ok(Drawn::Limited));
         Ok(self.bars.push(bar)?)
     }
 
     /// The bar of a word.
     fn entrant(&mut self, word: &str) -> Result<Bar<R>, Bad> {
         match (word, word.strip_prefix('=')) {
-            ("<", _) => match self.bars.pop() {
-                Some(bar) => Ok(bar),
-                None => Err(Bad::Step),
-            },
+            ("<", _) => self.bars.pop().ok_or(Bad::Step),
             (_, Some(place)) => self.another(place),
-            (_, None) => self.maker.saying(word),
+            (_, None) => self.saying(word),
         }
     }
 
     /// The owner that comes back from the board.
     fn taken(&self, (name, place): (&str, &str), bar: Bar<R>) -> Result<Bar<R>, Bad> {
-        let board = self.board()?;
+        let board = &self.board()?.0;
         let given = match name {
             "insert" => board.insert(number(place)?, bar.0),
             "back" => board.insert_from_back(number(place)?, bar.0),
-            "before" => board.insert_before(self.bar(place)?, bar.0),
-            "after" => board.insert_after(self.bar(place)?, bar.0),
+            "before" => board.insert_before(&self.bar(place)?.0, bar.0),
+            "after" => board.insert_after(&self.bar(place)?.0, bar.0),
             _ => board.add(bar.0),
         };
         Ok(Bar(given?))
@@ -240,72 +142,62 @@ impl<R: Wait + Copy + Clone + Drop> Fronts<R> {
 
     // ---- calls of a board
 
-    /// A call of the board that neither draws nor lends.
-    fn settles(&mut self, step: &str, got: &mut Got) -> Result<(), Bad> {
-        let board = self.board()?;
+    /// Makes a call of the board, and keeps its answer; one that neither draws nor lends is `done`.
+    fn calls(&mut self, step: &str, got: &mut Got) -> Done {
+        let board = &self.board()?.0;
         let settled = match headed(step) {
             ("top", "") => board.set_alignment(MultiProgressAlignment::Top),
             ("bottom", "") => board.set_alignment(MultiProgressAlignment::Bottom),
-            ("turn", "") => board.set_draw_target(self.target()?),
+            ("turn", "") => board.set_draw_target(self.room.target(self.alloc)?),
             ("hide", "") => board.set_draw_target(ProgressDrawTarget::hidden()),
             ("move", word) => board.set_move_cursor(flag(word)?),
-            ("remove", place) => board.remove(self.bar(place)?),
-            _ => return self.draws(step, got),
-        };
-        match settled {
-            Ok(()) => {
-                self.answer = Answered::Answer(Ok(Drawn::Limited));
-                got.text("done");
-            }
-            Err(refusal) => {
-                self.answer = Answered::Answer(Err(refusal));
-                got.refusal(refusal);
-            }
-        }
-        Ok(())
-    }
-
-    /// Another target.
-    fn target(&self) -> Result<Target, Refusal> {
-        self.maker.room.target(self.maker.alloc)
-    }
-
-    /// Reads the board, or makes a call of it that draws.
-    fn draws(&mut self, step: &str, got: &mut Got) -> Result<(), Bad> {
-        let board = self.board()?;
-        match step {
-            "shows" => push_contents(board.with_term(contents), got)?,
-            "hidden" => got.flag(board.is_hidden()),
-            "order" => {
-                shown(board, self.look(Question::Order), got);
-            }
-            "kept_at" => {
-                shown(board, self.look(Question::Moments), got);
-            }
+            ("remove", place) => board.remove(&self.bar(place)?.0),
             _ => {
                 let told = self.board_told(step)?;
                 self.answered(told, got);
+                return Ok(());
             }
+        };
+        self.answer = Some(settled.and(Ok(Drawn::Limited)));
+        match settled {
+            Ok(()) => got.text("done"),
+            Err(refusal) => got.refusal(refusal),
         }
         Ok(())
+    }
+
+    /// Reads the board; whether the step asks for that.
+    fn looks(&self, step: &str, got: &mut Got) -> Result<bool, Bad> {
+        let Ok(board) = self.board() else {
+            return Ok(false);
+        };
+        match step {
+            "shows" => push_contents(board.0.with_term(contents), got)?,
+            "hidden" => got.flag(board.0.is_hidden()),
+            "order" => {
+                board.shown(self.look(Question::Order), got);
+            }
+            "kept_at" => {
+                board.shown(self.look(Question::Moments), got);
+            }
+            _ => return Ok(false),
+        }
+        Ok(true)
     }
 
     /// Keeps the answer of a call, and appends it.
     fn answered(&mut self, told: Told, got: &mut Got) {
-        self.answer = Answered::Answer(told);
+        self.answer = Some(told);
         got.answer(told);
     }
 
     /// The answer of a call of the board that draws.
     fn board_told(&self, step: &str) -> Result<Told, Bad> {
-        let board = self.board()?;
+        let board = &self.board()?.0;
         match headed(step) {
             ("clear", "") => Ok(board.clear()),
             ("suspend", "") => Ok(board.suspend(|| ()).1),
-            ("log", text) => {
-                let text = unescaped(self.maker.alloc, text)?;
-                Ok(board.println(text.as_str()))
-            }
+            ("log", text) => Ok(board.println(unescaped(self.alloc, text)?.as_str())),
             _ => Err(Bad::Step),
         }
     }
@@ -314,12 +206,9 @@ impl<R: Wait + Copy + Clone + Drop> Fronts<R> {
     fn bar_told(&self, place: &str, rest: &str) -> Result<Told, Bad> {
         let bar = self.bar(place)?;
         match headed(rest) {
-            ("target", "") => Ok(bar.set_draw_target(self.target()?)),
-            ("as", other) => Ok(match self.bar(other)?.style() {
-                Ok(style) => bar.set_style(style),
-                Err(refusal) => Err(refusal),
-            }),
-            _ => tell(bar, self.maker.alloc, rest),
+            ("target", "") => Ok(bar.0.set_draw_target(self.room.target(self.alloc)?)),
+            ("as", other) => Ok(bar.0.set_style(self.bar(other)?.0.style()?)),
+            _ => bar.tell(self.alloc, rest),
         }
     }
 
@@ -327,30 +216,27 @@ impl<R: Wait + Copy + Clone + Drop> Fronts<R> {
 
     fn look(&self, question: Question) -> Look {
         Look {
-            alloc: self.maker.alloc,
-            room: self.maker.room,
+            alloc: self.alloc,
+            room: self.room,
             question,
         }
     }
 
-    /// The calls that the history has gained since it was last read.
-    fn push_added(&mut self, got: &mut Got) -> Result<(), Bad> {
+    /// The calls that the history has gained since it was last read; first a call of a bar or of the board, if there is one, whose answer is
+    /// that of the entry that it adds.
+    fn adds(&mut self, step: &str, got: &mut Got) -> Done {
+        if !step.is_empty() {
+            self.answer = Some(match step.split_once(": ") {
+                Some((place, rest)) => self.bar_told(place, rest)?,
+                None => self.board_told(step)?,
+            });
+        }
         let question = Question::Added {
             from: self.looked_at,
             answer: self.answer,
         };
-        self.looked_at = shown(self.board()?, self.look(question), got);
+        self.looked_at = self.board()?.shown(self.look(question), got);
         Ok(())
-    }
-
-    /// A call of a bar or of the board, whose answer is that of the entry that it adds.
-    fn adds_by(&mut self, step: &str, got: &mut Got) -> Result<(), Bad> {
-        let told = match step.split_once(": ") {
-            Some((place, rest)) => self.bar_told(place, rest)?,
-            None => self.board_told(step)?,
-        };
-        self.answer = Answered::Answer(told);
-        self.push_added(got)
     }
 }
 
@@ -358,8 +244,8 @@ impl<R: AllocGlobal + RandomSource + Wait + Copy + Clone + Drop> Fronts<R> {
     /// The value that a bar wraps by the call with this name.
     fn wrapped_by(&self, name: &str, rest: &str) -> Result<Wrapped<R>, Bad> {
         let (place, script) = headed(rest);
-        let bar = self.bar(place)?;
-        let inner = script_of(self.maker.alloc, script)?;
+        let bar = &self.bar(place)?.0;
+        let inner = script_of(self.alloc, script)?;
         let wrapped = match name {
             "wrap_iter" => bar.wrap_iter(inner),
             "wrap_read" => bar.wrap_read(inner),
@@ -369,47 +255,53 @@ impl<R: AllocGlobal + RandomSource + Wait + Copy + Clone + Drop> Fronts<R> {
             "wrap_async_write" => bar.wrap_async_write(inner),
             _ => return Err(Bad::Step),
         };
-        let over = passed_over(&self.maker.rt, self.maker.alloc, wrapped?)?;
-        Ok(Wrapped(over))
+        let over = Over::of(&self.rt, wrapped?)?;
+        Ok(Wrapped(Box::new(self.alloc, over)?))
     }
 }
 
 impl<R: Shares + RandomSource> WithWrapped<R> {
+    /// Nothing yet.
+    pub fn begin(rt: R, rest: &str, at: At) -> Result<Box<WithWrapped<R>>, Bad> {
+        let room = Room::of(&mut Words::of(rest))?;
+        at.boxed(WithWrapped {
+            fronts: Fronts::new(rt, room, at.alloc),
+            wrapped: None,
+        })
+    }
+
     /// Makes a step, or reads something.
-    pub fn step(&mut self, step: &str, got: &mut Got) -> Result<(), Bad> {
+    pub fn step(&mut self, step: &str, got: &mut Got) -> Done {
         let (name, rest) = headed(step);
         if name.starts_with("wrap_") {
             self.wrapped = Some(self.fronts.wrapped_by(name, rest)?);
             return Ok(());
         }
-        if name != "|" {
-            return self.fronts.step(step, got);
-        }
         match &mut self.wrapped {
-            Some(wrapped) => asks(&mut wrapped.0, rest, got),
-            None => Err(Bad::Step),
+            Some(wrapped) if name == "|" => wrapped.0.asks(rest, got),
+            _ => self.fronts.step(step, got),
         }
     }
 }
 
 impl<R: Shares + RandomSource> Fronts<R> {
-    /// Makes a step without the wrapped value. Unknown steps go to `takes_in`, then to `settles`, and then to `draws`.
-    fn step(&mut self, step: &str, got: &mut Got) -> Result<(), Bad> {
+    /// Makes a step without the wrapped value. Unknown steps go to `takes_in`, and then to `calls`.
+    fn step(&mut self, step: &str, got: &mut Got) -> Done {
         let (name, rest) = headed(step);
         match step.split_once(": ") {
             Some((place, call)) if name != "adds" => return self.of_bar(place, call, got),
+            _ if self.looks(step, got)? => return Ok(()),
             _ => (),
         }
         match name {
             "board" | "recorded" => self.begins(name == "recorded")?,
             "release" | "drop" => self.goes(name == "release")?,
-            "adds" if rest.is_empty() => self.push_added(got)?,
-            "adds" => self.adds_by(rest, got)?,
+            "adds" => self.adds(rest, got)?,
             "history_rests" => self.history_rests(got)?,
             "rate" | "moments" | "on" => self.sets(step)?,
-            "never" => self.weak = Weak::never(),
-            "upgrades" => got.flag(self.weak.upgrade()?.is_some()),
-            "weak" => self.weak = Weak::of(self.bar(rest)?)?,
+            "never" => self.weak = Weak(WeakProgressBar::new()),
+            "upgrades" => got.flag(self.weak.0.upgrade()?.is_some()),
+            "weak" => self.weak = Weak(self.bar(rest)?.0.downgrade()?.clone()?),
             _ => match self.coming(step)? {
                 Some(bar) => self.bars.push(bar)?,
                 None => self.takes_in(step, got)?,
@@ -419,24 +311,27 @@ impl<R: Shares + RandomSource> Fronts<R> {
     }
 
     /// Sets a bar's ticker, reads the bar, or makes a call of it.
-    fn of_bar(&mut self, place: &str, rest: &str, got: &mut Got) -> Result<(), Bad> {
-        let rt = &self.maker.rt;
+    fn of_bar(&mut self, place: &str, rest: &str, got: &mut Got) -> Done {
+        let rt = &self.rt;
         let bar = self.bar(place)?;
         match headed(rest) {
-            ("note", "") => self.noted = bar.ticks(),
-            ("ticks_since", "") => got.number(bar.ticks().wrapping_sub(self.noted)),
-            ("rests", "") => got.flag(rests(rt, bar, 1)),
-            ("comes_to_rest", "") => got.flag(rests(rt, bar, 500)),
+            ("note", "") => self.noted = bar.0.ticks(),
+            ("ticks_since", "") => got.number(bar.0.ticks().wrapping_sub(self.noted)),
+            ("rests", "") => got.flag(bar.rests(rt, 1)),
+            ("comes_to_rest", "") => got.flag(bar.rests(rt, 500)),
             ("ticks_past", ticks) => {
                 let before = number::<u64>(ticks)?.saturating_add(self.noted);
-                got.flag(ticks_past(rt, bar, before));
+                got.flag(bar.ticks_past(rt, before));
             }
             ("ticker", nanos) => {
-                set_ticker(bar, nanos)?;
-                self.answer = Answered::Untold;
+                match nanos {
+                    "off" => bar.0.disable_steady_tick()?,
+                    _ => bar.0.enable_steady_tick(number(nanos)?)?,
+                }
+                self.answer = None;
             }
             _ => {
-                if !read(bar, rest, got)? {
+                if !bar.read(rest, got)? {
                     let told = self.bar_told(place, rest)?;
                     self.answered(told, got);
                 }
@@ -444,16 +339,14 @@ impl<R: Shares + RandomSource> Fronts<R> {
         }
         Ok(())
     }
-}
 
-impl<R: Wait + Clock + Copy + Clone + Drop> Fronts<R> {
     /// Whether nothing is added to the board's history for 50 milliseconds.
-    fn history_rests(&self, got: &mut Got) -> Result<(), Bad> {
+    fn history_rests(&self, got: &mut Got) -> Done {
         let board = self.board()?;
-        let mut unsaid = Got::new(self.maker.alloc);
-        let before = shown(board, self.look(Question::Order), &mut unsaid);
-        pause(&self.maker.rt);
-        got.flag(shown(board, self.look(Question::Order), &mut unsaid) == before);
+        let mut unsaid = Got::new(self.alloc);
+        let before = board.shown(self.look(Question::Order), &mut unsaid);
+        pause(&self.rt);
+        got.flag(board.shown(self.look(Question::Order), &mut unsaid) == before);
         Ok(())
     }
 }
@@ -465,37 +358,28 @@ fn pause<R: Clock>(rt: &R) {
     }
 }
 
-/// Disables a bar's ticker, or enables one with this interval.
-fn set_ticker<R: Wait + Threads + Clock + Copy + Clone + Drop + Send + 'static>(
-    bar: &Front<R>,
-    nanos: &str,
-) -> Result<(), Bad> {
-    match nanos {
-        "off" => bar.disable_steady_tick()?,
-        _ => bar.enable_steady_tick(number(nanos)?)?,
-    }
-    Ok(())
-}
-
-/// Whether the bar has ticked more often than the given number, at the latest after 10,000 readings a millisecond apart.
-fn ticks_past<R: Wait + Clock + Copy + Clone + Drop>(rt: &R, bar: &Front<R>, before: u64) -> bool {
-    for _ in 0..10_000u32 {
-        if bar.ticks() > before {
-            return true;
+impl<R: Wait + Clock + Copy + Clone + Drop> Bar<R> {
+    /// Whether the bar has ticked more often than the given number, at the latest after 10,000 readings a millisecond apart.
+    fn ticks_past(&self, rt: &R, before: u64) -> bool {
+        for _ in 0..10_000u32 {
+            if self.0.ticks() > before {
+                return true;
+            }
+            thread::sleep(rt, Duration::from_millis(1));
         }
-        thread::sleep(rt, Duration::from_millis(1));
+        false
     }
-    false
-}
 
-/// Whether the bar ticks no more: one of `tries` tries finds two equal readings of the ticks, with 50 turns of a millisecond between them.
-fn rests<R: Wait + Clock + Copy + Clone + Drop>(rt: &R, bar: &Front<R>, tries: u32) -> bool {
-    for _ in 0..tries {
-        let before = bar.ticks();
-        pause(rt);
-        if bar.ticks() == before {
-            return true;
+    /// Whether the bar ticks no more: one of `tries` tries finds two equal readings of the ticks, with 50 turns of a millisecond between
+    /// them.
+    fn rests(&self, rt: &R, tries: u32) -> bool {
+        for _ in 0..tries {
+            let before = self.0.ticks();
+            pause(rt);
+            if self.0.ticks() == before {
+                return true;
+            }
         }
+        false
     }
-    false
 }

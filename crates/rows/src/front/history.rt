@@ -1,19 +1,11 @@
 //! The history of a board: its order, its calls, and whether a new board that makes them gives the same answers and the same picture.
-use crate::front::bars::{FrontBoard, Room};
-use crate::front::entries::push_call;
-use crate::front::tell::Told;
-use indicatif::{Answer, Drawn, Entry, InMemoryTerm, NoTracker, RecordReader, Recorded, Refusal};
+use crate::front::bars::{Room, Shared, Told};
+use indicatif::{Answer, Drawn, Entry, InMemoryTerm, NoTracker, RecordReader, Recorded};
+use scripts::boards::push_call;
 use scripts::got::Got;
 use scripts::replay::is_one_run;
 use std::alloc::Global;
 use std::sync::Wait;
-
-/// The answer of the last call, if it is known.
-#[derive(Clone, Copy, Drop)]
-pub enum Answered {
-    Untold,
-    Answer(Told),
-}
 
 /// A question to a board with its history.
 #[derive(Drop)]
@@ -22,8 +14,8 @@ pub enum Question {
     Order,
     /// The moments of its calls.
     Moments,
-    /// The calls from this one on, of which the last had this answer.
-    Added { from: usize, answer: Answered },
+    /// The calls from this one on, of which the last had this answer, if that is known.
+    Added { from: usize, answer: Option<Told> },
 }
 
 /// A question, and the setup of a new board.
@@ -34,63 +26,46 @@ pub struct Look {
     pub question: Question,
 }
 
-/// The text, and how many calls were kept.
-#[derive(Drop)]
-pub struct Seen {
-    said: Got,
-    recorded: usize,
+impl<R: Wait + Copy + Clone + Drop> Shared<R> {
+    /// Appends the answer to a question; how many calls the board has kept.
+    pub fn shown(&self, look: Look, got: &mut Got) -> usize {
+        let (said, kept) = self.0.with_record(look);
+        got.text(said.as_str());
+        kept
+    }
 }
 
-/// Appends the answer to a question; how many calls the board has kept.
-pub fn shown<R: Wait + Copy + Clone + Drop>(
-    board: &FrontBoard<R>,
-    look: Look,
-    got: &mut Got,
-) -> usize {
-    let seen = board.with_record(look);
-    got.text(seen.said.as_str());
-    seen.recorded
-}
+/// A board with its history.
+type History = Recorded<NoTracker, InMemoryTerm>;
 
 impl RecordReader<InMemoryTerm, NoTracker> for Look {
-    type Found = Seen;
+    type Found = (Got, usize);
 
-    fn read(self, record: Option<&Recorded<NoTracker, InMemoryTerm>>) -> Seen {
+    /// The answer, and how many calls were kept.
+    fn read(self, record: Option<&History>) -> (Got, usize) {
         let mut said = Got::new(self.alloc);
-        let recorded = match record {
+        let kept = match record {
             Some(record) => answer(&self, record, &mut said),
             None => {
                 said.text("no history");
                 0
             }
         };
-        Seen { said, recorded }
+        (said, kept)
     }
 }
 
-fn answer(look: &Look, record: &Recorded<NoTracker, InMemoryTerm>, said: &mut Got) -> usize {
+fn answer(look: &Look, record: &History, said: &mut Got) -> usize {
     match look.question {
         Question::Order => said.numbers(record.board().order()),
-        Question::Moments => {
-            let mut parting = "";
-            for entry in record.entries() {
-                said.text(parting);
-                said.number(entry.now);
-                parting = " ";
-            }
-        }
+        Question::Moments => push_moments(record.entries(), said),
         Question::Added { from, answer } => {
             let added = record.entries().get(from..).unwrap_or(&[]);
-            let mut parting = "";
-            for entry in added {
-                said.text(parting);
-                push_call(&entry.call, said);
-                parting = ", ";
-            }
+            push_calls(added, said);
             if !is_answered(added.last(), answer) {
                 said.text(" !answer");
             }
-            if is_replayed(look, record) != Ok(true) {
+            if !is_replayed(look, record) {
                 said.text(" !run");
             }
         }
@@ -98,9 +73,23 @@ fn answer(look: &Look, record: &Recorded<NoTracker, InMemoryTerm>, said: &mut Go
     record.entries().len()
 }
 
+fn push_moments(entries: &[Entry<NoTracker>], said: &mut Got) {
+    for entry in entries {
+        said.between(" ");
+        said.number(entry.now);
+    }
+}
+
+fn push_calls(entries: &[Entry<NoTracker>], said: &mut Got) {
+    for entry in entries {
+        said.between(", ");
+        push_call(&entry.call, said);
+    }
+}
+
 /// Whether a call had this answer; one that neither draws nor is refused counts as `Limited`.
-fn is_answered(entry: Option<&Entry<NoTracker>>, wanted: Answered) -> bool {
-    let (Some(entry), Answered::Answer(wanted)) = (entry, wanted) else {
+fn is_answered(entry: Option<&Entry<NoTracker>>, wanted: Option<Told>) -> bool {
+    let (Some(entry), Some(wanted)) = (entry, wanted) else {
         return true;
     };
     match &entry.answer {
@@ -111,6 +100,9 @@ fn is_answered(entry: Option<&Entry<NoTracker>>, wanted: Answered) -> bool {
 }
 
 /// Whether a new board makes the kept calls with the same answers, and then shows the same rows.
-fn is_replayed(look: &Look, recorded: &Recorded<NoTracker, InMemoryTerm>) -> Result<bool, Refusal> {
-    is_one_run(look.alloc, recorded, look.room.target(look.alloc)?)
+fn is_replayed(look: &Look, record: &History) -> bool {
+    match look.room.target(look.alloc) {
+        Ok(target) => is_one_run(look.alloc, record, target) == Ok(true),
+        Err(_) => false,
+    }
 }

@@ -4,12 +4,12 @@
 //! With the wrap off a character on the last column leaves the cursor there, so that the next one takes its place; one of two columns that
 //! would begin there is skipped. So does tmux. Synchronized updates (DEC's private mode 2026) change nothing.
 use indicatif::{Refusal, Term, width};
+use meter_parts::cut;
 use scripts::got::{Bad, Got};
-use scripts::row::{Words, headed};
-use scripts::screen::{Screen, filled, size};
-use scripts::spelling::{number, unescaped};
+use scripts::row::{At, Words, headed, number, unescaped};
+use scripts::screen::{Screen, look_at};
 use std::alloc::Global;
-use std::cell::{Cell, RefCell};
+use std::cell::Cell;
 use std::io::{self, Error, ErrorKind, Write};
 use std::rc::Rc;
 use std::str;
@@ -17,27 +17,40 @@ use std::str;
 /// The screen, whether a full row goes on on the next one, and which write fails.
 #[derive(Drop)]
 pub struct Pane {
-    pub screen: Rc<Screen>,
+    screen: Rc<Screen>,
     columns: Cell<u16>,
-    pub wraps: Cell<bool>,
+    wraps: Cell<bool>,
     /// How many writes from now on the one that fails is; none if it is 0.
-    pub fails: Cell<u64>,
+    fails: Cell<u64>,
     /// How many bytes are taken before one write fails.
     pub breaks: Cell<Option<usize>>,
-    /// All bytes.
-    written: RefCell<Vec<u8>>,
 }
+
+/// What a sequence does that the screen doesn't know.
+#[derive(Clone, Copy)]
+enum Effect {
+    Wrap(bool),
+    EmptyBehind,
+    Nothing,
+}
+
+const SEQUENCES: &[(&str, Effect)] = &[
+    ("\x1b[?7l", Effect::Wrap(false)),
+    ("\x1b[?7h", Effect::Wrap(true)),
+    ("\x1b[K", Effect::EmptyBehind),
+    ("\x1b[?2026h", Effect::Nothing),
+    ("\x1b[?2026l", Effect::Nothing),
+];
 
 impl Pane {
     /// An empty one of this size, which wraps.
-    pub fn new(alloc: Global, rows: u16, columns: u16) -> Result<Rc<Pane>, Refusal> {
+    fn new(alloc: Global, rows: u16, columns: u16) -> Result<Rc<Pane>, Refusal> {
         let pane = Pane {
             screen: Screen::new(alloc, rows, columns)?,
             columns: Cell::new(columns),
             wraps: Cell::new(true),
             fails: Cell::new(0),
             breaks: Cell::new(None),
-            written: RefCell::new(Vec::new(alloc)),
         };
         Ok(Rc::new(alloc, pane)?)
     }
@@ -47,53 +60,44 @@ impl Pane {
         let mut words = Words::of(rest);
         let told = (words.number()?, words.number()?);
         words.word();
-        let (rows, columns) = size(words.rest())?;
-        let pane = Pane::new(alloc, rows, columns)?;
+        let pane = Pane::new(alloc, words.number()?, words.number()?)?;
         let term = Term::new(Wire(pane.clone()?), told.0, told.1);
         Ok((pane, term))
     }
 
-    /// Makes a step of the pane, or reads it: `others TEXT`, `fails N`, `wraps`, `rows`, `above N`, `clipped N TEXT`, `written`. Whether
+    /// Makes a step of the pane, or reads it: `others TEXT`, `fails N`, `wraps`, `above N`, `clipped N TEXT`; or looks at its screen. Whether
     /// the step is one.
-    pub fn step(&self, alloc: Global, step: &str, got: &mut Got) -> Result<bool, Bad> {
+    pub fn step(&self, step: &str, at: At, got: &mut Got) -> Result<bool, Bad> {
         match headed(step) {
-            ("others", text) => match self.show(unescaped(alloc, text)?.as_str()) {
-                Ok(()) => (),
-                Err(_) => return Err(Bad::Step),
-            },
+            ("others", text) => {
+                let shown = self.show(unescaped(at.alloc, text)?.as_str());
+                shown.ok().ok_or(Bad::Step)?;
+            }
             ("fails", writes) => self.fails.set(number(writes)?),
             ("wraps", "") => got.flag(self.wraps.get()),
-            ("rows", "") => got.rows(filled(&self.screen.picture()?)),
             ("above", count) => {
                 let rows = self.screen.picture()?;
                 got.rows(rows.get(..number(count)?).unwrap_or(&rows));
             }
-            ("written", "") => self.push_written(got),
-            ("clipped", words) => got.flag(self.is_clipped(alloc, words)?),
-            _ => return Ok(false),
+            ("clipped", words) => got.flag(self.is_clipped(words, at)?),
+            _ => return look_at(&self.screen, step, at, got),
         }
         Ok(true)
     }
 
-    /// All bytes.
-    fn push_written(&self, got: &mut Got) {
-        if let Ok(written) = self.written.try_borrow() {
-            got.bytes(&written);
-        }
-    }
-
-    /// Whether the rows after the given number are these, each cut before the last column.
-    fn is_clipped(&self, alloc: Global, words: &str) -> Result<bool, Bad> {
+    /// Whether the rows after the given number are these, each cut before the last column, without blanks at its end.
+    fn is_clipped(&self, words: &str, at: At) -> Result<bool, Bad> {
         let mut words = Words::of(words);
         let above: usize = words.number()?;
-        let text = words.text(alloc)?;
+        let text = words.text(at.alloc)?;
         let rows = self.screen.picture()?;
         let room = usize::from(self.columns.get().saturating_sub(1));
         let mut wanted = text.as_str();
         let mut are_so = true;
         for row in rows.get(above..).unwrap_or(&[]) {
             let (line, behind) = wanted.split_once('\n').unwrap_or((wanted, ""));
-            are_so &= row.as_str() == clipped(line, room);
+            let line = cut(at.alloc, line, room)?;
+            are_so &= row.as_str() == line.as_str().trim_end_matches(' ');
             wanted = behind;
         }
         Ok(are_so && wanted.is_empty())
@@ -106,50 +110,36 @@ impl Pane {
         Ok(())
     }
 
-    /// Keeps bytes.
-    fn keep(&self, bytes: &[u8]) -> io::Result<()> {
-        match self.written.try_borrow_mut() {
-            Ok(mut written) => Ok(written.extend_from_slice(bytes)?),
-            Err(_) => Err(Error::from(ErrorKind::OutOfMemory)),
-        }
-    }
-
-    /// Shows a text.
-    pub fn show(&self, text: &str) -> io::Result<()> {
-        self.keep(text.as_bytes())?;
+    /// Keeps a text, and shows it.
+    fn show(&self, text: &str) -> io::Result<()> {
+        self.screen.store(text.as_bytes())?;
         let mut rest = text;
         for _ in 0..text.len() {
-            rest = match self.switched(rest) {
-                Some(behind) => behind,
-                None => self.show_next(rest)?,
-            };
+            rest = self.show_next(rest)?;
         }
         Ok(())
     }
 
-    /// Turns the wrap off or on, if the text begins with that; the rest.
-    fn switched<'a>(&self, text: &'a str) -> Option<&'a str> {
-        let off = text.strip_prefix("\u{1b}[?7l");
-        let on = text.strip_prefix("\u{1b}[?7h");
-        self.wraps
-            .set(self.wraps.get() && off.is_none() || on.is_some());
-        off.or(on).or(behind_update(text))
-    }
-
-    /// Empties the row from the cursor on, if the text begins with that (ESC `[K`), or shows what it begins with; the rest.
+    /// Shows the escape sequence or the character at the front of a text; the rest.
     fn show_next<'a>(&self, text: &'a str) -> io::Result<&'a str> {
-        match text.strip_prefix("\u{1b}[K") {
-            Some(behind) => self.empty_behind(behind),
-            None => self.show_first(text),
+        for (sequence, effect) in SEQUENCES {
+            if let Some(behind) = text.strip_prefix(*sequence) {
+                match effect {
+                    Effect::Wrap(wraps) => self.wraps.set(*wraps),
+                    Effect::EmptyBehind => self.empty_behind()?,
+                    Effect::Nothing => (),
+                }
+                return Ok(behind);
+            }
         }
+        self.show_first(text)
     }
 
-    /// Empties the row from the cursor on, after its sequence.
-    fn empty_behind<'a>(&self, text: &'a str) -> io::Result<&'a str> {
+    /// Empties the row from the cursor on.
+    fn empty_behind(&self) -> io::Result<()> {
         let columns = self.columns.get().saturating_sub(self.column());
         self.feed_times(b" ", columns)?;
-        self.feed_times(b"\x1b[1D", columns)?;
-        Ok(text)
+        self.feed_times(b"\x1b[1D", columns)
     }
 
     /// Writes bytes to the screen `times` times.
@@ -160,7 +150,7 @@ impl Pane {
         Ok(())
     }
 
-    /// Shows the first character, or the escape sequence at the front; the rest.
+    /// Shows the first character, or a sequence that the screen knows; the rest.
     fn show_first<'a>(&self, text: &'a str) -> io::Result<&'a str> {
         let mut chars = text.chars();
         let Some(first) = chars.next() else {
@@ -180,10 +170,7 @@ impl Pane {
 
     /// The column of the cursor, and whether it is at the end of a full row.
     fn column(&self) -> u16 {
-        match self.screen.cursor() {
-            Some((_, column)) => column,
-            None => 0,
-        }
+        self.screen.cursor().unwrap_or((0, 0)).1
     }
 
     /// Shows a character.
@@ -216,27 +203,6 @@ impl Pane {
     }
 }
 
-/// The longest prefix of a row that fits in `room` columns, without blanks at its end.
-fn clipped(row: &str, room: usize) -> &str {
-    let mut wide = 0_usize;
-    let mut end = 0_usize;
-    for c in row.chars() {
-        wide = wide.saturating_add(width(c));
-        if wide > room {
-            break;
-        }
-        end = end.saturating_add(c.len_utf8());
-    }
-    row.get(..end).unwrap_or(row).trim_end_matches(' ')
-}
-
-/// The text after the sequence with which a synchronized update begins or ends, if it begins with that: a pane shows everything as it
-/// comes.
-fn behind_update(text: &str) -> Option<&str> {
-    let begun = text.strip_prefix("\u{1b}[?2026h");
-    begun.or(text.strip_prefix("\u{1b}[?2026l"))
-}
-
 /// The writer that leads to a pane. It takes whole texts, except where it breaks off.
 #[derive(Drop)]
 pub struct Wire(pub Rc<Pane>);
@@ -244,32 +210,24 @@ pub struct Wire(pub Rc<Pane>);
 impl Wire {
     /// How many of `count` bytes are taken; none if the write fails.
     fn takes(&mut self, count: usize) -> Option<usize> {
-        let Some(left) = self.0.breaks.get() else {
-            return Some(count);
-        };
-        if left == 0 {
-            self.0.breaks.set(None);
-            return None;
-        }
-        let taken = left.min(count);
-        self.0.breaks.set(Some(left.saturating_sub(taken)));
-        Some(taken)
+        let fails = self.0.fails.get();
+        self.0.fails.set(fails.saturating_sub(1));
+        let left = self.0.breaks.get();
+        let taken = left.unwrap_or(count).min(count);
+        self.0.breaks.set(match left {
+            Some(0) | None => None,
+            Some(left) => Some(left.saturating_sub(taken)),
+        });
+        (fails != 1 && left != Some(0)).then_some(taken)
     }
 }
 
 impl Write for Wire {
     fn write(&mut self, buf: &[u8]) -> io::Result<usize> {
-        let Some(taken) = self.takes(buf.len()) else {
-            return Err(Error::from(ErrorKind::BrokenPipe));
-        };
+        let taken = self.takes(buf.len()).ok_or(ErrorKind::BrokenPipe)?;
         let buf = buf.get(..taken).unwrap_or(buf);
-        let left = self.0.fails.get();
-        self.0.fails.set(left.saturating_sub(1));
-        match str::from_utf8(buf) {
-            _ if left == 1 => return Err(Error::from(ErrorKind::BrokenPipe)),
-            Ok(text) => self.0.show(text)?,
-            Err(_) => return Err(Error::from(ErrorKind::InvalidData)),
-        }
+        let text = str::from_utf8(buf).ok().ok_or(ErrorKind::InvalidData)?;
+        self.0.show(text)?;
         Ok(buf.len())
     }
 

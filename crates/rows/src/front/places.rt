@@ -3,10 +3,8 @@
 //! `places 10` or `places 1` begins with none, and keeps the last 10 or 1: `put P ..` adds these and gives the greatest. `places seeks`
 //! begins with neither moves nor seeks: `seek P` and `move P BYTES` give the position that is shown.
 use indicatif::{MaxRingBuf, SeekMax};
-use scripts::got::{Bad, Got};
-use scripts::row::headed;
-use scripts::spelling::number;
-use std::alloc::Global;
+use scripts::got::{Bad, Done, Got};
+use scripts::row::{At, headed, number};
 
 /// The places.
 #[derive(Drop)]
@@ -17,19 +15,18 @@ pub enum Places {
 }
 
 /// No places yet.
-pub fn begin(alloc: Global, rest: &str) -> Result<Box<Places>, Bad> {
-    let places = match rest {
+pub fn begin(rest: &str, at: At) -> Result<Box<Places>, Bad> {
+    at.boxed(match rest {
         "10" => Places::Ten(MaxRingBuf::new()),
         "1" => Places::One(MaxRingBuf::new()),
         "seeks" => Places::Seeks(SeekMax::new()),
         _ => return Err(Bad::Step),
-    };
-    Ok(Box::new(alloc, places)?)
+    })
 }
 
 impl Places {
     /// Makes a step.
-    pub fn step(&mut self, step: &str, got: &mut Got) -> Result<(), Bad> {
+    pub fn step(&mut self, step: &str, got: &mut Got) -> Done {
         let (name, rest) = headed(step);
         let place = match (self, name) {
             (Places::Ten(places), "put") => greatest(places, rest)?,
@@ -48,10 +45,8 @@ impl Places {
 
 /// The greatest place, after these were added.
 fn greatest<const N: usize>(places: &mut MaxRingBuf<N>, new: &str) -> Result<u64, Bad> {
-    for place in new.split(' ') {
-        if !place.is_empty() {
-            places.update(number(place)?);
-        }
+    for place in new.split_whitespace() {
+        places.update(number(place)?);
     }
     Ok(places.max())
 }

@@ -6,39 +6,34 @@
 //! - Any other step is a command of the bar, and gives nothing.
 use indicatif::PlainLines;
 use scripts::commands::command;
-use scripts::got::{Bad, Got};
+use scripts::got::{Bad, Done, Got};
 use scripts::lone::{Bar, bar_of};
-use scripts::row::{At, Words, timed};
-use std::alloc::Global;
+use scripts::row::{At, Words};
 
 /// The bar, and the state of its plain lines.
 #[derive(Drop)]
 pub struct Plain {
-    alloc: Global,
     bar: Box<Bar>,
     lines: PlainLines,
 }
 
 /// A bar without a line yet.
-pub fn begin(alloc: Global, rest: &str) -> Result<Box<Plain>, Bad> {
-    let at = At { alloc, now: 0 };
+pub fn begin(rest: &str, at: At) -> Result<Plain, Bad> {
     let mut words = Words::of(rest);
     let lines = PlainLines::every(words.number()?);
     let len = words.optional()?;
     let bar = bar_of(at, words.rest(), len)?;
-    at.boxed(Plain { alloc, bar, lines })
+    Ok(Plain { bar, lines })
 }
 
 impl Plain {
     /// Makes a command, or asks for the line that is due.
-    pub fn step(&mut self, step: &str, got: &mut Got) -> Result<(), Bad> {
-        let (call, now) = timed(step);
-        let now = now.unwrap_or(0);
-        if call != "look" {
-            let _ = self.bar.apply(command(self.alloc, call)?, now);
+    pub fn step(&mut self, step: &str, at: At, got: &mut Got) -> Done {
+        if step != "look" {
+            let _ = self.bar.apply(command(at.alloc, step)?, at.now);
             return Ok(());
         }
-        match self.lines.line_of(&self.bar, now)? {
+        match self.lines.line_of(&self.bar, at.now)? {
             Some(line) => got.text(line.as_str()),
             None => got.text("-"),
         }

@@ -1,4 +1,4 @@
-use Rattle.std.proofs.Common.{map, arith, ◌∙◌, ◌≡◌, ◌<◌, ◌≤◌, ◌+◌, refl, [], ◌++◌, replicate, take, drop, sym, ap, subst}
+use Rattle.std.proofs.Common.{map, arith, ◌∙◌, ◌≡◌, refl, [], ◌++◌, replicate, take, drop, sym, ap, subst}
 use Rattle.std.proofs.Math.Logic.{∥∥₁_map}
 use Rattle.indicatif_term.specs.Inside.Remembering.{Draws}
 use Rattle.indicatif_term.specs.Lists.{Lists, drawn, blanks_for}
@@ -28,7 +28,7 @@ pub store-requires-clause-fits : goal.store-requires-clause-fits
 store-requires-clause-fits g c =
     let s = g.T.TermLike.view (engine_term c.args.self.now) in
     let p = c.in_ok-planned.ensures.planned in
-    can_be_put c.in_ok-planned.planned.window.columns s.columns s.rows c.args.pass c.above-above.result c.args.self.now.shown c.args.frame.now c.in_ok-planned.planned.laid p.columns_are
+    can_be_put c.in_ok-planned.planned.window.columns s.columns s.rows c.args.pass c.above-above.result c.args.self.now.shown c.args.frame.now c.plan_drawing.new.laid p.columns_are
     c.above-above.ensures.within (λ some. let same = p.known some ∙ sym p.columns_are in (same, c.above-above.ensures.known same))
     (c.above-above.ensures.right c.in_ok-planned.planned.window.some) p.frame_is
 
@@ -36,7 +36,7 @@ pub writing-writing-requires : goal.writing-writing-requires
 writing-writing-requires g c =
     let s = g.T.TermLike.view (engine_term c.args.self.now) in
     let x = c.in_ok-from.ensures.next in
-    let l = c.in_ok-planned.planned.laid in
+    let l = c.plan_drawing.new.laid in
     put_height c.in_ok-planned.planned.window.columns s.columns s.rows (live_lines c.args.self.now.shown) x.0 _ _ l c.in_ok-planned.ensures.planned.frame_is.is_laid x.1
     ∙ ap (λ ls. placed_height (placed ls)) (sym (c.behind.ensures ∙ x.4))
 
@@ -45,7 +45,7 @@ returns-in_err-from-clause-memory g c = λ e.
     let s = g.T.TermLike.view (engine_term c.args.self.now) in
     let p = c.in_ok-planned.ensures.planned in
     let f = p.frame_is in
-    let l = c.in_ok-planned.planned.laid in (
+    let l = c.plan_drawing.new.laid in (
       rw p.columns_are at c.in_ok-planned.planned.window.some,
       some_lines s.columns s.rows c.args.pass l.blanks c.args.self.now.counts.live c.in_ok-planned.planned.text.height _ c.args.frame.now l.plan f.plan_is p.blanks_are
           (omega (arith, own_count s.columns s.rows (live_lines c.args.self.now.shown) _ _ l f.is_laid, c.in_err-from.ensures.refused.1)),
@@ -79,7 +79,7 @@ store-requires-clause-suits g c = λ r ls put is.
     let f = p.frame_is in
     let o = f.is_laid in
     let win = c.in_ok-planned.planned.window in
-    let l = c.in_ok-planned.planned.laid in
+    let l = c.plan_drawing.new.laid in
     let old = c.args.self.now.counts in
     let none : c.in_ok-planned.planned.text.height ≡ 0 = omega (arith, p.height_is) in
     let blanks : l.blanks ≡ blanks_for bottom old.live 0 l.plan.rows = (rw c.is_bottom.ensures at p.blanks_are) ∙ ap (λ n. blanks_for bottom old.live n l.plan.rows) none in
@@ -117,7 +117,7 @@ returns-clause-lists g c = λ x fits.
     let f = p.frame_is in
     let o = f.is_laid in
     let win = c.in_ok-planned.planned.window in
-    let l = c.in_ok-planned.planned.laid in
+    let l = c.plan_drawing.new.laid in
     let old = c.args.self.now.counts in
     let none : c.in_ok-planned.planned.text.height ≡ 0 = omega (arith, p.height_is) in
     let blanks : l.blanks ≡ blanks_for bottom old.live 0 l.plan.rows = (rw c.is_bottom.ensures at p.blanks_are) ∙ ap (λ n. blanks_for bottom old.live n l.plan.rows) none in
@@ -143,7 +143,7 @@ returns-clause-paints g c = λ x fits plain.
     let f = p.frame_is in
     let o = f.is_laid in
     let win = c.in_ok-planned.planned.window in
-    let l = c.in_ok-planned.planned.laid in
+    let l = c.plan_drawing.new.laid in
     let old = e.counts in
     let none : c.in_ok-planned.planned.text.height ≡ 0 = omega (arith, p.height_is) in
     let blanks : l.blanks ≡ blanks_for bottom old.live 0 l.plan.rows = (rw c.is_bottom.ensures at p.blanks_are) ∙ ap (λ n. blanks_for bottom old.live n l.plan.rows) none in
@@ -178,7 +178,7 @@ rest-requires-clause-suits g c =
     let f = p.frame_is in
     let o = f.is_laid in
     let win = c.in_ok-planned.planned.window in
-    let l = c.in_ok-planned.planned.laid in
+    let l = c.plan_drawing.new.laid in
     let old = e.counts in
     let none : c.in_ok-planned.planned.text.height ≡ 0 = omega (arith, p.height_is) in
     let blanks : l.blanks ≡ blanks_for bottom old.live 0 l.plan.rows = (rw c.is_bottom.ensures at p.blanks_are) ∙ ap (λ n. blanks_for bottom old.live n l.plan.rows) none in
@@ -208,7 +208,7 @@ returns-then-stands-clause-lists g c = λ x fits.
     let f = p.frame_is in
     let o = f.is_laid in
     let win = c.in_ok-planned.planned.window in
-    let l = c.in_ok-planned.planned.laid in
+    let l = c.plan_drawing.new.laid in
     let old = e.counts in
     let none : c.in_ok-planned.planned.text.height ≡ 0 = omega (arith, p.height_is) in
     let blanks : l.blanks ≡ blanks_for bottom old.live 0 l.plan.rows = (rw c.is_bottom.ensures at p.blanks_are) ∙ ap (λ n. blanks_for bottom old.live n l.plan.rows) none in
@@ -233,7 +233,7 @@ returns-then-stands-clause-paints g c = λ x fits plain.
     let f = p.frame_is in
     let o = f.is_laid in
     let win = c.in_ok-planned.planned.window in
-    let l = c.in_ok-planned.planned.laid in
+    let l = c.plan_drawing.new.laid in
     let old = e.counts in
     let none : c.in_ok-planned.planned.text.height ≡ 0 = omega (arith, p.height_is) in
     let blanks : l.blanks ≡ blanks_for bottom old.live 0 l.plan.rows = (rw c.is_bottom.ensures at p.blanks_are) ∙ ap (λ n. blanks_for bottom old.live n l.plan.rows) none in

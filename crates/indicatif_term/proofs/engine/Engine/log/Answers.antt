@@ -1,4 +1,4 @@
-use Rattle.std.proofs.Common.{map, false, ◌≡◌, ◌≤◌, ◌+◌, [], ◌++◌, ◌∙◌, ap, arith, replicate, take, append_assoc, subst, sym}
+use Rattle.std.proofs.Common.{map, ◌≡◌, ◌≤◌, ◌+◌, [], ◌++◌, ◌∙◌, ap, arith, replicate, take, append_assoc, subst, sym}
 use Rattle.std.proofs.Math.Logic.{∥∥₁_map}
 use Rattle.indicatif_term.specs.Lists.{Lists, logged}
 use Rattle.indicatif_term.specs.Counts.{CountsOf}
@@ -28,7 +28,7 @@ pub store-requires-clause-fits : goal.store-requires-clause-fits
 store-requires-clause-fits g c =
     let s = g.T.TermLike.view (engine_term c.args.self.now) in
     let p = c.in_ok-planned.ensures.planned in
-    can_be_put c.in_ok-planned.planned.window.columns s.columns s.rows 0 _ c.args.self.now.shown c.args.frame.now c.in_ok-planned.planned.laid p.columns_are (omega arith)
+    can_be_put c.in_ok-planned.planned.window.columns s.columns s.rows 0 _ c.args.self.now.shown c.args.frame.now c.plan_drawing.new.laid p.columns_are (omega arith)
     (λ some. absurd (omega (arith, some, p.below_text (logged_length c.args.text.now)))) tt p.frame_is
 
 pub returns-in_err-from-clause-memory : goal.returns-in_err-from-clause-memory
@@ -37,7 +37,7 @@ returns-in_err-from-clause-memory g c = λ e.
     let p = c.in_ok-planned.ensures.planned in
     let f = p.frame_is in
     let old = c.args.self.now.counts in
-    let l = c.in_ok-planned.planned.laid in (
+    let l = c.plan_drawing.new.laid in (
       rw p.columns_are at c.in_ok-planned.planned.window.some,
       some_lines s.columns s.rows 0 l.blanks (old.kept + old.live) c.in_ok-planned.planned.text.height _ c.args.frame.now l.plan f.plan_is p.blanks_are
           (omega (arith, own_count s.columns s.rows (live_lines c.args.self.now.shown) _ _ l f.is_laid, c.in_err-from.ensures.refused.1)),
@@ -71,7 +71,7 @@ store-requires-clause-suits g c = λ r ls put is.
     let f = p.frame_is in
     let o = f.is_laid in
     let win = c.in_ok-planned.planned.window in
-    let l = c.in_ok-planned.planned.laid in
+    let l = c.plan_drawing.new.laid in
     let old = c.args.self.now.counts in
     let rows = c.in_ok-planned.planned.text.height in
     let text = text_lines (logged_lines c.args.text.now) in
@@ -105,7 +105,7 @@ returns-clause-lists g c = λ x fits.
     let f = p.frame_is in
     let o = f.is_laid in
     let win = c.in_ok-planned.planned.window in
-    let l = c.in_ok-planned.planned.laid in
+    let l = c.plan_drawing.new.laid in
     let old = c.args.self.now.counts in
     let rows = c.in_ok-planned.planned.text.height in
     let text = text_lines (logged_lines c.args.text.now) in
@@ -131,7 +131,7 @@ returns-clause-paints g c = λ x fits plain.
     let taken = old.kept + old.live in
     let p = c.in_ok-planned.ensures.planned in
     let f = p.frame_is in
-    let l = c.in_ok-planned.planned.laid in
+    let l = c.plan_drawing.new.laid in
     let plan = l.plan in
     let win = c.in_ok-planned.planned.window in
     let rows = c.in_ok-planned.planned.text.height in

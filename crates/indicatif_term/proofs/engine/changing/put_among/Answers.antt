@@ -5,7 +5,7 @@ use Rattle.indicatif_term.specs.Calls.{LeadsOn}
 use Rattle.indicatif_term.specs.Inside.Changes.{placed_height, among_bytes}
 use Rattle.std.specs.Prelude.{string_bytes}
 use Rattle.indicatif_term.specs.Inside.Parting.{IsReady}
-use Rattle.indicatif_term.specs.declared.engine.parting.Step.TheVariants as Step
+use Rattle.indicatif_term.specs.declared.engine.comparing.Step.TheVariants as Step
 use Rattle.indicatif_term.specs.Standing.{placed}
 use Rattle.indicatif_term.specs.declared.engine.remembered.StandingLine.{StandingLine}
 use Rattle.indicatif_term.proofs.BesideLemmas.{ready_at, ready_take}

@@ -11,15 +11,14 @@ returns-in-Some-clause-sized c =
     let w = c.args.window.columns in
     let old = string_bytes c.args.line.now.text in
     let p = c.in-Some.part in
-    let row = c.in-Some.ensures.parted.0 in
-    let d = c.in-Some.ensures.parted.1 in
+    let d = c.in-Some.ensures.parted in
     record {
-      rows_are = sym (parted_becomes w c.args.waits c.args.line.now.narrow old c.args.text.now p d (looks_of (rows_of w (chars old))) refl).1;
+      rows_are = sym (parted_becomes w c.args.waits old c.args.text.now p d (looks_of (rows_of w (chars old))) refl).1;
       last_is = d.last_is ∙ ap (λ cs. p.gap + length cs) (sym d.news_are) ∙ sym (parted_last w p.gap p.left (chars old) (chars c.args.text.now) d.tails);
       narrow = parted_narrow w p.gap p.left (chars old) (chars c.args.text.now) d.tails c.requires.line.narrow;
-      single = d.single;
+      single = λ _. d.read;
     }
 
 pub returns-in-Some-clause-turned : goal.returns-in-Some-clause-turned
 returns-in-Some-clause-turned c =
-    parted_turned c.args.window.columns c.args.waits c.args.line.now.narrow (string_bytes c.args.line.now.text) c.args.text.now c.in-Some.part c.in-Some.ensures.small c.in-Some.ensures.parted.1
+    parted_turned c.args.window.columns c.args.waits (string_bytes c.args.line.now.text) c.args.text.now c.in-Some.part c.in-Some.ensures.small c.in-Some.ensures.parted

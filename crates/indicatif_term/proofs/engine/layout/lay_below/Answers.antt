@@ -1,7 +1,7 @@
 use Rattle.std.proofs.Common.{arith, refl, sym, ap, subst, ◌≡◌, ◌∙◌, ◌+◌, ◌<◌, length, chars, false}
 use Rattle.indicatif_text.specs.Columns.{has_wide, rows_of, last_columns}
 use Rattle.indicatif_term.specs.Lists.{BarRows}
-use Rattle.indicatif_term.specs.Inside.Edits.{AreSingle}
+use Rattle.indicatif_term.specs.Inside.Inks.{IsRead}
 use Rattle.indicatif_term.proofs.OwnedLemmas.{count_same}
 use Rattle.indicatif_term.proofs.TerminalStepLemmas.{rows_some}
 use Rattle.indicatif_term.proofs.LayoutLemmas.{still_full, now_full}
@@ -52,7 +52,7 @@ returns c =
               rows_are = sized.rows_are ∙ ap (λ y. length (rows_of w (chars y))) (sym text);
               last_is = sized.last_is ∙ ap (λ y. last_columns w (chars y)) (sym text);
               narrow = ap (λ y. has_wide w (chars y)) text ∙ sized.narrow;
-              single = λ q. subst (λ y. AreSingle (chars y)) (sym text) (sized.single q);
+              single = λ q. subst (λ y. IsRead (chars y)) (sym text) (sized.single q);
             }) (refl, tt);
       };
     }

@@ -1,4 +1,5 @@
-use Rattle.std.proofs.Common.{arith, ◌+◌, ◌≡◌, ◌∙◌, refl, sym, ap, Err, map, take, length, []}
+use Rattle.std.proofs.Common.{arith, ◌+◌, ◌≡◌, ◌∙◌, refl, sym, ap, Err, map, take, length}
+use Rattle.std.proofs.lemmas.Result.{err_from_is_err_and}
 use Rattle.std.proofs.lemmas.List.{take_all}
 use Rattle.indicatif_text.specs.declared.refusal.Refusal.TheVariants.{Memory}
 use Rattle.indicatif_term.specs.Lists.{fitting, lines_of}
@@ -12,103 +13,94 @@ use Rattle.indicatif_term.specs.Inside.Layouts.{own_lines, IsLaid}
 use Rattle.indicatif_term.specs.declared.engine.layout.Plan.{Plan}
 use Rattle.indicatif_term.proofs.OwnedLemmas.{first_within}
 use Rattle.indicatif_term.proofs.ShownRowLemmas.{frame_step}
-use Rattle.indicatif_term.proofs.LayoutLemmas.{nothing_laid, no_bars, nothing_passes, still_summed, lines_step, narrow_step, frame_refused, some_line, passing_now, passing_same, passing_all, passing_height, planned, still_laid}
-use Rattle.indicatif_term.proofs.LaidLemmas.{laid_none, laid_as, laid_still, own_laid, own_count}
+use Rattle.indicatif_term.proofs.LayoutLemmas.{still_summed, lines_step, narrow_step, frame_refused, some_line, passing_now, passing_same, passing_all, passing_height, planned, still_laid}
+use Rattle.indicatif_term.proofs.LaidLemmas.{laid_as, laid_still, own_laid, own_count}
 use Rattle.indicatif_term.proofs.engine.layout.lay_frame.Goals as goal
-use Rattle.indicatif_term.proofs.engine.layout.lay_frame.Goals.{then-left-gt0, else-left-gt0}
+use Rattle.indicatif_term.proofs.engine.layout.lay_frame.Goals.{then-at-asked, else-at-asked}
 
-pub loop-member-init : goal.loop-member-init
-loop-member-init c =
-    let w = c.args.window.columns in
-    let h = c.args.window.rows in
-    let empty = nothing_laid h c.none.result c.none.ensures in
-    record {
-      left_is = omega arith;
-      summed = empty.0;
-      blanks_are = refl;
-      narrow = refl;
-      passing = ap (λ (p : Plan). p.passing) c.none.ensures ∙ nothing_passes w h c.args.asked.pass c.args.asked.frame.now;
-      laid = laid_as w h c.args.beside.lines.now [] [] [] _ _ refl (sym (no_bars w))
-          (laid_none w h c.args.beside.lines.now _ c.requires.blank refl c.none.ensures c.take_new.ensures c.take_lines.ensures);
-    }
+pub loop-at-init : goal.loop-at-init
+loop-at-init c = let f = c.requires.front in record { within = f.within; summed = f.summed; blanks_are = refl; narrow = f.narrow; passing = f.passing; laid = f.laid }
 
 pub lay_member-requires-clause-summed : goal.lay_member-requires-clause-summed
-lay_member-requires-clause-summed c = c.loop-member.invariant.summed
+lay_member-requires-clause-summed c = c.loop-at.invariant.summed
 
-pub returns-in-Err-clause-laid : goal.returns-in-Err-clause-laid
-returns-in-Err-clause-laid c =
-    frame_refused c.args.window.columns c.args.asked.frame.now c.loop-member.member-index c.member-item.result (omega arith) (sym c.member-item.is) c.in-Err.e c.in-Err.ensures.laid
+pub returns-in_err-lay_member-clause-laid : goal.returns-in_err-lay_member-clause-laid
+returns-in_err-lay_member-clause-laid c =
+    let x = err_from_is_err_and c.from_residual.result c.from_residual.ensures.1 in
+    rw (x.1 ∙ ap Err x.2) (frame_refused c.args.window.columns c.args.asked.now.frame.now c.loop-at.at c.index-asked-at.result (omega arith)
+    (sym c.index-asked-at.is) c.in_err-lay_member.field-0.0 (rw (← c.index-asked-at.is) at c.in_err-lay_member.ensures.laid))
 
-pub returns-in-Err-clause-memory : goal.returns-in-Err-clause-memory
-returns-in-Err-clause-memory c = λ e.
-    let same : c.in-Err.e ≡ Memory = cc e in
-    some_line c.args.asked.frame.now c.loop-member.member-index c.member-item.result (omega arith) (sym c.member-item.is) (c.in-Err.ensures.memory (ap Err same))
+pub returns-in_err-lay_member-clause-memory : goal.returns-in_err-lay_member-clause-memory
+returns-in_err-lay_member-clause-memory c = λ e.
+    let x = err_from_is_err_and c.from_residual.result c.from_residual.ensures.1 in
+    let same : c.in_err-lay_member.field-0.0 ≡ Memory = cc (sym (x.1 ∙ ap Err x.2) ∙ e) in
+    some_line c.args.asked.now.frame.now c.loop-at.at c.index-asked-at.result (omega arith) (sym c.index-asked-at.is) (rw (← c.index-asked-at.is) at (c.in_err-lay_member.ensures.memory (ap Err same)))
 
-pub loop-member-preserved : goal.loop-member-preserved
-loop-member-preserved c =
+pub loop-at-preserved : goal.loop-at-preserved
+loop-at-preserved c =
     let w = c.args.window.columns in
     let h = c.args.window.rows in
-    let frame = c.args.asked.frame.now in
-    let i = c.loop-member.member-index in
-    let s = c.member-item.result in
+    let frame = c.args.asked.now.frame.now in
+    let i = c.loop-at.at in
+    let s = c.index-asked-at.result in
     let l = c.lay_member.new.laid in
     let p = l.plan in
-    let on = c.args.beside.lines.now in
-    let old = c.loop-member.invariant in
-    let narrow = narrow_step w frame i s (omega arith) (sym c.member-item.is) old.narrow c.in_default.ensures.laid.narrow in
+    let on = c.args.beside.now.lines.now in
+    let old = c.loop-at.invariant in
+    let one = rw (← c.index-asked-at.is) at c.in_ok-lay_member.ensures.laid in
+    let narrow = narrow_step w frame i s (omega arith) (sym c.index-asked-at.is) old.narrow one.narrow in
     let laid : IsLaid w h on (frame_lines (take (i + 1) frame)) (lines_of w (map bar_lines (take (i + 1) frame))) l =
-    laid_as w h on _ _ _ _ l (sym (frame_step frame i s (omega arith) (sym c.member-item.is))) (lines_step w frame i s (omega arith) (sym c.member-item.is))
-    (c.in_default.ensures.laid.laid _ _ old.laid) in
-    let blanks = c.in_default.ensures.laid.blanks_same ∙ old.blanks_are in
-    elim c.if-left-gt0.branch [
-      | then-left-gt0 q ↦ rw (q.laid-is, q.left-is) (record {
-        left_is = omega (arith, old.left_is, q.if-left-gt0.true);
-        summed = still_summed h p.lines p c.in_default.ensures.laid.summed;
+    laid_as w h on _ _ _ _ l (sym (frame_step frame i s (omega arith) (sym c.index-asked-at.is))) (lines_step w frame i s (omega arith) (sym c.index-asked-at.is)) (one.laid _ _ old.laid) in
+    let blanks = one.blanks_same ∙ old.blanks_are in
+    elim c.if-at-asked.branch [
+      | then-at-asked q ↦ rw q.laid-is (record {
+        within = omega arith;
+        summed = still_summed h p.lines p one.summed;
         blanks_are = blanks;
         narrow = narrow;
-        passing = passing_now w h c.args.asked.pass i p.lines frame p _ laid.laid (omega (arith, old.left_is, q.if-left-gt0.true)) refl;
+        passing = passing_now w h c.args.asked.now.pass i p.lines frame p _ laid.laid (omega (arith, q.if-at-asked.true)) refl;
         laid = laid_still w h p.lines p.passing_rows on _ _ l laid;
       })
-      | else-left-gt0 q ↦ rw (q.laid-is, q.left-is) (record {
-        left_is = omega (arith, old.left_is, q.if-left-gt0.false);
-        summed = c.in_default.ensures.laid.summed;
+      | else-at-asked q ↦ rw q.laid-is (record {
+        within = omega arith;
+        summed = one.summed;
         blanks_are = blanks;
         narrow = narrow;
-        passing = passing_same w h c.args.asked.pass i _ frame (omega (arith, old.left_is, q.if-left-gt0.false)) (c.in_default.ensures.laid.passing_same ∙ old.passing);
+        passing = passing_same w h c.args.asked.now.pass i _ frame (omega (arith, q.if-at-asked.false)) (one.passing_same ∙ old.passing);
         laid = laid;
       })
     ]
 
 pub through_run-passing-requires-clause-all : goal.through_run-passing-requires-clause-all
-through_run-passing-requires-clause-all c = own_count c.args.window.columns c.args.window.rows c.args.beside.lines.now _ _ c.loop-member.laid c.loop-member.invariant.laid
+through_run-passing-requires-clause-all c = own_count c.args.window.columns c.args.window.rows c.args.beside.now.lines.now _ _ c.loop-at.laid c.loop-at.invariant.laid
 
 pub through_run-passing-requires-clause-within : goal.through_run-passing-requires-clause-within
 through_run-passing-requires-clause-within c =
     let w = c.args.window.columns in
     let h = c.args.window.rows in
-    let frame = c.args.asked.frame.now in
-    let i = c.loop-member.member-index in
-    let old = c.loop-member.invariant in
+    let frame = c.args.asked.now.frame.now in
+    let i = c.loop-at.at in
+    let old = c.loop-at.invariant in
     let all : take i frame ≡ frame = take_all i frame (omega arith) in
     let laid = rw all at old.laid.laid in
-    omega (arith, passing_all w h c.args.asked.pass i _ frame (omega arith) old.passing, first_within w h c.args.asked.pass (map bar_lines frame), laid.lines_are)
+    omega (arith, passing_all w h c.args.asked.now.pass i _ frame (omega arith) old.passing, first_within w h c.args.asked.now.pass (map bar_lines frame), laid.lines_are)
 
 pub height_passing-laid-requires-clause-within : goal.height_passing-laid-requires-clause-within
 height_passing-laid-requires-clause-within c =
-    let l = c.loop-member.laid in
-    let k : l.blanks + l.plan.lines ≡ l.at + length l.more.items = own_count c.args.window.columns c.args.window.rows c.args.beside.lines.now _ _ l c.loop-member.invariant.laid in
+    let l = c.loop-at.laid in
+    let k : l.blanks + l.plan.lines ≡ l.at + length l.more.items = own_count c.args.window.columns c.args.window.rows c.args.beside.now.lines.now _ _ l c.loop-at.invariant.laid in
     omega (arith, k, c.through_run-passing.ensures.within)
 
 pub returns-clause-laid : goal.returns-clause-laid
 returns-clause-laid c =
     let w = c.args.window.columns in
     let h = c.args.window.rows in
-    let pass = c.args.asked.pass in
-    let frame = c.args.asked.frame.now in
-    let on = c.args.beside.lines.now in
-    let i = c.loop-member.member-index in
-    let old = c.loop-member.invariant in
-    let l = c.loop-member.laid in
+    let pass = c.args.asked.now.pass in
+    let frame = c.args.asked.now.frame.now in
+    let on = c.args.beside.now.lines.now in
+    let i = c.loop-at.at in
+    let old = c.loop-at.invariant in
+    let l = c.loop-at.laid in
     let p = l.plan in
     let n = c.through_run-passing.result in
     let r = c.height_passing-laid.result in

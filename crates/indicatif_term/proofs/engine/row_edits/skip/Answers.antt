@@ -26,8 +26,8 @@ none_read ink text e = ap (λ x. read ink (chars x)) (nil_from_length text (eqb-
 pub returns : goal.returns
 returns c =
     let rest = c.args.rest in
-    let p = c.in-Some.parts in
-    let d : ArePlain rest.old.text.now rest.new.text.now p = c.in-Some.ensures in
+    let p = c.split-parts.result in
+    let d : ArePlain rest.old.text.now rest.new.text.now p = c.split-parts.ensures in
     let ink = ink_of rest.old.ink in
     let now = ink_of rest.ink in
     let alike : ink ≡ ink_of rest.new.ink = same_inks ink (ink_of rest.new.ink) (sym c.are_same.ensures ∙ c.if-not-are_same.false) in

@@ -13,3 +13,13 @@ returns-then-self-width-clause-right c = λ some. elim c.of.ensures.lines [
       let right = live_right r (subst (λ n. 0 < n) (sym width) some) in
       subst (AreLines c.args.width) (sym (same ∙ c.live.ensures)) (subst (λ n. AreLines n (live_lines r)) width right)
 ]
+
+pub returns-then-self-width-clause-known : goal.returns-then-self-width-clause-known
+returns-then-self-width-clause-known c = λ some. elim c.of.ensures.known [
+  | inl none ↦ subst (AreLines c.args.width) (sym none) tt
+  | inr same ↦
+      let r = c.args.self.now in
+      let width = c.if-self-width.true in
+      let right = live_right r (subst (λ n. 0 < n) (sym width) some) in
+      subst (AreLines c.args.width) (sym (same ∙ c.live.ensures)) (subst (λ n. AreLines n (live_lines r)) width right)
+]

@@ -1,4 +1,4 @@
-use Rattle.std.proofs.Common.{arith, ◌≡◌, ◌≤◌, ◌<◌, ◌+◌, ◌-◌, ◌∙◌, ◌++◌, ◌^◌, refl, sym, subst, take, drop, length}
+use Rattle.std.proofs.Common.{arith, ◌≡◌, ◌≤◌, ◌<◌, ◌-◌, ◌∙◌, ◌++◌, ◌^◌, refl, sym, subst, take, drop, length}
 use Rattle.indicatif_term.specs.Standing.{IsLine, AreLines}
 use Rattle.indicatif_term.specs.Remembered.{live_lines}
 use Rattle.indicatif_term.specs.Inside.Renewed.{AreFitting}
@@ -14,7 +14,7 @@ overflow_add-stays c = let small : length c.args.self.now.lines ≤ 2 ^ 64 - 1 =
 pub put-requires-clause-fit : goal.put-requires-clause-fit
 put-requires-clause-fit c =
     let r = c.args.self.now in
-    let l = c.args.laid in
+    let l = c.args.laid.now in
     let above = c.args.above in
     let same = λ (some : 0 < l.at). (c.requires.fits.known some).1 in (
       c.args.width,
@@ -36,7 +36,7 @@ invariant_of-self c =
 pub overflow_add-self : goal.overflow_add-self
 overflow_add-self c =
     let r = c.args.self.now in
-    let l = c.args.laid in
+    let l = c.args.laid.now in
     let above = c.args.above in
     let x = c.in_ok-put.ensures.lines in
     let size = put_length above.from above.to l.at r.lines x.0 l.more.items c.put.new.self above.some c.requires.fits.within x.1 x.3 in
@@ -45,7 +45,7 @@ overflow_add-self c =
 pub kept_below-requires : goal.kept_below-requires
 kept_below-requires c =
     let r = c.args.self.now in
-    let l = c.args.laid in
+    let l = c.args.laid.now in
     let above = c.args.above in
     let x = c.in_ok-put.ensures.lines in
     let size = put_length above.from above.to l.at r.lines x.0 l.more.items c.put.new.self above.some c.requires.fits.within x.1 x.3 in
@@ -54,7 +54,7 @@ kept_below-requires c =
 pub invariant_of-self-2 : goal.invariant_of-self-2
 invariant_of-self-2 c =
     let r = c.args.self.now in
-    let l = c.args.laid in
+    let l = c.args.laid.now in
     let w = c.args.width in
     let above = c.args.above in
     let x = c.in_ok-put.ensures.lines in
@@ -71,7 +71,7 @@ invariant_of-self-2 c =
 pub returns-clause-next : goal.returns-clause-next
 returns-clause-next c =
     let r = c.args.self.now in
-    let l = c.args.laid in
+    let l = c.args.laid.now in
     let w = c.args.width in
     let above = c.args.above in
     let x = c.in_ok-put.ensures.lines in

@@ -2,7 +2,7 @@ use Rattle.std.proofs.Common.{◌∙◌, ◌++◌, [], Ok, Err, chars, refl, sym
 use Rattle.std.specs.Prelude.{flat_map}
 use Rattle.std.specs.List.{AllByRecursion}
 use Rattle.indicatif_text.specs.Columns.{visible}
-use Rattle.indicatif_text.specs.Pieces.{shown}
+use Rattle.indicatif_text.specs.Pieces.{text_piece}
 use Rattle.indicatif_text.specs.PieceLaws.{IsExact, run_text}
 use Rattle.indicatif_text.proofs.PieceLawLemmas.{runs_are_visible, all_exact}
 use Rattle.indicatif_term.specs.Inside.Ending.{Within, WithinIf, all_put, AreShown}
@@ -25,13 +25,13 @@ returns-in_err-put_piece g c =
     let left = ap (λ ps. inv.0 ++ flat_map run_text ps) (sym c.in-Some.ensures.steps) ∙ inv.1 in
     let exact = subst (AllByRecursion IsExact) c.in-Some.ensures.steps inv.2 in
     fall_fails view c.from_residual.result c.from_residual.ensures.1
-    (more view (Err c.in_err-put_piece.field-0.0) (λ all. (run_shown inv.0 (run_text (shown c.in-Some.piece)) _ (sym left) all, exact.0)) inv.3 c.in_err-put_piece.ensures)
+    (more view (Err c.in_err-put_piece.field-0.0) (λ all. (run_shown inv.0 (run_text (text_piece c.in-Some.piece)) _ (sym left) all, exact.0)) inv.3 c.in_err-put_piece.ensures)
 
 pub rest-preserved : goal.rest-preserved
 rest-preserved g c =
     let view = g.T.TermLike.view in
     let inv = c.rest.invariant in
-    let run = run_text (shown c.in-Some.piece) in
+    let run = run_text (text_piece c.in-Some.piece) in
     let X = AreShown (visible (chars c.args.text.now)) in
     let left = ap (λ ps. inv.0 ++ flat_map run_text ps) (sym c.in-Some.ensures.steps) ∙ inv.1 in
     let exact = subst (AllByRecursion IsExact) c.in-Some.ensures.steps inv.2 in (

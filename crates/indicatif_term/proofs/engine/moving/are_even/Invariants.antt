@@ -1,6 +1,0 @@
-use Rattle.std.proofs.Common.{take}
-use Rattle.indicatif_term.specs.Inside.Moves.{AreEven}
-use Rattle.indicatif_term.proofs.engine.moving.are_even.Given as goal
-
-abbrev pub invariant-loop-line : goal.invariant-loop-line
-invariant-loop-line l = AreEven l.width (take l.line-index l.lines)
