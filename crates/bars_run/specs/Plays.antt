@@ -4,8 +4,8 @@ use Rattle.std.specs.List.{list_any}
 use Rattle.log.specs.declared.level.Level.TheVariants.{Warn as WarnLevel}
 use Rattle.indicatif_text.specs.Columns.{Cell}
 use Rattle.indicatif_text.specs.Template.{KeyText, plain_layout}
-use Rattle.indicatif_term.specs.DrawTargets.{is_bottom}
-use Rattle.indicatif_term.specs.Frames.{logged_lines}
+use Rattle.indicatif_term.specs.Target.{is_bottom}
+use Rattle.indicatif_term.specs.Lines.{logged_lines}
 use Rattle.indicatif_term.specs.Lists.{all_rows}
 use Rattle.indicatif_bar.specs.declared.style.builders.TheConstants.{TICKS}
 use Rattle.indicatif_bar.specs.declared.tracker.NoTracker.{NoTracker}

@@ -9,7 +9,7 @@ use Rattle.indicatif_text.specs.declared.refusal.Refusal.TheVariants.{NoColumns,
 use Rattle.indicatif_text.specs.declared.refusal.Drawn.{Drawn}
 use Rattle.indicatif_text.specs.declared.refusal.Drawn.TheVariants.{Yes, Limited, Hidden}
 use Rattle.indicatif_term.specs.Calls.{TermView}
-use Rattle.indicatif_term.specs.Frames.{some_wide}
+use Rattle.indicatif_term.specs.Lines.{some_wide}
 use Rattle.indicatif_term.specs.Limiters.{Limiter}
 use Rattle.indicatif_bar.specs.Trackers.{Tracking}
 use Rattle.indicatif_bar.specs.Commands.{BarRecord, Command, Tick, SetElapsed, ForceDraw, obeyed, is_beyond_clock}

@@ -4,8 +4,8 @@ use Rattle.std.specs.declared.alloc.Global.{Global}
 use Rattle.std.specs.declared.io.Stderr.{Stderr}
 use Rattle.std.specs.declared.io.buffered.BufWriter.{BufWriter}
 use Rattle.indicatif_term.specs.Limiters.{Limiter, default_rate, draw_limiter}
-use Rattle.indicatif_term.specs.DrawTargets.{hides, term_behind}
-use Rattle.indicatif_term.specs.Writers.{WriterTerm}
+use Rattle.indicatif_term.specs.Target.{hides, term_behind}
+use Rattle.indicatif_term.specs.Term.{WriterTerm}
 use Rattle.indicatif_term.specs.declared.target.Facts.{Facts}
 use Rattle.indicatif_term.specs.OwnRows.{own_rows, left_rows}
 use Rattle.indicatif_term.specs.declared.target.own_row.OwnRow.{OwnRow}

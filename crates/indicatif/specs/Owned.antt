@@ -5,7 +5,7 @@ use Rattle.indicatif_text.specs.declared.refusal.Refusal.{Refusal}
 use Rattle.indicatif_text.specs.Template.{TemplatePart, Parses}
 use Rattle.indicatif_term.specs.Calls.{TermView}
 use Rattle.indicatif_term.specs.Limiters.{Limiter}
-use Rattle.indicatif_term.specs.DrawTargets.{term_of, limiter_of}
+use Rattle.indicatif_term.specs.Target.{term_of, limiter_of}
 use Rattle.indicatif_bar.specs.Progress.{is_finished}
 use Rattle.indicatif_bar.specs.Finishes.{BarFinish, AndLeave, WithMessage, AndClear, Abandon, AbandonWithMessage}
 use Rattle.indicatif_bar.specs.Trackers.{Tracking}

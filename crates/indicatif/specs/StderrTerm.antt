@@ -4,7 +4,7 @@ use Rattle.std.specs.declared.alloc.Global.{Global}
 use Rattle.std.specs.declared.io.Stderr.{Stderr}
 use Rattle.std.specs.declared.io.buffered.BufWriter.{BufWriter}
 use Rattle.indicatif_term.specs.Limiters.{Limiter}
-use Rattle.indicatif_term.specs.Writers.{WriterTerm}
+use Rattle.indicatif_term.specs.Term.{WriterTerm}
 use Rattle.indicatif_term.specs.declared.target.own_rows.OwnRows.{OwnRows}
 use Rattle.indicatif.specs.declared.machine.stderr_term.StderrTerm.{StderrTerm}
 use Rattle.indicatif.specs.declared.machine.until_gone.UntilGone.{UntilGone}

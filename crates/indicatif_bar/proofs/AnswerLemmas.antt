@@ -10,7 +10,7 @@ use Rattle.indicatif_text.specs.declared.refusal.Drawn.{Drawn}
 use Rattle.indicatif_text.specs.declared.refusal.Drawn.TheVariants.{Yes, Limited, Hidden}
 use Rattle.indicatif_term.specs.Calls.{TermView}
 use Rattle.indicatif_term.specs.Lists.{Lists}
-use Rattle.indicatif_term.specs.Frames.{some_wide}
+use Rattle.indicatif_term.specs.Lines.{some_wide}
 use Rattle.indicatif_term.specs.Engines.{is_failure, failure_kind}
 use Rattle.indicatif_bar.specs.Machines.{Target, target_of, Machine, Draw, Deed, AtOnce, Draws, Leads, is_no, comes_to_lines, drawn_by}
 use Rattle.indicatif_bar.specs.Shown.{WritesLinesOn}

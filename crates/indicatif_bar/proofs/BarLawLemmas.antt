@@ -7,7 +7,7 @@ use Rattle.std.proofs.Math.Nat.{zero-div, mul-div_cancel_left, div-eq_of_eq-mul_
 use Rattle.indicatif_text.specs.StyleWords.{styled}
 use Rattle.indicatif_bar.specs.declared.measures.Fraction.{Fraction}
 use Rattle.indicatif_bar.specs.Layout.{text_columns, cluster, times, bar_text}
-use Rattle.indicatif_bar.specs.Inside.Cells.{shade_of}
+use Rattle.indicatif_bar.specs.Inside.Bars.{shade_of}
 use Rattle.indicatif_bar.specs.StyleLaws.{cells_in, FullAtItsLength, EmptyAtItsStart, NeverFewerCells, NeverMoreCells, CellsFit}
 use Rattle.indicatif_bar.proofs.LayoutLemmas.{bar_parts}
 

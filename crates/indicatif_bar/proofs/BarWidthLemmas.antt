@@ -12,7 +12,7 @@ use Rattle.indicatif_bar.specs.declared.measures.Fraction.{Fraction}
 use Rattle.indicatif_bar.specs.Measures.{fraction_of}
 use Rattle.indicatif_bar.specs.Layout.{text_columns, cluster, times, bar_text}
 use Rattle.indicatif_bar.specs.Builders.{clusters_of, progress_fault}
-use Rattle.indicatif_bar.specs.Inside.Cells.{shade_of, begun_text, cells_left}
+use Rattle.indicatif_bar.specs.Inside.Bars.{shade_of, begun_text, cells_left}
 use Rattle.indicatif_bar.specs.StyleLaws.{IsPlainText, AreTaken, TakenArePlain, cells_in, filled_cells, BarsTakeTheirCells, BarsFill, BarsFit, ShowsFilled, FilledAreShown, NeverShowsFewer}
 use Rattle.indicatif_bar.proofs.LayoutLemmas.{rest_text, bar_parts}
 use Rattle.indicatif_bar.proofs.ClusterLemmas.{clusters_are_plain}

@@ -1,8 +1,7 @@
 -- What the texts of a line are made of: a text so many times, blanks, the parts of a bar.
 use Rattle.std.proofs.Common.{◌≡◌, ℕ, zero, suc, ◌-◌, ◌*◌, ◌/◌, ◌%◌, Bool, ◌++◌, ◌+◌, drop, List, [], ◌∷◌, append-nil, append_assoc, refl, sym, ◌∙◌, ap, true, false, if◌then◌else◌, length, length-append, take, arith, map, subst, ◌≤◌}
 use Rattle.std.specs.List.{concat, slice_range}
-use Rattle.std.specs.Str.{IsUtf8}
-use Rattle.std.specs.Str.{IsCharBoundary}
+use Rattle.std.specs.Str.{IsUtf8, IsCharBoundary}
 use Rattle.std.specs.String.Boundary.{IsSplitPoint}
 use Rattle.std.proofs.Math.Nat.{suc-mul}
 use Rattle.std.proofs.lemmas.List.{drop_at, take_at}
@@ -13,7 +12,7 @@ use Rattle.std.specs.Prelude.{codes, Some, None, option_to_list, nat_lt, ◌&&�
 use Rattle.indicatif_text.specs.StyleWords.{opening_of, styled, sequence_of}
 use Rattle.indicatif_bar.specs.declared.measures.Fraction.{Fraction}
 use Rattle.indicatif_bar.specs.Layout.{times, spaces, text_columns, cluster, bar_text}
-use Rattle.indicatif_bar.specs.Inside.Cells.{begun_text, cells_left}
+use Rattle.indicatif_bar.specs.Inside.Bars.{begun_text, cells_left}
 
 -- the cells that are not begun
 abbrev pub rest_text : List (List ℕ) → Fraction → ℕ → List ℕ

@@ -8,7 +8,7 @@ use Rattle.indicatif_text.specs.declared.refusal.Drawn.{Drawn}
 use Rattle.indicatif_text.specs.declared.refusal.Drawn.TheVariants.{Limited}
 use Rattle.indicatif_term.specs.Calls.{TermView}
 use Rattle.indicatif_term.specs.Limiters.{Limiter}
-use Rattle.indicatif_term.specs.Frames.{text_lines, logged_lines, bar_lines}
+use Rattle.indicatif_term.specs.Lines.{text_lines, logged_lines, bar_lines}
 use Rattle.indicatif_term.specs.Engines.{engine_term, Fits}
 use Rattle.indicatif_term.specs.declared.engine.Engine.{Engine}
 use Rattle.indicatif_bar.specs.Trackers.{Tracking}
@@ -21,9 +21,9 @@ use Rattle.indicatif_bar.specs.Lone.{LoneState, LoneCall, Obey, Log, Clear, lone
 use Rattle.indicatif_bar.specs.LoneBars.{LoneIsIn, LoneIsNowhere, lone_bar, LoneLeadsBy, Obeys, ObeysOrNot, RefusesCommand, lone_known, lone_moves, record_of, lone_terminal}
 use Rattle.indicatif_bar.specs.Stages.{IsStaged}
 use Rattle.indicatif_bar.specs.Shown.{PutsFrame, DrewBy, DrewOn, WritesLinesOn}
-use Rattle.indicatif_term.specs.declared.engine.lines.Segment.{Segment}
+use Rattle.indicatif_term.specs.declared.target.lines.Segment.{Segment}
 use Rattle.indicatif_bar.specs.Inside.Writings.{IsLaidOut}
-use Rattle.indicatif_bar.specs.Inside.Obeying.{IsTold, IsToldOrNot}
+use Rattle.indicatif_bar.specs.Inside.Lone.{IsTold, IsToldOrNot}
 use Rattle.indicatif_bar.specs.declared.ask.Ask.{Ask}
 use Rattle.indicatif_bar.specs.declared.ask.Ask.TheVariants.{Forced}
 use Rattle.indicatif_bar.specs.declared.lone.LoneBar.{LoneBar}

@@ -8,7 +8,7 @@ use Rattle.indicatif_text.specs.declared.refusal.Drawn.{Drawn}
 use Rattle.indicatif_text.specs.declared.refusal.Drawn.TheVariants.{Yes, Limited, Hidden}
 use Rattle.indicatif_term.specs.Calls.{TermView}
 use Rattle.indicatif_term.specs.Lists.{Lists, forgotten_lists}
-use Rattle.indicatif_term.specs.Frames.{are_plain, some_wide, is_fault}
+use Rattle.indicatif_term.specs.Lines.{are_plain, some_wide, is_fault}
 use Rattle.indicatif_term.specs.Engines.{engine_term, Fits, Answers, Counted, Paints, is_failure, lists_after}
 use Rattle.indicatif_term.specs.declared.engine.Engine.{Engine}
 use Rattle.indicatif_term.proofs.EngineLemmas.{paints_nothing}

@@ -12,7 +12,7 @@ use Rattle.indicatif_text.specs.Columns.{is_plain}
 use Rattle.indicatif_text.specs.Template.{TemplatePart, LiteralText, LineBreak, KeyText}
 use Rattle.indicatif_term.specs.Calls.{TermView}
 use Rattle.indicatif_term.specs.Lists.{BarLines}
-use Rattle.indicatif_term.specs.Frames.{are_plain, all_lines, text_lines, logged_lines}
+use Rattle.indicatif_term.specs.Lines.{are_plain, all_lines, text_lines, logged_lines}
 use Rattle.indicatif_bar.specs.Machines.{Target, target_of, Machine}
 use Rattle.indicatif_bar.specs.Runs.{Runs, AllPlain, lines_by}
 use Rattle.indicatif_bar.specs.Kinds.{Kind, Writing, Frame, TextAndFrame, NoFrame, lines_to_write}

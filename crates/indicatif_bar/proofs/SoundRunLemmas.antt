@@ -8,7 +8,7 @@ use Rattle.indicatif_text.specs.declared.refusal.Refusal.TheVariants.{NoColumns,
 use Rattle.indicatif_text.specs.declared.refusal.Drawn.{Drawn}
 use Rattle.indicatif_text.specs.declared.refusal.Drawn.TheVariants.{Yes, Limited, Hidden}
 use Rattle.indicatif_term.specs.Calls.{TermView}
-use Rattle.indicatif_term.specs.Frames.{some_wide}
+use Rattle.indicatif_term.specs.Lines.{some_wide}
 use Rattle.indicatif_term.specs.Engines.{is_failure}
 use Rattle.indicatif_bar.specs.Machines.{Target, target_of, Machine, Draw, Deed, AtOnce, Draws, Leads, is_no, drawn_by}
 use Rattle.indicatif_bar.specs.Runs.{Runs, broke, ReadsAfter}

@@ -9,7 +9,7 @@ use Rattle.indicatif_text.specs.declared.refusal.Drawn.TheVariants.{Hidden}
 use Rattle.indicatif_term.specs.Calls.{TermView}
 use Rattle.indicatif_term.specs.Limiters.{Limiter}
 use Rattle.indicatif_term.specs.Lists.{Lists, BarLines, drawn, logged, cleared, opening_lists}
-use Rattle.indicatif_term.specs.Frames.{all_lines, are_plain, is_fault}
+use Rattle.indicatif_term.specs.Lines.{all_lines, are_plain, is_fault}
 use Rattle.indicatif_term.specs.Engines.{engine_moves, engine_term, Fits, Answers, Counted, Paints, is_failure, lists_after}
 use Rattle.indicatif_term.specs.declared.engine.Engine.{Engine}
 use Rattle.indicatif_term.proofs.SomeListsLemmas.{some_fit}

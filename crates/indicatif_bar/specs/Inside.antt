@@ -1,8 +1,8 @@
 -- What only the contracts of private functions cite.
-pub mod Obeying
+pub mod Lone
 pub mod Writings
-pub mod Cells
+pub mod Bars
 pub mod Steps
 pub mod Texts
-pub mod Widths
+pub mod Progress
 pub mod TabbedTexts

@@ -2,7 +2,7 @@
 use Rattle.std.specs.Prelude.{ℕ, Bool, true, false, nat_lt, List, [], ◌++◌, length, drop, Option, Some}
 use Rattle.indicatif_text.specs.declared.refusal.Refusal.{Refusal}
 use Rattle.indicatif_term.specs.Lists.{Lists, BarLines, drawn, logged, cleared}
-use Rattle.indicatif_term.specs.Frames.{all_lines}
+use Rattle.indicatif_term.specs.Lines.{all_lines}
 use Rattle.indicatif_bar.specs.declared.ask.Ask.{Ask}
 use Rattle.indicatif_bar.specs.declared.ask.Ask.TheVariants.{Unforced}
 use Rattle.indicatif_term.specs.Limiters.{Limiter, allow}

@@ -3,7 +3,7 @@ use Rattle.std.specs.Prelude.{◌≡◌, ℕ, ◌≤◌, IsTrue, map, true, fals
 use Rattle.std.specs.Str.{chars}
 use Rattle.indicatif_text.specs.Columns.{rows_of}
 use Rattle.indicatif_text.specs.Template.{Layout, TemplatePart, LiteralText, LineBreak, KeyText}
-use Rattle.indicatif_term.specs.Frames.{are_plain}
+use Rattle.indicatif_term.specs.Lines.{are_plain}
 use Rattle.indicatif_bar.specs.Tabs.{expanded}
 use Rattle.indicatif_bar.specs.Progress.{Progress, shown_message, shown_prefix}
 use Rattle.indicatif_bar.specs.Trackers.{Tracking}

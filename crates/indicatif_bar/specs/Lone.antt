@@ -3,7 +3,7 @@ use Rattle.std.specs.Prelude.{ℕ, Bool, false, ◌&&◌, List, [], ◌∷◌, m
 use Rattle.indicatif_text.specs.declared.refusal.Refusal.{Refusal}
 use Rattle.indicatif_text.specs.declared.refusal.Drawn.{Drawn}
 use Rattle.indicatif_term.specs.Lists.{Lists, BarLines, opening_lists, forgotten_lists}
-use Rattle.indicatif_term.specs.Frames.{text_lines, logged_lines}
+use Rattle.indicatif_term.specs.Lines.{text_lines, logged_lines}
 use Rattle.indicatif_term.specs.Limiters.{Limiter}
 use Rattle.indicatif_bar.specs.Machines.{Target, Machine, Draw, Deed, AtOnce, Draws}
 use Rattle.indicatif_bar.specs.Kinds.{Kind, asked_of, Writing, Frame, TextAndFrame, NoFrame, rows_take, lines_to_write, written_lists}

@@ -1,7 +1,7 @@
 //! The lines of a bar.
 ghost use Rattle.std.specs.Prelude.{◌≡◌, IfOk, IfErr, IsTrue, map};
 ghost use Rattle.std.specs.List.{list_all};
-ghost use Rattle.indicatif_term.specs.Frames.{line_text};
+ghost use Rattle.indicatif_term.specs.Lines.{line_text};
 ghost use Rattle.indicatif_bar.specs.Bars.{lines_of_bar, lines_take_memory, is_bar_line};
 
 use crate::spare::SpareLines;

@@ -4,7 +4,7 @@ ghost use Rattle.indicatif_bar.specs.Measures.{greatest_u64, recorded};
 ghost use Rattle.indicatif_bar.specs.Tabs.{has_tab, is_some_text};
 ghost use Rattle.indicatif_bar.specs.Progress.{Progress, is_finished, is_hidden, fraction, eta, duration, per_sec, elapsed, shown_message, shown_prefix, new_progress, rate_reset, progress_reset, at_end};
 ghost use Rattle.indicatif_bar.specs.Finishes.{finish_as, finished_by, finish_takes_memory};
-ghost use Rattle.indicatif_bar.specs.Inside.Widths.{IsWidened};
+ghost use Rattle.indicatif_bar.specs.Inside.Progress.{IsWidened};
 ghost use Rattle.indicatif_bar.specs.declared.progress.Status.TheVariants.{DoneVisible};
 
 use crate::finish::ProgressFinish;

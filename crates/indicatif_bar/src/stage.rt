@@ -3,7 +3,7 @@
 ghost use Rattle.std.specs.Prelude.{◌≡◌, ◌⊎◌, None, Err, Option, option_map, IsTrue, ◌↔◌, IfOk, IfErr, IfSome, OnErr, false};
 ghost use Rattle.indicatif_term.specs.Limiters.{Limiter};
 ghost use Rattle.indicatif_term.specs.Lists.{Lists, opening_lists};
-ghost use Rattle.indicatif_term.specs.DrawTargets.{term_of, limiter_of};
+ghost use Rattle.indicatif_term.specs.Target.{term_of, limiter_of};
 
 use indicatif_term::target::{Engine, ProgressDrawTarget, RateLimiter, Resize, TermLike};
 use indicatif_text::columns::Refusal;

@@ -7,7 +7,7 @@ use Rattle.indicatif_bar.specs.Commands.{BarRecord}
 use Rattle.indicatif_board.specs.Boards.{Id, Location, End, Index, FromBack, Before, After, Entrant, Insert}
 use Rattle.indicatif_board.specs.Calls.{IsForeign, NamesForeign}
 use Rattle.indicatif_board.specs.Insertions.{HasAnchor, NamesAbsent}
-use Rattle.indicatif_board.specs.Inside.Anchors.{LacksAnchor, LacksBar}
+use Rattle.indicatif_board.specs.Inside.Insertions.{LacksAnchor, LacksBar}
 use Rattle.indicatif_board.specs.Inside.Standing.{StandsAt}
 use Rattle.indicatif_board.specs.Multi.{EntersAbsent, mark_of, record_at}
 use Rattle.indicatif_board.proofs.BarRecordLemmas.{has_record, same_error}

@@ -5,7 +5,7 @@ use Rattle.std.specs.List.{prefix_len, position_or_len, insert, remove}
 use Rattle.std.specs.VecDeque.{deque_len}
 use Rattle.std.proofs.lemmas.Bool.{cases_Bool, eqb-true, eq-eqb, ne_eqb}
 use Rattle.std.proofs.lemmas.List.{length-map}
-use Rattle.indicatif_term.specs.declared.engine.lines.Segment.{Segment}
+use Rattle.indicatif_term.specs.declared.target.lines.Segment.{Segment}
 use Rattle.indicatif_text.specs.declared.refusal.Refusal.{Refusal}
 use Rattle.indicatif_text.specs.declared.refusal.Drawn.{Drawn}
 use Rattle.indicatif_bar.specs.Commands.{BarRecord}

@@ -4,7 +4,7 @@ use Rattle.std.specs.Prelude.{IsFalse, ◌^◌, not, ◌==◌}
 use Rattle.std.proofs.lemmas.Bool.{cond_both}
 use Rattle.indicatif_text.specs.declared.refusal.Refusal.{Refusal}
 use Rattle.indicatif_term.specs.Calls.{TermView}
-use Rattle.indicatif_term.specs.Frames.{text_lines, logged_lines}
+use Rattle.indicatif_term.specs.Lines.{text_lines, logged_lines}
 use Rattle.indicatif_term.specs.Lists.{Lists, fate, kept_of, passed, is_first}
 use Rattle.indicatif_term.specs.declared.target.Keep.{Keep}
 use Rattle.indicatif_term.specs.declared.target.Keep.TheVariants.{Absent, Passed, Behind}

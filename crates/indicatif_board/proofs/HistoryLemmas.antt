@@ -11,7 +11,7 @@ use Rattle.indicatif_text.specs.declared.refusal.Drawn.{Drawn}
 use Rattle.indicatif_text.specs.declared.refusal.Drawn.TheVariants.{Yes, Limited, Hidden}
 use Rattle.indicatif_term.specs.Calls.{TermView}
 use Rattle.indicatif_term.specs.Engines.{is_failure}
-use Rattle.indicatif_term.specs.Frames.{some_wide, text_lines, logged_lines}
+use Rattle.indicatif_term.specs.Lines.{some_wide, text_lines, logged_lines}
 use Rattle.indicatif_term.specs.Lists.{Lists, BarLines, drawn, logged, cleared, passed, fate, kept_of, is_first, live_of_frame, live_height, lists_height, shown_rows}
 use Rattle.indicatif_term.specs.declared.target.Keep.{Keep}
 use Rattle.indicatif_term.specs.declared.target.Keep.TheVariants.{Absent, Passed, Behind}

@@ -4,11 +4,10 @@ use Rattle.std.specs.Prelude.{◌==◌, ◌≢◌}
 use Rattle.std.specs.List.{prefix_len, position_or_len, insert, remove}
 use Rattle.std.proofs.lemmas.Bool.{cases_Bool, eq-eqb, ne_eqb}
 use Rattle.indicatif_term.specs.Lists.{Lists, BarLines}
-use Rattle.indicatif_term.specs.Frames.{bar_lines}
+use Rattle.indicatif_term.specs.Lines.{bar_lines, line_text}
 use Rattle.indicatif_term.specs.Limiters.{Limiter}
-use Rattle.indicatif_term.specs.declared.engine.lines.Segment.{Segment}
-use Rattle.indicatif_term.specs.Frames.{line_text}
-use Rattle.indicatif_term.specs.declared.engine.lines.LineType.{LineType}
+use Rattle.indicatif_term.specs.declared.target.lines.Segment.{Segment}
+use Rattle.indicatif_term.specs.declared.target.lines.LineType.{LineType}
 use Rattle.std.proofs.lemmas.Simd.{map-map}
 use Rattle.std.proofs.lemmas.List.{length-map}
 use Rattle.indicatif_bar.specs.Trackers.{Tracking}
@@ -19,7 +18,7 @@ use Rattle.indicatif_board.specs.Boards.{BoardState, Id, Location, index_of, tak
 use Rattle.indicatif_text.specs.declared.refusal.Refusal.TheVariants.{ForeignBar, NotMember}
 use Rattle.indicatif_board.specs.Members.{Member, place_of, leaders, frame_of, order_of, changed_at, new_member, is_member, without, said_of}
 use Rattle.indicatif_board.specs.ShownBars.{Holds}
-use Rattle.indicatif_board.specs.Inside.Named.{HasPlace, named_laid_out, named_layout_takes}
+use Rattle.indicatif_board.specs.Inside.ShownBars.{HasPlace, named_laid_out, named_layout_takes}
 use Rattle.indicatif_board.specs.declared.members.Member.{Member as MemberValue}
 
 -- a member without its number and lines

@@ -5,7 +5,7 @@ use Rattle.std.specs.List.{insert, remove, range_with_len}
 use Rattle.std.proofs.lemmas.Bool.{cases_lt, cond_both}
 use Rattle.indicatif_text.specs.declared.refusal.Refusal.{Refusal}
 use Rattle.indicatif_text.specs.declared.refusal.Refusal.TheVariants.{Memory}
-use Rattle.indicatif_term.specs.Frames.{text_lines, logged_lines}
+use Rattle.indicatif_term.specs.Lines.{text_lines, logged_lines}
 use Rattle.indicatif_term.specs.Limiters.{Limiter}
 use Rattle.indicatif_term.specs.Lists.{fate}
 use Rattle.indicatif_term.specs.declared.target.Keep.{Keep}

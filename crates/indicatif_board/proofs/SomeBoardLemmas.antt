@@ -1,8 +1,8 @@
 -- Every board is in some state.
 use Rattle.std.proofs.Common.{◌≡◌, List, [], ◌∷◌, map, length, refl, ap, arith}
-use Rattle.indicatif_term.specs.Frames.{bar_lines}
-use Rattle.indicatif_term.specs.DrawTargets.{is_bottom}
-use Rattle.indicatif_term.specs.declared.engine.lines.Segment.{Segment}
+use Rattle.indicatif_term.specs.Lines.{bar_lines}
+use Rattle.indicatif_term.specs.Target.{is_bottom}
+use Rattle.indicatif_term.specs.declared.target.lines.Segment.{Segment}
 use Rattle.indicatif_bar.proofs.StageLemmas.{some_staged}
 use Rattle.indicatif_bar.specs.Commands.{BarRecord}
 use Rattle.indicatif_board.specs.Boards.{BoardState}

@@ -11,14 +11,14 @@ use Rattle.unicode_width.specs.declared.kind.Kind.TheVariants as kinds
 use Rattle.unicode_width.specs.Width.{alone, char_width, of_kind, single}
 use Rattle.unicode_width.specs.Kind.{kind}
 use Rattle.indicatif_text.specs.Columns.{width_of, visible, has_wide, rows_of, is_plain}
-use Rattle.indicatif_term.specs.Frames.{all_lines, are_plain, bar_lines, some_wide}
+use Rattle.indicatif_term.specs.Lines.{all_lines, are_plain, bar_lines, some_wide}
 use Rattle.indicatif_text.specs.declared.refusal.Refusal.{Refusal}
 use Rattle.indicatif_text.specs.declared.refusal.Refusal.TheVariants.{NoColumns, TooWide, Terminal, Memory, ZeroRate, FewTicks, FewProgressChars, UnequalWidths, ZeroWidthChars, Template, WidthTooLarge, ForeignBar, NotMember, ElapsedBeyondClock, ZeroSize, ZeroPieces, RecordedTarget}
 use Rattle.indicatif_term.specs.Calls.{TermView}
 use Rattle.indicatif_term.specs.Engines.{engine_term, Answers, Fits, Paints, is_failure, lists_after}
 use Rattle.indicatif_term.specs.Lists.{Lists, BarLines, BarRows, lines_of, fitting, grouped, shown_rows, segments_height, live_height, blanks_for, live_of_frame, passed, settled, rested, drawn, logged}
 use Rattle.indicatif_term.specs.declared.engine.Engine.{Engine}
-use Rattle.indicatif_term.specs.declared.engine.lines.Segment.{Segment}
+use Rattle.indicatif_term.specs.declared.target.lines.Segment.{Segment}
 use Rattle.indicatif_bar.specs.Machines.{Target, target_of}
 use Rattle.indicatif_bar.specs.Kinds.{Writing, Frame, TextAndFrame, NoFrame, has_line, lines_to_write, rows_take, written_lists}
 use Rattle.indicatif_bar.specs.Shown.{PutsFrame}

@@ -8,7 +8,7 @@ use Rattle.indicatif_text.specs.declared.refusal.Drawn.TheVariants.{Limited}
 use Rattle.indicatif_term.specs.Lists.{Lists, opening_lists, forgotten_lists, fate, kept_of}
 use Rattle.indicatif_term.specs.declared.target.Keep.{Keep}
 use Rattle.indicatif_term.specs.declared.target.Keep.TheVariants.{Behind}
-use Rattle.indicatif_term.specs.Frames.{text_lines, logged_lines}
+use Rattle.indicatif_term.specs.Lines.{text_lines, logged_lines}
 use Rattle.indicatif_term.specs.Limiters.{Limiter}
 use Rattle.indicatif_bar.specs.Machines.{Target, Machine, Draw, Deed, AtOnce, Draws}
 use Rattle.indicatif_bar.specs.Kinds.{Kind, asked_of, Writing, Frame, TextAndFrame, NoFrame, rows_take, lines_to_write, written_lists}

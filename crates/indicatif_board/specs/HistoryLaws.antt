@@ -5,7 +5,7 @@ use Rattle.indicatif_text.specs.Columns.{Cell, rows_of}
 use Rattle.indicatif_text.specs.declared.refusal.Drawn.TheVariants.{Yes}
 use Rattle.indicatif_term.specs.Calls.{TermView}
 use Rattle.indicatif_term.specs.Engines.{is_failure}
-use Rattle.indicatif_term.specs.Frames.{text_lines, logged_lines}
+use Rattle.indicatif_term.specs.Lines.{text_lines, logged_lines}
 use Rattle.indicatif_term.specs.Limiters.{burst, draw_limiter}
 use Rattle.indicatif_term.specs.Lists.{opening_lists, all_rows}
 use Rattle.indicatif_term.specs.Screen.{Screen}

@@ -1,7 +1,7 @@
 -- What only the contracts of private functions cite.
-pub mod Named
-pub mod Parting
+pub mod ShownBars
+pub mod Leaving
 pub mod Standing
-pub mod Anchors
+pub mod Insertions
 pub mod Calls
 pub mod InWindow

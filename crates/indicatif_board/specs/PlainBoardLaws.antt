@@ -1,7 +1,7 @@
 -- Runs of a board whose texts are plain: of characters with a width and colour sequences. Texts are lists of bytes in UTF-8.
 use Rattle.std.specs.Prelude.{ℕ, IsTrue, List, All, Option}
 use Rattle.indicatif_term.specs.Calls.{TermView}
-use Rattle.indicatif_term.specs.Frames.{are_plain, logged_lines}
+use Rattle.indicatif_term.specs.Lines.{are_plain, logged_lines}
 use Rattle.indicatif_bar.specs.Trackers.{Tracking}
 use Rattle.indicatif_bar.specs.StyleLaws.{IsPlainText}
 use Rattle.indicatif_bar.specs.Commands.{BarRecord, Command}

@@ -1,8 +1,8 @@
 -- The bars of a board as they are shown: members, numbers and lines agree with a state.
 use Rattle.std.specs.Prelude.{◌≡◌, ℕ, Bool, IsTrue, ◌==◌, List, ◌∷◌, map, Option, Some, None, is_some, if◌then◌else◌}
-use Rattle.indicatif_term.specs.Frames.{bar_lines}
-use Rattle.indicatif_term.specs.DrawTargets.{is_bottom}
-use Rattle.indicatif_term.specs.declared.engine.lines.Segment.{Segment}
+use Rattle.indicatif_term.specs.Lines.{bar_lines}
+use Rattle.indicatif_term.specs.Target.{is_bottom}
+use Rattle.indicatif_term.specs.declared.target.lines.Segment.{Segment}
 use Rattle.indicatif_bar.specs.Commands.{BarRecord}
 use Rattle.indicatif_board.specs.Members.{frame_of}
 use Rattle.indicatif_board.specs.Boards.{BoardState}

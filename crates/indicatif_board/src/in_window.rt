@@ -1,7 +1,7 @@
 //! The bars of a board that its terminal may have rows for, and how they are put there.
 ghost use Rattle.std.specs.Prelude.{◌≡◌, ◌⊎◌, ◌≤◌, Bool, Result, map, min, take, length};
-ghost use Rattle.indicatif_term.specs.Frames.{all_lines, bar_lines};
-ghost use Rattle.indicatif_term.specs.DrawTargets.{is_bottom};
+ghost use Rattle.indicatif_term.specs.Lines.{all_lines, bar_lines};
+ghost use Rattle.indicatif_term.specs.Target.{is_bottom};
 ghost use Rattle.indicatif_term.specs.declared.engine.Engine.{Engine};
 ghost use Rattle.indicatif_bar.specs.Shown.{PutsFrame};
 ghost use Rattle.indicatif_bar.specs.Stages.{writing_as};

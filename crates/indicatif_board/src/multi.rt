@@ -9,7 +9,7 @@
 ghost use Rattle.std.specs.Prelude.{◌≡◌, ◌≢◌, ◌==◌, ◌↔◌, ◌⊎◌, ◌<◌, ◌∷◌, [], ℕ, Bool, Option, Some, None, Ok, Err, is_some, false, option_map, IsTrue, IsFalse, IfOk, IfErr, IfSome, MatchResult, OnErr, if◌then◌else◌};
 ghost use Rattle.std.specs.VecDeque.{deque_len};
 ghost use Rattle.indicatif_term.specs.Lists.{opening_lists};
-ghost use Rattle.indicatif_term.specs.DrawTargets.{is_bottom, term_of, limiter_of};
+ghost use Rattle.indicatif_term.specs.Target.{is_bottom, term_of, limiter_of};
 ghost use Rattle.indicatif_bar.specs.Commands.{BarRecord, command_as, command_of, is_beyond_clock};
 ghost use Rattle.indicatif_bar.specs.Machines.{target_of};
 ghost use Rattle.indicatif_bar.specs.Runs.{wrote};
@@ -20,7 +20,7 @@ ghost use Rattle.indicatif_board.specs.Boards.{BoardState, Tell, Log, BarLog, Cl
 ghost use Rattle.indicatif_board.specs.BoardValues.{id_of};
 ghost use Rattle.indicatif_board.specs.Members.{order_of, said_of};
 ghost use Rattle.indicatif_board.specs.Slots.{slot_of, occurrences, IsSeated};
-ghost use Rattle.indicatif_board.specs.Inside.Named.{HasPlace, named_laid_out, named_layout_takes};
+ghost use Rattle.indicatif_board.specs.Inside.ShownBars.{HasPlace, named_laid_out, named_layout_takes};
 ghost use Rattle.indicatif_board.specs.Inside.Standing.{is_of_draw, StandsAt};
 
 mod insertions;
@@ -78,8 +78,7 @@ impl<K: Drop, T: Drop> Drop for Board<K, T> {
 }
 
 impl<K: Tracks, T: TermLike + Drop> Board<K, T> {
-    ghost use Rattle.indicatif_board.specs.Multi.{IsIn, IsNowhere, Keeps, mark_of, record_at, RecordsStay, OtherRecordsStay, RecordObeys};
-    ghost use Rattle.indicatif_board.specs.Multi.{SlotsLeft, HeadHasRecord, LeadsBy, Suspends, known, moves_of, slots_of, terminal_of};
+    ghost use Rattle.indicatif_board.specs.Multi.{IsIn, IsNowhere, Keeps, mark_of, record_at, RecordsStay, OtherRecordsStay, RecordObeys, SlotsLeft, HeadHasRecord, LeadsBy, Suspends, known, moves_of, slots_of, terminal_of};
 
     /// A board without bars on this target, with this mark. It takes no memory and writes nothing.
     pub fn new(alloc: Global, target: ProgressDrawTarget<T>, mark: u64) -> Self

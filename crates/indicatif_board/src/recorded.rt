@@ -1,7 +1,7 @@
 //! A board with its history.
 ghost use Rattle.std.specs.Prelude.{◌≡◌, ◌⊎◌, ℕ, Option, IsTrue, [], map, option_map};
 ghost use Rattle.indicatif_term.specs.Calls.{TermView};
-ghost use Rattle.indicatif_term.specs.DrawTargets.{term_of, limiter_of};
+ghost use Rattle.indicatif_term.specs.Target.{term_of, limiter_of};
 ghost use Rattle.indicatif_bar.specs.Commands.{BarRecord};
 ghost use Rattle.indicatif_bar.specs.Machines.{target_of};
 ghost use Rattle.indicatif_board.specs.Boards.{BoardState, Refused};

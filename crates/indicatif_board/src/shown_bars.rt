@@ -1,7 +1,7 @@
 //! The bars of a board with the lines that they show, and how these are laid out.
 ghost use Rattle.std.specs.Prelude.{◌≡◌, ◌<◌, ◌≤◌, ◌^◌, MatchResult, ℕ, Option, Some, None, Ok, false, IsTrue, map, IfSome, IfOk, IfErr, OnErr};
 ghost use Rattle.std.specs.VecDeque.{deque_len};
-ghost use Rattle.indicatif_term.specs.Frames.{line_text};
+ghost use Rattle.indicatif_term.specs.Lines.{line_text};
 ghost use Rattle.indicatif_term.specs.Limiters.{Limiter};
 ghost use Rattle.indicatif_bar.specs.Bars.{lines_of_bar, lines_take_memory};
 ghost use Rattle.indicatif_bar.specs.Commands.{BarRecord};
@@ -9,7 +9,7 @@ ghost use Rattle.indicatif_bar.specs.Machines.{Target};
 ghost use Rattle.indicatif_board.specs.Boards.{BoardState, Location, opening_board, index_of, taken_in, ownerless_on};
 ghost use Rattle.indicatif_board.specs.Members.{place_of, without, is_head, said_of};
 ghost use Rattle.indicatif_board.specs.Slots.{next_slot, seated, slot_of, unseated};
-ghost use Rattle.indicatif_board.specs.Inside.Named.{HasPlace, named_laid_out, named_layout_takes};
+ghost use Rattle.indicatif_board.specs.Inside.ShownBars.{HasPlace, named_laid_out, named_layout_takes};
 
 use crate::members::{Seated, queue_at, take_at};
 use crate::slots::MultiState;

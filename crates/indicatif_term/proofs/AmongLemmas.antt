@@ -2,8 +2,8 @@
 use Rattle.std.proofs.Common.{min, ◌≡◌, ℕ, Bool, true, false, List, [], ◌∷◌, ◌++◌, replicate, refl, ◌∙◌, ap, append-nil, if◌then◌else◌}
 use Rattle.std.specs.Prelude.{◌&&◌, ◌==◌}
 use Rattle.std.proofs.lemmas.Bool.{and_parts, eqb-true}
-use Rattle.indicatif_term.specs.Inside.Bytes.{back_bytes, lines_bytes}
-use Rattle.indicatif_term.specs.Inside.Changes.{PlacedLine, placed_lines, frame_bytes, all_stay, ending, ended, among_bytes, free_behind}
+use Rattle.indicatif_term.specs.Inside.MoveBytes.{back_bytes, lines_bytes}
+use Rattle.indicatif_term.specs.Inside.Changing.{PlacedLine, placed_lines, frame_bytes, all_stay, ending, ended, among_bytes, free_behind}
 use Rattle.indicatif_term.specs.Inside.Fills.{last_of}
 
 -- rows taken back, and lines above them

@@ -10,7 +10,7 @@ use Rattle.std.proofs.lemmas.Str.{chars-nil}
 use Rattle.std.proofs.Math.Seq.{map-set_same}
 use Rattle.indicatif_text.specs.Columns.{Cell, has_wide, rows_of, last_columns}
 use Rattle.indicatif_term.specs.Shows.{look, looks_of}
-use Rattle.indicatif_term.specs.Inside.Changes.{placed_height, Becomes, Ends, Sits, AreSitting}
+use Rattle.indicatif_term.specs.Inside.Changing.{placed_height, Becomes, Ends, Sits, AreSitting}
 use Rattle.indicatif_term.specs.Inside.Inks.{IsRead}
 use Rattle.indicatif_term.proofs.InkLemmas.{plain_read}
 use Rattle.indicatif_term.specs.declared.engine.comparing.Step.{Step}
@@ -18,8 +18,8 @@ use Rattle.indicatif_term.specs.Inside.Parting.{IsReady}
 use Rattle.indicatif_term.specs.Standing.{placed_of, placed, texts, standing_rows, IsLine, AreLines, AreReady}
 use Rattle.indicatif_term.specs.Inside.Layouts.{AreWhole}
 use Rattle.indicatif_term.specs.declared.engine.comparing.Step.TheVariants.{Whole}
-use Rattle.indicatif_term.specs.Frames.{line_text}
-use Rattle.indicatif_term.specs.declared.engine.lines.LineType.{LineType}
+use Rattle.indicatif_term.specs.Lines.{line_text}
+use Rattle.indicatif_term.specs.declared.target.lines.LineType.{LineType}
 use Rattle.indicatif_term.specs.declared.engine.remembered.StandingLine.{StandingLine}
 use Rattle.indicatif_term.proofs.MeasureLemmas.{empty_narrow}
 use Rattle.indicatif_term.proofs.LineEndLemmas.{one_row, nothing_ends_at}

@@ -11,7 +11,7 @@ use Rattle.std.proofs.lemmas.Str.{encode_ascii}
 use Rattle.indicatif_text.specs.Columns.{Cell, visible, glyphs_of, pieces_of, row_of, rows_of, blank_row, is_parameter, columns_of_last}
 use Rattle.indicatif_term.specs.Screen.{Screen, Op, Put, Return, LineFeed, Up, EmptyRow, performed, with_row}
 use Rattle.indicatif_term.specs.Terminal.{OutsideSequence, Sequence, Reader, idle, after, is_digit, number_with, GREATEST, sequence_op}
-use Rattle.indicatif_term.specs.Inside.Reading.{performed_all, reader_after}
+use Rattle.indicatif_term.specs.Inside.Scanners.{performed_all, reader_after}
 use Rattle.indicatif_term.specs.Feeding.{ops_of}
 use Rattle.indicatif_term.specs.Calls.{clear_bytes, move_bytes}
 use Rattle.indicatif_term.specs.Shows.{resting}

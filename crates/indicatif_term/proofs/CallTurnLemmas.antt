@@ -9,7 +9,7 @@ use Rattle.std.proofs.lemmas.Bool.Decides.{nat_tests}
 use Rattle.indicatif_term.specs.Terminal.{after}
 use Rattle.indicatif_term.proofs.FeedLemmas.{after-append}
 use Rattle.indicatif_term.specs.Calls.{Told, State, Bytes, Nothing, is_told, led_on, TermView, LeadsOn, BreaksOff, Writes, clear_bytes, move_bytes}
-use Rattle.indicatif_term.specs.Inside.Bytes.{lines_bytes, next_row, rows_down, reach_bytes, back_bytes}
+use Rattle.indicatif_term.specs.Inside.MoveBytes.{lines_bytes, next_row, rows_down, reach_bytes, back_bytes}
 
 pub led_on-append : (told : Told) (a b : List ℕ) → led_on (led_on told a) b ≡ led_on told (a ++ b)
 led_on-append (State t) a b = ap State (sym (after-append t a b))

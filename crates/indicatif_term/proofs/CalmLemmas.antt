@@ -18,17 +18,15 @@ use Rattle.indicatif_text.proofs.WidthLemmas.{plain_width}
 use Rattle.indicatif_term.specs.Calls.{UP, DOWN, RIGHT, move_bytes, clear_bytes, anew_bytes}
 use Rattle.indicatif_term.specs.Calm.{Stroke, Character, Colours, Move, Empty, stroke_bytes, IsCalm, AreCalm, Calmly}
 use Rattle.indicatif_term.specs.Inside.Inks.{RESET, AreColours}
-use Rattle.indicatif_term.specs.Inside.Edits.{Edit, Stay, Write, Close, Open, IsNarrowChar, IsWritable, edit_bytes, row_bytes}
-use Rattle.indicatif_term.specs.Inside.Bytes.{next_row, rows_down, back_bytes, reach_bytes, lines_bytes}
-use Rattle.indicatif_term.proofs.PaintingLemmas.{paint_bytes}
-use Rattle.indicatif_term.specs.Inside.Changes.{Change, Leave, Within, Whole, PlacedLine, placed_height, placed_lines, emptied_bytes, step_bytes, step_down, walk_bytes, frame_bytes, filled_whole, ending_by, ending, AreSitting, Becomes, all_stay, free_behind}
+use Rattle.indicatif_term.specs.Inside.RowEdits.{Edit, Stay, Write, Close, Open, IsNarrowChar, IsWritable, edit_bytes, row_bytes}
+use Rattle.indicatif_term.specs.Inside.MoveBytes.{next_row, rows_down, back_bytes, reach_bytes, lines_bytes}
+use Rattle.indicatif_term.proofs.PaintingLemmas.{paint_bytes, IsDrawable, AreDrawable}
+use Rattle.indicatif_term.specs.Inside.Changing.{Change, Leave, Within, Whole, PlacedLine, placed_height, placed_lines, emptied_bytes, step_bytes, step_down, walk_bytes, frame_bytes, filled_whole, ending_by, ending, AreSitting, Becomes, all_stay, free_behind, ends_plainly}
 use Rattle.indicatif_term.proofs.AmongLemmas.{rewrite_bytes, change_bytes}
 use Rattle.indicatif_term.specs.Inside.Fills.{last_of}
-use Rattle.indicatif_term.specs.Inside.Changes.{ends_plainly}
 use Rattle.indicatif_term.proofs.ColourLemmas.{sequence_colours, reset_is}
 use Rattle.indicatif_term.proofs.GlyphLemmas.{some_width}
 use Rattle.indicatif_term.proofs.LastCharLemmas.{narrow_char}
-use Rattle.indicatif_term.proofs.PaintingLemmas.{IsDrawable, AreDrawable}
 use Rattle.indicatif_term.proofs.PartingLemmas.{space_one}
 
 -- ---- strokes

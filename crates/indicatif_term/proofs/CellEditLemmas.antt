@@ -7,12 +7,12 @@ use Rattle.std.proofs.lemmas.Bool.{le-ltb, le-leb, ne_eqb}
 use Rattle.unicode_width.specs.Width.{char_width}
 use Rattle.indicatif_text.specs.Columns.{Cell, Blank, Written, Continued, width_of, glyph_cells}
 use Rattle.indicatif_term.specs.Screen.{Op, Put, Right, performed, put_sized, written_at, emptied_front, cursor_row}
-use Rattle.indicatif_term.specs.Inside.Reading.{performed_all}
+use Rattle.indicatif_term.specs.Inside.Scanners.{performed_all}
 use Rattle.indicatif_term.specs.Terminal.{GREATEST}
 use Rattle.indicatif_term.proofs.ScreenRowLemmas.{made, same_screen}
 use Rattle.indicatif_term.proofs.GlyphLemmas.{some_width}
 use Rattle.indicatif_term.proofs.FeedLemmas.{performed_all-append}
-use Rattle.indicatif_term.specs.Inside.Edits.{Edit, Stay, Write, Close, Open, IsOwn, AreOwn, edit_columns, narrow, edited, edit_gap}
+use Rattle.indicatif_term.specs.Inside.RowEdits.{Edit, Stay, Write, Close, Open, IsOwn, AreOwn, edit_columns, narrow, edited, edit_gap}
 
 -- what is written takes a column
 abbrev pub IsNarrow : Edit → Type 0

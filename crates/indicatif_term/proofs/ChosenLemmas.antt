@@ -5,25 +5,24 @@ use Rattle.std.proofs.lemmas.List.{length-map, take_all}
 use Rattle.indicatif_term.specs.Shows.{looks_of}
 use Rattle.indicatif_term.specs.Lists.{Lists, live_rows, drawn, blanks_for}
 use Rattle.indicatif_term.specs.Counts.{CountsOf}
-use Rattle.indicatif_term.specs.Frames.{bar_lines, all_lines, are_plain, some_wide}
+use Rattle.indicatif_term.specs.Lines.{bar_lines, all_lines, are_plain, some_wide}
 use Rattle.indicatif_term.specs.Remembered.{AreRemembered}
 use Rattle.indicatif_term.specs.Standing.{placed_of, placed, texts, AreLines, AreReady}
-use Rattle.indicatif_term.specs.Inside.Bytes.{reach_bytes}
+use Rattle.indicatif_term.specs.Inside.MoveBytes.{reach_bytes}
 use Rattle.indicatif_term.proofs.PaintingLemmas.{paint_bytes}
-use Rattle.indicatif_term.specs.Inside.Changes.{AreSitting, free_behind, placed_height}
+use Rattle.indicatif_term.specs.Inside.Changing.{AreSitting, free_behind, placed_height, moved_bytes, AreEven}
 use Rattle.indicatif_term.specs.Inside.Fills.{last_of}
-use Rattle.indicatif_term.specs.Inside.Moves.{moved_bytes, AreEven}
 use Rattle.indicatif_term.specs.Inside.Places.{IsWithin}
 use Rattle.indicatif_term.specs.Inside.Plans.{frame_lines, IsPlan}
-use Rattle.indicatif_term.specs.Inside.Reached.{IsFresh}
-use Rattle.indicatif_term.specs.Inside.Remembering.{CanMove, HasRoom, Stands}
+use Rattle.indicatif_term.specs.Inside.Counts.{IsFresh}
+use Rattle.indicatif_term.specs.Inside.Remembered.{CanMove, HasRoom, Stands}
 use Rattle.indicatif_term.specs.Inside.Writings.{writing_bytes, CanWrite, IsOver, IsAmong, IsChosen}
 use Rattle.indicatif_term.specs.declared.engine.beside.Room.{Room}
 use Rattle.indicatif_term.specs.declared.engine.counts.Counts.{Counts}
 use Rattle.indicatif_term.specs.declared.engine.counts.Fresh.{Fresh}
 use Rattle.indicatif_term.specs.declared.engine.layout.Laid.{Laid}
 use Rattle.indicatif_term.specs.declared.engine.layout.Plan.{Plan}
-use Rattle.indicatif_term.specs.declared.engine.lines.Segment.{Segment}
+use Rattle.indicatif_term.specs.declared.target.lines.Segment.{Segment}
 use Rattle.indicatif_term.specs.declared.engine.comparing.Step.TheVariants.{Leave}
 use Rattle.indicatif_term.specs.declared.engine.remembered.Remembered.{Remembered}
 use Rattle.indicatif_term.specs.declared.engine.remembered.Span.{Span}

@@ -4,8 +4,8 @@ use Rattle.std.specs.Prelude.{IsTrue}
 use Rattle.std.specs.List.{AllByRecursion}
 use Rattle.indicatif_text.specs.Columns.{Cell, rows_of}
 use Rattle.indicatif_term.specs.Inside.Inks.{NONE, Inked, characters, padded}
-use Rattle.indicatif_term.specs.Inside.Edits.{Edit, Turns, IsNarrowChar, edit_columns, plan}
-use Rattle.indicatif_term.specs.Inside.Changes.{Becomes, Ends, Within}
+use Rattle.indicatif_term.specs.Inside.RowEdits.{Edit, Turns, IsNarrowChar, edit_columns, plan}
+use Rattle.indicatif_term.specs.Inside.Changing.{Becomes, Ends, Within}
 use Rattle.indicatif_term.specs.Inside.Parting.{Parted, HasPart, IsTurned, tail, cells_at, part_edits}
 use Rattle.indicatif_term.specs.declared.engine.comparing.Stretch.{Stretch}
 use Rattle.indicatif_term.specs.declared.engine.comparing.Step.TheVariants as steps

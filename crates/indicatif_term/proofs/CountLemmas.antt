@@ -10,7 +10,7 @@ use Rattle.indicatif_text.specs.Columns.{blank_row, rows_of}
 use Rattle.indicatif_term.specs.declared.engine.layout.Plan.{Plan}
 use Rattle.indicatif_term.specs.declared.engine.counts.Counts.{Counts}
 use Rattle.indicatif_term.specs.Counts.{CountsOf}
-use Rattle.indicatif_term.specs.Inside.Counted.{SettledCounts}
+use Rattle.indicatif_term.specs.Inside.Counts.{SettledCounts}
 use Rattle.indicatif_term.specs.Inside.Plans.{IsPlan, text_height}
 use Rattle.indicatif_term.proofs.OwnedLemmas.{passing_none, passing_some, passing_height}
 use Rattle.indicatif_term.specs.Lists.{Lists, Live, BarRows, BarLines, settled, rested, passed, cleared, drawn, logged, lists_height, live_height, segments_height, live_rows, all_rows, live_of_frame, shown_rows, blanks_for}

@@ -1,11 +1,10 @@
 -- What the bytes of edits ask of a screen.
 use Rattle.std.proofs.Common.{ℕ, zero, suc, ◌+◌, ◌≤◌, true, false, ◌≡◌, ◌∙◌, List, [], ◌∷◌, ◌++◌, map, refl, sym, ap, subst, arith, append-nil, is_some}
 use Rattle.std.specs.List.{AllByRecursion}
-use Rattle.std.proofs.Math.Utf8.{encode, encodes}
+use Rattle.std.proofs.Math.Utf8.{encode, encodes, scalars}
 use Rattle.std.proofs.lemmas.Str.{IsUtf8-from_ascii, chars-IsAscii, encodes-IsAscii, scalars-chars}
 use Rattle.std.proofs.lemmas.List.Elements.{All-from_recursion}
 use Rattle.unicode_width.specs.Width.{char_width}
-use Rattle.std.proofs.Math.Utf8.{scalars}
 use Rattle.indicatif_text.specs.Columns.{visible}
 use Rattle.indicatif_text.proofs.ColourSequenceLemmas.{visible_none}
 use Rattle.indicatif_term.proofs.ColourLemmas.{reset_is}
@@ -18,7 +17,7 @@ use Rattle.indicatif_term.proofs.CallLemmas.{Asks, text_asks}
 use Rattle.indicatif_term.proofs.MoveLemmas.{asks_append, right_asks}
 use Rattle.indicatif_term.proofs.RowsAboveLemmas.{IsLevel}
 use Rattle.indicatif_term.specs.Inside.Inks.{RESET, AreColours}
-use Rattle.indicatif_term.specs.Inside.Edits.{Edit, Stay, Write, Close, Open, IsWritable, edit_columns, edit_bytes}
+use Rattle.indicatif_term.specs.Inside.RowEdits.{Edit, Stay, Write, Close, Open, IsWritable, edit_columns, edit_bytes}
 use Rattle.indicatif_term.proofs.CellEditLemmas.{IsNarrow, right_ops, edit_ops}
 
 pub are_narrow : (es : List Edit) → AllByRecursion IsWritable es → AllByRecursion IsNarrow es

@@ -11,7 +11,7 @@ use Rattle.indicatif_term.specs.Screen.{is_continued}
 use Rattle.indicatif_term.specs.Shows.{look}
 use Rattle.indicatif_term.proofs.GlyphLemmas.{length_cells, columns_push}
 use Rattle.indicatif_term.proofs.WrittenLineLemmas.{joiners_before, joiners_before-cons, has_no_width}
-use Rattle.indicatif_term.specs.Inside.Edits.{Edit, Stay, Write, Close, Open, IsOwn, edit_columns, narrow, edited, Renews, Lead, filled, Tails, Turns}
+use Rattle.indicatif_term.specs.Inside.RowEdits.{Edit, Stay, Write, Close, Open, IsOwn, edit_columns, narrow, edited, Renews, Lead, filled, Tails, Turns}
 use Rattle.indicatif_term.proofs.CellEditLemmas.{narrow_cells}
 
 abbrev pub IsOne : ℕ → Type 0

@@ -9,7 +9,7 @@ use Rattle.std.proofs.lemmas.Slice.Eq.{bytes_eq-Decides}
 use Rattle.unicode_width.specs.Width.{char_width}
 use Rattle.indicatif_text.specs.Columns.{visible}
 use Rattle.indicatif_term.specs.Inside.Inks.{Painted, in_colours, Ink, NONE, colours_of, same_ink, Inked, in_ink, is_alike, as_painted, characters, padded, AreColours}
-use Rattle.indicatif_term.specs.Inside.Edits.{Edit, Write, IsNarrowChar, IsWritable, edit_columns, edit_gap, filled, Lead, Tails, Turns, closed, opened, recoloured, plan, repainted, edit_colours}
+use Rattle.indicatif_term.specs.Inside.RowEdits.{Edit, Write, IsNarrowChar, IsWritable, edit_columns, edit_gap, filled, Lead, Tails, Turns, closed, opened, recoloured, plan, repainted, edit_colours}
 use Rattle.indicatif_term.proofs.InkLemmas.{CanBeOpened, none_opens, upon, padded_length, padded_characters}
 
 is_space : IsNarrowChar 0x20

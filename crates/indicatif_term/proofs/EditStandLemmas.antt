@@ -3,7 +3,7 @@ use Rattle.std.proofs.Common.{◌≡◌, ℕ, ◌+◌, ◌-◌, ◌≤◌, Bool,
 use Rattle.std.proofs.lemmas.List.{length-take-le, length-drop}
 use Rattle.indicatif_text.specs.Columns.{Cell, blank_row}
 use Rattle.indicatif_term.specs.Screen.{Screen, Return}
-use Rattle.indicatif_term.specs.Inside.Reading.{performed_all}
+use Rattle.indicatif_term.specs.Inside.Scanners.{performed_all}
 use Rattle.indicatif_term.specs.Terminal.{Terminal, GREATEST, after}
 use Rattle.indicatif_term.specs.Shows.{resting}
 use Rattle.indicatif_term.proofs.CursorRowLemmas.{Stands, IsBelow}
@@ -12,7 +12,7 @@ use Rattle.indicatif_term.proofs.CallLemmas.{Asks, after_asks}
 use Rattle.indicatif_term.proofs.MoveLemmas.{asks_append, return_asks}
 use Rattle.indicatif_term.proofs.RowsAboveLemmas.{Keeps, keeps, kept_level}
 use Rattle.indicatif_term.proofs.TerminalStepLemmas.{StandsAfter, over, screen_of, over_length, leads_from, window}
-use Rattle.indicatif_term.specs.Inside.Edits.{Edit, edit_columns, edit_bytes, edit_gap, row_bytes, edited_row, Renews}
+use Rattle.indicatif_term.specs.Inside.RowEdits.{Edit, edit_columns, edit_bytes, edit_gap, row_bytes, edited_row, Renews}
 use Rattle.indicatif_term.proofs.CellEditLemmas.{edit_ops, edits_put}
 use Rattle.indicatif_term.proofs.EditByteLemmas.{edits_ask, edits_level, are_narrow}
 

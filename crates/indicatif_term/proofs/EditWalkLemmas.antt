@@ -15,8 +15,8 @@ use Rattle.indicatif_term.proofs.TerminalStepLemmas.{StandsAfter, rows_some}
 use Rattle.indicatif_term.proofs.PaintingLemmas.{IsDrawable, AreDrawable, restand, relead, nothing_leads, leads_then, rises}
 use Rattle.indicatif_term.proofs.SkipStepLemmas.{unfronted, falls, changed_leads, changed_column}
 use Rattle.indicatif_term.proofs.DrawingLemmas.{looks_split}
-use Rattle.indicatif_term.specs.Inside.Edits.{Edit, row_bytes, edited_row, Renews}
-use Rattle.indicatif_term.specs.Inside.Changes.{changed_bytes, Change, Leave, Within, Whole, PlacedLine, step_bytes, step_down, walk_bytes, walk_down, placed_height, placed_lines, frame_bytes, Fits, Becomes, Sits, AreSitting, Ends, step_rows, walk_rows}
+use Rattle.indicatif_term.specs.Inside.RowEdits.{Edit, row_bytes, edited_row, Renews}
+use Rattle.indicatif_term.specs.Inside.Changing.{changed_bytes, Change, Leave, Within, Whole, PlacedLine, step_bytes, step_down, walk_bytes, walk_down, placed_height, placed_lines, frame_bytes, Fits, Becomes, Sits, AreSitting, Ends, step_rows, walk_rows}
 use Rattle.indicatif_term.proofs.EditStandLemmas.{edit_leads, edit_column}
 
 -- ---- lines one below another

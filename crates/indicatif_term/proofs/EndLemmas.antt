@@ -5,14 +5,13 @@ use Rattle.std.proofs.lemmas.Bool.{cases_Bool, ltb-true, ltb-false}
 use Rattle.std.proofs.lemmas.List.{take_at, drop_at, map-append, length-map}
 use Rattle.indicatif_text.specs.Columns.{Cell, rows_of}
 use Rattle.indicatif_term.specs.Shows.{look, looks_of}
-use Rattle.indicatif_term.specs.Inside.Changes.{Change, Leave, Within, Whole, PlacedLine, filled_whole, ended_by, ending_by, ending, Becomes, Ends, Sits}
-use Rattle.indicatif_term.specs.Inside.Changes.{ends_plainly}
+use Rattle.indicatif_term.specs.Inside.Changing.{Change, Leave, Within, Whole, PlacedLine, filled_whole, ended_by, ending_by, ending, Becomes, Ends, Sits, ends_plainly}
 use Rattle.indicatif_term.proofs.FillLemmas.{spaces}
 use Rattle.indicatif_term.proofs.FilledLineLemmas.{filled_line}
 use Rattle.indicatif_term.proofs.LastLineLemmas.{fill_width}
 use Rattle.indicatif_term.proofs.LastCharLemmas.{EndsWith, plain_ends, free_ends}
 use Rattle.indicatif_term.proofs.PaintingLemmas.{IsDrawable}
-use Rattle.indicatif_term.specs.Inside.Edits.{IsNarrowChar, Renews, Write, AreOwn, narrow, edited, edited_row}
+use Rattle.indicatif_term.specs.Inside.RowEdits.{IsNarrowChar, Renews, Write, AreOwn, narrow, edited, edited_row}
 use Rattle.indicatif_term.proofs.EditLineLemmas.{whole_cell}
 
 -- a row that looks like this one ends with a cell that looks like its last

@@ -17,8 +17,8 @@ use Rattle.indicatif_term.specs.Terminal.{OutsideSequence, Reader, GREATEST, idl
 use Rattle.indicatif_term.specs.Calls.{TermView, Writes, move_bytes, clear_bytes}
 use Rattle.indicatif_term.specs.Shows.{resting}
 use Rattle.indicatif_term.specs.Modes.{ModeTerminal, mode_after, performed_with, is_own, HasNoOwn}
-use Rattle.indicatif_term.specs.Inside.Reading.{reader_after, all_with}
-use Rattle.indicatif_term.specs.Inside.Ending.{StayAlong, Held, Within, WithinTo, WithinIf, Carries, Falls, at_column, next_front, rows_moved, front_emptied, all_put, AreShown}
+use Rattle.indicatif_term.specs.Inside.Scanners.{reader_after, all_with}
+use Rattle.indicatif_term.specs.Inside.EndedRows.{StayAlong, Held, Within, WithinTo, WithinIf, Carries, Falls, at_column, next_front, rows_moved, front_emptied, all_put, AreShown}
 use Rattle.indicatif_term.specs.declared.target.ended_rows.EndedRows.{EndedRows}
 use Rattle.indicatif_term.proofs.ReaderLemmas.{Spells, char_read, chars_read, char_list_ops, place_after}
 use Rattle.indicatif_term.proofs.TextLemmas.{not_control, AsksToPut, reads, IsPut, is_put}

@@ -7,7 +7,7 @@ use Rattle.indicatif_term.specs.Screen.{Screen}
 use Rattle.indicatif_term.specs.Calls.{TermView, Writes, led_on}
 use Rattle.indicatif_term.specs.OwnRows.{Quietly}
 use Rattle.indicatif_term.specs.Modes.{ModeTerminal, mode_after}
-use Rattle.indicatif_term.specs.Inside.Ending.{StayAlong, Carries, Falls}
+use Rattle.indicatif_term.specs.Inside.EndedRows.{StayAlong, Carries, Falls}
 use Rattle.indicatif_term.specs.declared.target.ended_rows.EndedRows.{EndedRows}
 use Rattle.indicatif_term.proofs.CallTurnLemmas.{told_then, led_on-nil}
 use Rattle.indicatif_term.proofs.OwnRowsLemmas.{unmoved, fails, goes_on}

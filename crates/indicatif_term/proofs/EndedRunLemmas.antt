@@ -8,14 +8,14 @@ use Rattle.std.proofs.lemmas.Bool.{false≢true}
 use Rattle.std.proofs.lemmas.List.{length-replicate}
 use Rattle.indicatif_text.specs.Columns.{is_plain, visible, blank_row}
 use Rattle.indicatif_term.specs.Screen.{Screen, Op, Put, LineFeed, Up, performed, blank_screen}
-use Rattle.indicatif_term.specs.Inside.Reading.{performed_all}
+use Rattle.indicatif_term.specs.Inside.Scanners.{performed_all}
 use Rattle.indicatif_term.specs.Terminal.{GREATEST, after}
 use Rattle.indicatif_term.specs.Calls.{TermView, move_bytes, line_bytes, clear_bytes}
 use Rattle.indicatif_term.specs.Shows.{resting}
 use Rattle.indicatif_term.specs.Modes.{ModeTerminal, mode_resting, step_by, mode_after, ModeRowsStay}
 use Rattle.indicatif_term.specs.OwnRows.{new_rows, as_written}
 use Rattle.indicatif_term.specs.EndedRows.{screen_after, BeginBelow, HasCursor, Together, Draws, RowsDraw, RowsTogether, BeginOn, RowsStand}
-use Rattle.indicatif_term.specs.Inside.Ending.{StayAlong, all_put}
+use Rattle.indicatif_term.specs.Inside.EndedRows.{StayAlong, all_put}
 use Rattle.indicatif_term.specs.declared.target.ended_rows.EndedRows.{EndedRows}
 use Rattle.indicatif_term.specs.declared.target.own_rows.Rows.{Rows}
 use Rattle.indicatif_term.specs.declared.target.own_rows.Rows.TheVariants.{Left, Ended}

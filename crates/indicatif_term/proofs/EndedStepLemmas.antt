@@ -12,9 +12,9 @@ use Rattle.indicatif_term.specs.Screen.{Screen, Op, Put, Right, performed, put_s
 use Rattle.indicatif_term.specs.Terminal.{idle}
 use Rattle.indicatif_term.specs.Calls.{TermView, Writes}
 use Rattle.indicatif_term.specs.Modes.{ModeTerminal, mode_resting, mode_after, performed_with, put_over, within_row, HasNoOwn}
-use Rattle.indicatif_term.specs.Inside.Reading.{all_with}
+use Rattle.indicatif_term.specs.Inside.Scanners.{all_with}
 use Rattle.indicatif_term.specs.EndedRows.{is_between, SameRows}
-use Rattle.indicatif_term.specs.Inside.Ending.{StayAlong, Meets, Held, Within, at_column, next_front, front_emptied, with_room, all_put, AreShown, WithinRoom, Falls, moved_place, opening_bytes, closing_bytes}
+use Rattle.indicatif_term.specs.Inside.EndedRows.{StayAlong, Meets, Held, Within, at_column, next_front, front_emptied, with_room, all_put, AreShown, WithinRoom, Falls, moved_place, opening_bytes, closing_bytes}
 use Rattle.indicatif_term.specs.declared.target.ended_rows.EndedRows.{EndedRows}
 use Rattle.indicatif_term.specs.declared.target.ended_rows.Phase.{Phase}
 use Rattle.indicatif_term.specs.declared.target.ended_rows.Phase.TheVariants.{Drawing, Edge, Resting, Waiting}

@@ -16,13 +16,13 @@ use Rattle.indicatif_text.specs.Pieces.{Colour, Run, text_piece}
 use Rattle.indicatif_text.specs.declared.pieces.Piece.{Piece}
 use Rattle.indicatif_text.specs.PieceLaws.{IsExact, run_text}
 use Rattle.indicatif_term.specs.Screen.{Screen, Put, Left, Right, performed}
-use Rattle.indicatif_term.specs.Inside.Reading.{performed_all}
+use Rattle.indicatif_term.specs.Inside.Scanners.{performed_all}
 use Rattle.indicatif_term.specs.Terminal.{OutsideSequence, GREATEST, after}
 use Rattle.indicatif_term.specs.Calls.{TermView, Writes, move_bytes, line_bytes, clear_bytes}
 use Rattle.indicatif_term.specs.Shows.{resting}
 use Rattle.indicatif_term.specs.Modes.{ModeTerminal, mode_after}
 use Rattle.indicatif_term.specs.EndedRows.{Together, Draws}
-use Rattle.indicatif_term.specs.Inside.Ending.{Meets, Within, WithinIf, WithinRoom, Carries, Falls, at_column, next_front, front_emptied, all_put, AreShown, right_column}
+use Rattle.indicatif_term.specs.Inside.EndedRows.{Meets, Within, WithinIf, WithinRoom, Carries, Falls, at_column, next_front, front_emptied, all_put, AreShown, right_column}
 use Rattle.indicatif_term.specs.declared.target.ended_rows.EndedRows.{EndedRows}
 use Rattle.indicatif_term.proofs.FeedLemmas.{performed_all-append, after-append}
 use Rattle.indicatif_term.proofs.TextLemmas.{AsksToPut, reads}

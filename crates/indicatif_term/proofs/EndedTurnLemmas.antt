@@ -10,10 +10,10 @@ use Rattle.indicatif_term.specs.Screen.{Screen, Op, Put, Return, Right, performe
 use Rattle.indicatif_term.specs.Terminal.{GREATEST}
 use Rattle.indicatif_term.specs.Calls.{TermView, Writes, move_bytes}
 use Rattle.indicatif_term.specs.Modes.{ModeTerminal, mode_resting, mode_after, performed_with, within_row, end_emptied}
-use Rattle.indicatif_term.specs.Inside.Reading.{all_with}
+use Rattle.indicatif_term.specs.Inside.Scanners.{all_with}
 use Rattle.indicatif_term.specs.OwnRows.{first_place}
 use Rattle.indicatif_term.specs.EndedRows.{is_between, SameRows, Together}
-use Rattle.indicatif_term.specs.Inside.Ending.{StayAlong, Meets, Held, Within, Between, Ended, Falls, unfailed, drawn_place, opening_bytes, closing_bytes}
+use Rattle.indicatif_term.specs.Inside.EndedRows.{StayAlong, Meets, Held, Within, Between, Ended, Falls, unfailed, drawn_place, opening_bytes, closing_bytes}
 use Rattle.indicatif_term.specs.declared.target.ended_rows.EndedRows.{EndedRows}
 use Rattle.indicatif_term.specs.declared.target.ended_rows.Phase.{Phase}
 use Rattle.indicatif_term.specs.declared.target.ended_rows.Phase.TheVariants.{Drawing, Edge, Resting, Waiting}

@@ -14,10 +14,9 @@ use Rattle.unicode_width.specs.Width.{char_width}
 use Rattle.indicatif_text.proofs.WidthLemmas.{plain_width}
 use Rattle.indicatif_text.proofs.ColourSequenceLemmas.{some_sequence}
 use Rattle.indicatif_term.specs.Screen.{Screen}
-use Rattle.indicatif_term.specs.Inside.Reading.{performed_all}
+use Rattle.indicatif_term.specs.Inside.Scanners.{performed_all, IsWholeChar}
 use Rattle.indicatif_term.specs.Terminal.{Terminal, idle, after}
 use Rattle.indicatif_term.specs.Inside.Runs.{TakesOneColumn, puts}
-use Rattle.indicatif_term.specs.Inside.Scanners.{IsWholeChar}
 use Rattle.indicatif_term.proofs.RunLemmas.{fewer_repeats, encodes_replicate, scalars_replicate}
 use Rattle.indicatif_term.proofs.WholeCharLemmas.{fed_characters}
 

@@ -4,7 +4,7 @@ use Rattle.std.specs.Prelude.{option_to_list}
 use Rattle.std.specs.Option.{option_map_or}
 use Rattle.indicatif_term.specs.Screen.{Screen, Op, performed}
 use Rattle.indicatif_term.specs.Terminal.{Terminal, Reader, byte_step, after}
-use Rattle.indicatif_term.specs.Inside.Reading.{byte_reader, performed_all, byte_ops, reader_after}
+use Rattle.indicatif_term.specs.Inside.Scanners.{byte_reader, performed_all, byte_ops, reader_after}
 use Rattle.indicatif_term.specs.Feeding.{ops_of}
 
 pub ops_of-append : (r : Reader) (xs ys : List ℕ) → ops_of r (xs ++ ys) ≡ ops_of r xs ++ ops_of (reader_after r xs) ys

@@ -8,9 +8,8 @@ use Rattle.std.proofs.lemmas.List.{take-append-drop, take_all}
 use Rattle.std.proofs.lemmas.List.Elements.{recursion_from_All}
 use Rattle.indicatif_term.specs.Screen.{Screen, Op, Put}
 use Rattle.indicatif_term.specs.Terminal.{Terminal, idle, sequence_op}
-use Rattle.indicatif_term.specs.Inside.Reading.{byte_reader, byte_ops, reader_after}
+use Rattle.indicatif_term.specs.Inside.Scanners.{byte_reader, byte_ops, reader_after, IsWholeChar, IsWholeSequence}
 use Rattle.indicatif_term.specs.Feeding.{first_takes_memory, feeding_takes_memory, ops_of}
-use Rattle.indicatif_term.specs.Inside.Scanners.{IsWholeChar, IsWholeSequence}
 use Rattle.indicatif_term.proofs.FeedLemmas.{ops_of-append}
 use Rattle.indicatif_term.proofs.ReaderLemmas.{Spells, char_read}
 use Rattle.indicatif_term.proofs.WholeCharLemmas.{asked}

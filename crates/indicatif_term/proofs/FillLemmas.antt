@@ -9,7 +9,7 @@ use Rattle.std.proofs.lemmas.List.{map-append}
 use Rattle.std.proofs.lemmas.Grind.{flat_map-append}
 use Rattle.unicode_width.specs.Width.{char_width}
 use Rattle.indicatif_text.specs.Columns.{Blank, Glyph, width_of, glyph_width, glyph_cells, glyphs_of, columns_in, pieces_after, pieces_of, row_of, rows_of, visible, visible_from, colour_length, parameters_length, is_parameter, columns_of_last, last_columns}
-use Rattle.indicatif_term.specs.Inside.Bytes.{lines_bytes, next_row}
+use Rattle.indicatif_term.specs.Inside.MoveBytes.{lines_bytes, next_row}
 use Rattle.indicatif_term.proofs.LastLineLemmas.{fill_bytes}
 use Rattle.indicatif_term.specs.Shows.{look, looks_of}
 use Rattle.indicatif_term.proofs.CursorRowLemmas.{IsSized, IsShowable}

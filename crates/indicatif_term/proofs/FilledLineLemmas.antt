@@ -8,15 +8,14 @@ use Rattle.std.proofs.lemmas.List.{map-append}
 use Rattle.std.proofs.lemmas.List.Folds.{list_any-append, list_all-append}
 use Rattle.unicode_width.specs.Width.{char_width}
 use Rattle.indicatif_text.specs.Columns.{Cell, width_of, visible, last_columns, rows_of, is_plain, has_wide}
-use Rattle.indicatif_term.specs.Inside.Bytes.{back_bytes, lines_bytes}
-use Rattle.indicatif_term.proofs.PaintingLemmas.{paint_bytes}
+use Rattle.indicatif_term.specs.Inside.MoveBytes.{back_bytes, lines_bytes}
+use Rattle.indicatif_term.proofs.PaintingLemmas.{paint_bytes, IsDrawable, AreDrawable}
 use Rattle.indicatif_term.specs.Inside.Fills.{last_or_none}
 use Rattle.indicatif_term.proofs.LastLineLemmas.{fill_bytes, fill_width}
 use Rattle.indicatif_term.specs.Shows.{look, looks_of}
 use Rattle.indicatif_term.proofs.FillLemmas.{spaces, spaces_utf8, filled_chars, filled_text, with_fill, IsFull, filled_length, filled_bytes}
 use Rattle.indicatif_term.proofs.TerminalStepLemmas.{printable}
 use Rattle.indicatif_term.proofs.ShownRowLemmas.{lines_rows}
-use Rattle.indicatif_term.proofs.PaintingLemmas.{IsDrawable, AreDrawable}
 
 spaces_plain : (n : ℕ) → list_all (λ c. is_some (char_width false c)) (spaces n) ≡ true
 unfolding char_width

@@ -9,9 +9,9 @@ use Rattle.indicatif_term.specs.Terminal.{Terminal, GREATEST, after}
 use Rattle.indicatif_term.specs.Shows.{Shows, IsOpening, look, resting_row}
 use Rattle.indicatif_term.specs.Lists.{Lists, lists_height, live_height, all_rows}
 use Rattle.indicatif_term.specs.Counts.{CountsOf}
-use Rattle.indicatif_term.specs.Inside.Bytes.{reach_bytes}
-use Rattle.indicatif_term.proofs.PaintingLemmas.{paint_bytes}
-use Rattle.indicatif_term.specs.Inside.Reached.{IsFresh, IsAtop}
+use Rattle.indicatif_term.specs.Inside.MoveBytes.{reach_bytes}
+use Rattle.indicatif_term.proofs.PaintingLemmas.{paint_bytes, AreDrawable, restand}
+use Rattle.indicatif_term.specs.Inside.Counts.{IsFresh, IsAtop}
 use Rattle.indicatif_term.specs.declared.engine.counts.Counts.{Counts}
 use Rattle.indicatif_term.specs.declared.engine.counts.Fresh.{Fresh}
 use Rattle.indicatif_term.proofs.FeedLemmas.{after-append}
@@ -21,7 +21,6 @@ use Rattle.indicatif_term.proofs.TerminalStepLemmas.{StandsAfter, total}
 use Rattle.indicatif_term.proofs.PlaceLemmas.{Alike, alike_after, same_reader}
 use Rattle.indicatif_term.proofs.LearnLemmas.{reach_learns, alike_fewer, alike_itself, same_terminal, learned_both}
 use Rattle.indicatif_term.proofs.ShownRowLemmas.{lines_rows}
-use Rattle.indicatif_term.proofs.PaintingLemmas.{AreDrawable, restand}
 use Rattle.indicatif_term.proofs.FillLemmas.{IsFull}
 use Rattle.indicatif_term.proofs.CountLemmas.{live_of}
 use Rattle.indicatif_term.proofs.ReachLemmas.{reach_leads}

@@ -10,7 +10,7 @@ use Rattle.std.specs.List.{AllByRecursion}
 use Rattle.unicode_width.specs.Width.{char_width}
 use Rattle.indicatif_text.specs.Columns.{Cell, width_of, Blank, Continued, Glyph, glyph_cells, glyph_width, columns_in, row_of, pieces_after, blank_row, columns_of_last}
 use Rattle.indicatif_term.specs.Screen.{Screen, Put, joined_at, with_joiner, put_here, put_sized, put_joiner, line_feed, performed}
-use Rattle.indicatif_term.specs.Inside.Reading.{performed_all}
+use Rattle.indicatif_term.specs.Inside.Scanners.{performed_all}
 use Rattle.indicatif_term.specs.Inside.Resizing.{all_joined}
 use Rattle.indicatif_text.proofs.WrappingLemmas.{pieces_some, last_more}
 use Rattle.indicatif_term.proofs.CursorRowLemmas.{screen_at, screen_after, glyph_ops, IsSized}

@@ -1,28 +1,24 @@
 -- Where a bar is dropped: what becomes of its lines, and of the counts.
-use Rattle.std.proofs.Common.{◌≡◌, ℕ, ◌+◌, ◌-◌, ◌<◌, ◌≤◌, true, false, List, [], ◌∷◌, length, take, drop, refl, sym, ◌∙◌, ap, subst, arith, length-append, if◌then◌else◌}
+use Rattle.std.proofs.Common.{◌≡◌, ℕ, ◌+◌, ◌-◌, ◌<◌, ◌≤◌, true, false, List, [], ◌∷◌, length, take, drop, refl, sym, ◌∙◌, ap, subst, arith, length-append, if◌then◌else◌, Bool, min, ◌^◌, ◌||◌}
 use Rattle.std.specs.Prelude.{◌==◌, sum_by}
 use Rattle.std.specs.List.{list_any}
-use Rattle.std.proofs.lemmas.List.{drop-drop, drop-map}
+use Rattle.std.proofs.lemmas.List.{drop-drop, drop-map, take-map}
 use Rattle.std.proofs.lemmas.List.Sums.{sum_by-take-drop}
 use Rattle.indicatif_term.specs.declared.engine.counts.Counts.{Counts}
 use Rattle.indicatif_term.specs.declared.engine.counts.Keep.TheVariants.{Absent, Passed, Behind}
 use Rattle.indicatif_term.specs.declared.engine.remembered.Remembered.{Remembered}
 use Rattle.indicatif_term.specs.Counts.{CountsOf, RowCount, line_count, line_counts}
-use Rattle.indicatif_term.specs.Remembered.{AreOwned, live_lines}
-use Rattle.indicatif_term.specs.Inside.Counted.{IsPassed}
+use Rattle.indicatif_term.specs.Remembered.{AreOwned, live_lines, Suits}
+use Rattle.indicatif_term.specs.Inside.Counts.{IsPassed}
 use Rattle.indicatif_term.specs.Inside.Owned.{run_length}
 use Rattle.indicatif_term.specs.Lists.{Lists, Live, BarRows, fate, kept_of, passed, is_first, segments_height, live_rows}
-use Rattle.std.proofs.Common.{Bool, min, ◌^◌, ◌||◌}
-use Rattle.std.proofs.lemmas.List.{take-map}
-use Rattle.indicatif_term.specs.Remembered.{Suits}
 use Rattle.indicatif_term.specs.Standing.{placed}
-use Rattle.indicatif_term.specs.Inside.Changes.{placed_height}
+use Rattle.indicatif_term.specs.Inside.Changing.{placed_height}
 use Rattle.indicatif_term.specs.declared.engine.remembered.StandingLine.{StandingLine}
-use Rattle.indicatif_term.proofs.OwnedLemmas.{height_counted}
+use Rattle.indicatif_term.proofs.OwnedLemmas.{height_counted, rows_by, not_first, is_among, is_front, rest_owned, front_height}
 use Rattle.indicatif_term.proofs.RememberedLemmas.{kept_shown}
 use Rattle.indicatif_term.proofs.DrawingLemmas.{kept-failed, kept_forgets}
 use Rattle.indicatif_term.proofs.CountLemmas.{length-live}
-use Rattle.indicatif_term.proofs.OwnedLemmas.{rows_by, not_first, is_among, is_front, rest_owned, front_height}
 
 module _ (bar : ℕ) (l : Lists) (c : Counts) (r : Remembered) (o : AreOwned (line_counts (live_lines r)) l.live) (b : c.blanks ≡ l.live.blanks) where
   abbrev all : List RowCount

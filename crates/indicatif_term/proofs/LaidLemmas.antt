@@ -1,9 +1,8 @@
 -- A frame laid out line by line beside those that stand, and its lines as they are put in the place of these.
-use Rattle.std.proofs.Common.{◌≡◌, ◌⊎◌, ℕ, zero, suc, ◌+◌, ◌-◌, ◌<◌, ◌≤◌, true, false, List, [], ◌∷◌, ◌++◌, length, take, drop, map, replicate, get_or, refl, sym, ◌∙◌, ap, subst, arith, append_assoc, append-nil, length-append, inl, inr, chars}
-use Rattle.std.specs.Prelude.{string_bytes, sum_by}
+use Rattle.std.proofs.Common.{◌≡◌, ◌⊎◌, ℕ, zero, suc, ◌+◌, ◌-◌, ◌<◌, ◌≤◌, true, false, List, [], ◌∷◌, ◌++◌, length, take, drop, map, replicate, get_or, refl, sym, ◌∙◌, ap, subst, arith, append_assoc, append-nil, length-append, inl, inr, chars, Result, Ok, Err, Bool, max}
+use Rattle.std.specs.Prelude.{string_bytes, sum_by, IfOk, IfErr}
 use Rattle.std.proofs.lemmas.List.Sums.{sum_by-append}
-use Rattle.std.proofs.lemmas.List.{take_all, take_more, take-append-le, take-append-drop, map-append, take-map, drop-map, length-map, length-take-le, length-drop, length-replicate, take_at, drop_at}
-use Rattle.std.proofs.lemmas.List.{drop-append-le, get_or-drop, get_or-take, get_or-append_right}
+use Rattle.std.proofs.lemmas.List.{take_all, take_more, take-append-le, take-append-drop, map-append, take-map, drop-map, length-map, length-take-le, length-drop, length-replicate, take_at, drop_at, drop-append-le, get_or-drop, get_or-take, get_or-append_right}
 use Rattle.std.proofs.Math.ListN.{get_or-append}
 use Rattle.std.proofs.Math.Seq.{take-append-add}
 use Rattle.indicatif_text.specs.Columns.{Cell, has_wide, rows_of}
@@ -16,20 +15,18 @@ use Rattle.indicatif_term.proofs.GroupLemmas.{through_at}
 use Rattle.indicatif_term.proofs.ShownRowLemmas.{frame_step, line_segments}
 use Rattle.indicatif_term.specs.Inside.Parting.{IsReady}
 use Rattle.indicatif_term.specs.Inside.Plans.{IsPlan, IsSummed, IsLaidOut, IsWithheld, frame_lines}
-use Rattle.indicatif_term.specs.Frames.{bar_lines, all_lines, line_text}
-use Rattle.std.proofs.Common.{Result, Ok, Err, Bool, max}
-use Rattle.std.specs.Prelude.{IfOk, IfErr}
+use Rattle.indicatif_term.specs.Lines.{bar_lines, all_lines, line_text}
 use Rattle.indicatif_text.specs.declared.refusal.Refusal.{Refusal}
 use Rattle.indicatif_text.specs.declared.refusal.Refusal.TheVariants.{Memory}
-use Rattle.indicatif_term.specs.Inside.Changes.{placed_height, AreSitting}
+use Rattle.indicatif_term.specs.Inside.Changing.{placed_height, AreSitting}
 use Rattle.indicatif_term.specs.Inside.Renewed.{AreFitting, renewed, AreInPlace, AreOver}
 use Rattle.indicatif_term.specs.Inside.Layouts.{AreBlank, AreWhole, laid_lines, laid_texts, own_lines, IsBeside, IsLaid, IsLaidOn, IsNoneLaid, IsFrontLaid, IsFrameLaid, FrameLaid, AreBlanksFor, ArePut, CanPut}
 use Rattle.std.proofs.lemmas.Bool.{or_parts}
 use Rattle.indicatif_term.proofs.MeasureLemmas.{narrow_more}
-use Rattle.indicatif_term.specs.declared.engine.lines.LineType.{LineType}
+use Rattle.indicatif_term.specs.declared.target.lines.LineType.{LineType}
 use Rattle.indicatif_term.specs.declared.engine.layout.Laid.{Laid}
 use Rattle.indicatif_term.specs.declared.engine.layout.Plan.{Plan}
-use Rattle.indicatif_term.specs.declared.engine.lines.Segment.{Segment}
+use Rattle.indicatif_term.specs.declared.target.lines.Segment.{Segment}
 use Rattle.indicatif_term.specs.declared.engine.comparing.Step.TheVariants.{Whole}
 use Rattle.indicatif_term.specs.Remembered.{AreRemembered, AreStanding, live_lines}
 use Rattle.indicatif_term.specs.declared.engine.remembered.Remembered.{Remembered}

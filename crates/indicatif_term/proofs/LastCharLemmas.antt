@@ -14,8 +14,8 @@ use Rattle.indicatif_text.proofs.ColourSequenceLemmas.{visible_none}
 use Rattle.indicatif_text.proofs.WidthLemmas.{plain_width}
 use Rattle.indicatif_text.proofs.WrappingLemmas.{pieces_some, last_more}
 use Rattle.indicatif_term.specs.Shows.{look}
-use Rattle.indicatif_term.specs.Inside.Edits.{IsNarrowChar, narrow}
-use Rattle.indicatif_term.specs.Inside.Changes.{ends_plainly, last_byte}
+use Rattle.indicatif_term.specs.Inside.RowEdits.{IsNarrowChar, narrow}
+use Rattle.indicatif_term.specs.Inside.Changing.{ends_plainly, last_byte}
 use Rattle.indicatif_term.proofs.CursorRowLemmas.{IsSized}
 use Rattle.indicatif_term.proofs.EditLineLemmas.{glyphs_push}
 use Rattle.indicatif_term.proofs.FillLemmas.{last_fits}

@@ -1,29 +1,27 @@
 -- A frame laid out line by line is the plan of the whole frame.
 use Rattle.std.proofs.Common.{◌≡◌, ℕ, zero, suc, ◌+◌, ◌-◌, ◌<◌, ◌≤◌, Bool, true, false, cond, List, [], ◌∷◌, ◌++◌, ◌||◌, length, map, take, drop, min, get_or, refl, sym, ◌∙◌, ap, subst, arith, append_assoc, append-nil, length-append, chars, inl, inr}
-use Rattle.std.specs.Prelude.{nat_le}
+use Rattle.std.specs.Prelude.{nat_le, sum_by}
 use Rattle.std.proofs.Math.Bool.{or-true}
 use Rattle.std.proofs.lemmas.Bool.{cases_lt, le-leb, lt-leb}
 use Rattle.std.proofs.lemmas.List.{length-map, map-append, take_more, take-append-drop, take_all, take-map}
 use Rattle.std.proofs.Math.ListN.{get_or-map}
 use Rattle.std.proofs.lemmas.List.Concat.{length-flat_map}
 use Rattle.std.proofs.lemmas.List.Folds.{list_any-append}
-use Rattle.std.proofs.lemmas.List.Sums.{sum_by-cons, sum_by_push}
+use Rattle.std.proofs.lemmas.List.Sums.{sum_by-cons, sum_by_push, sum_by-take-drop}
 use Rattle.std.proofs.lemmas.Grind.{flat_map-append}
 use Rattle.indicatif_text.specs.Columns.{rows_of, has_wide}
 use Rattle.indicatif_term.specs.Lists.{BarRows, BarLines, segments_height, shown_rows, fitting, grouped, lines_of}
-use Rattle.indicatif_term.specs.Frames.{bar_lines, all_lines, some_wide, line_text}
+use Rattle.indicatif_term.specs.Lines.{bar_lines, all_lines, some_wide, line_text}
 use Rattle.indicatif_term.specs.Counts.{RowCount, row_count, line_count, line_counts}
 use Rattle.indicatif_term.specs.Inside.Owned.{through, no_plan}
-use Rattle.indicatif_term.specs.Inside.Changes.{placed_height}
+use Rattle.indicatif_term.specs.Inside.Changing.{placed_height}
 use Rattle.indicatif_term.specs.Standing.{placed}
 use Rattle.indicatif_term.specs.declared.engine.remembered.StandingLine.{StandingLine}
-use Rattle.std.specs.Prelude.{sum_by}
-use Rattle.std.proofs.lemmas.List.Sums.{sum_by-take-drop}
 use Rattle.indicatif_term.proofs.OwnedLemmas.{lines_split, rows_by, height_counted, counts_height}
 use Rattle.indicatif_term.specs.Inside.Plans.{passing_of, IsLaidOut, IsSummed, IsPlan, IsWithheld}
 use Rattle.indicatif_term.specs.declared.engine.layout.Plan.{Plan}
-use Rattle.indicatif_term.specs.declared.engine.lines.Segment.{Segment}
-use Rattle.indicatif_term.specs.declared.engine.lines.LineType.{LineType}
+use Rattle.indicatif_term.specs.declared.target.lines.Segment.{Segment}
+use Rattle.indicatif_term.specs.declared.target.lines.LineType.{LineType}
 use Rattle.indicatif_text.specs.declared.refusal.Refusal.{Refusal}
 use Rattle.indicatif_term.proofs.ShownRowLemmas.{line_segments, grouped_rows}
 use Rattle.indicatif_term.proofs.MeasureLemmas.{withheld_by}

@@ -9,7 +9,7 @@ use Rattle.indicatif_term.specs.Screen.{Screen, with_row, line_feed}
 use Rattle.indicatif_term.specs.Terminal.{Terminal, Reader, idle, GREATEST, after}
 use Rattle.indicatif_term.specs.Calls.{move_bytes, clear_bytes, anew_bytes}
 use Rattle.indicatif_term.specs.Shows.{resting, on_next_row}
-use Rattle.indicatif_term.specs.Inside.Bytes.{next_row, rows_down, reach_bytes}
+use Rattle.indicatif_term.specs.Inside.MoveBytes.{next_row, rows_down, reach_bytes}
 use Rattle.indicatif_term.proofs.CallLemmas.{row_cleared}
 use Rattle.indicatif_term.proofs.FeedLemmas.{after-append}
 use Rattle.indicatif_term.proofs.CursorRowLemmas.{Stands}

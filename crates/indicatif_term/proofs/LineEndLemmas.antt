@@ -1,5 +1,5 @@
 -- Where the last of some lines ends, and the spaces behind it.
-use Rattle.std.proofs.Common.{◌≡◌, ℕ, ◌+◌, ◌<◌, true, false, List, [], ◌∷◌, ◌++◌, length, map, take, replicate, get_or, refl, sym, ◌∙◌, ap, arith, append-nil, length-append, Option, Some, None, Bool, Bor, Result, Ok, Err, chars}
+use Rattle.std.proofs.Common.{◌≡◌, ℕ, ◌+◌, ◌<◌, true, false, List, [], ◌∷◌, ◌++◌, length, map, take, replicate, get_or, refl, sym, ◌∙◌, ap, arith, append-nil, length-append, Option, Some, None, Bool, Bor, Result, Ok, Err, chars, subst}
 use Rattle.std.proofs.lemmas.Str.{chars-nil}
 use Rattle.indicatif_text.specs.Columns.{last_columns, visible, rows_of}
 use Rattle.indicatif_text.specs.declared.columns.Metrics.{Metrics}
@@ -9,10 +9,9 @@ use Rattle.std.proofs.lemmas.List.{take_more, take_all, take-map, map-append, ta
 use Rattle.indicatif_term.specs.Inside.Plans.{MeasuredLine, MeasuredText}
 use Rattle.indicatif_term.proofs.MeasureLemmas.{empty_height, empty_narrow}
 use Rattle.indicatif_term.specs.Inside.Fills.{last_of, line_end, fill_columns, line_or_none, last_or_none}
-use Rattle.indicatif_term.specs.Inside.Changes.{PlacedLine}
+use Rattle.indicatif_term.specs.Inside.Changing.{PlacedLine}
 use Rattle.indicatif_term.specs.Standing.{placed, texts, AreLines}
 use Rattle.indicatif_term.specs.declared.engine.remembered.StandingLine.{StandingLine}
-use Rattle.std.proofs.Common.{subst}
 use Rattle.indicatif_term.proofs.LastLineLemmas.{last_push, last_append, some_last, fill_bytes, spaces_behind}
 
 -- ---- what fills the last row

@@ -9,7 +9,7 @@ use Rattle.indicatif_text.specs.Columns.{has_wide, rows_of, visible}
 use Rattle.indicatif_text.specs.declared.columns.Metrics.{Metrics}
 use Rattle.indicatif_text.specs.declared.refusal.Refusal.{Refusal}
 use Rattle.indicatif_text.specs.declared.refusal.Refusal.TheVariants.{NoColumns, TooWide, Terminal, Memory}
-use Rattle.indicatif_term.specs.Frames.{some_wide, text_lines}
+use Rattle.indicatif_term.specs.Lines.{some_wide, text_lines}
 use Rattle.indicatif_term.specs.Inside.Plans.{text_height, MeasuredText, IsWithheld}
 
 module _ (w : ℕ) (lines : List (List ℕ)) (i : ℕ) (line : List ℕ) (h : i < length lines) (e : get_or lines i line ≡ line) where

@@ -10,9 +10,9 @@ use Rattle.unicode_width.specs.Width.{char_width}
 use Rattle.indicatif_term.specs.Screen.{Screen, Op, Put, Return, LineFeed, Up, Down, Right, Left, EmptyRow, performed, put_joiner}
 use Rattle.indicatif_term.specs.Terminal.{Terminal, SequencePlace, OutsideSequence, Escaped, Sequence, Reader, idle, is_leading, byte_step, after}
 use Rattle.indicatif_term.specs.Modes.{put_over, put_unwrapped, performed_with, ModeTerminal, mode_resting, is_own, end_emptied, step_by, mode_after, ModeRowsStay, HasNoOwn}
-use Rattle.indicatif_term.specs.Inside.Reading.{byte_reader, performed_all, byte_ops, reader_after, char_ops, char_place, all_with}
+use Rattle.indicatif_term.specs.Inside.Scanners.{byte_reader, performed_all, byte_ops, reader_after, char_ops, char_place, all_with}
 use Rattle.indicatif_term.specs.Feeding.{ops_of}
-use Rattle.indicatif_term.specs.Inside.Ending.{StayAlong}
+use Rattle.indicatif_term.specs.Inside.EndedRows.{StayAlong}
 use Rattle.indicatif_term.proofs.CursorRowLemmas.{IsBelow}
 use Rattle.indicatif_term.proofs.FeedLemmas.{after_is}
 use Rattle.indicatif_term.proofs.ReaderLemmas.{HasShape, shape, Spells}

@@ -7,7 +7,7 @@ use Rattle.std.proofs.lemmas.Grind.{flat_map-append}
 use Rattle.indicatif_text.specs.Columns.{width_of, visible}
 use Rattle.indicatif_term.specs.Calls.{UP, move_bytes, TermView, LeadsOn, BreaksOff}
 use Rattle.indicatif_term.specs.Inside.Inks.{Ink, Inked, NONE, in_ink, characters, padded, read}
-use Rattle.indicatif_term.specs.Inside.Moves.{filled_bytes, run_bytes, moved_bytes, joins, IsEven, AreEven}
+use Rattle.indicatif_term.specs.Inside.Changing.{filled_bytes, run_bytes, moved_bytes, joins, IsEven, AreEven}
 use Rattle.indicatif_term.specs.Standing.{placed_of, placed}
 use Rattle.indicatif_term.specs.declared.engine.remembered.StandingLine.{StandingLine}
 use Rattle.indicatif_term.proofs.CallTurnLemmas.{breaks_then, breaks_early}

@@ -7,18 +7,17 @@ use Rattle.indicatif_term.specs.Terminal.{GREATEST}
 use Rattle.indicatif_term.specs.Calls.{move_bytes}
 use Rattle.indicatif_term.specs.Shows.{look, looks_of, resting_row}
 use Rattle.indicatif_term.specs.Lists.{Lists, live_rows, lists_height, drawn, blanks_for}
-use Rattle.indicatif_term.specs.Frames.{bar_lines, all_lines, are_plain, some_wide}
+use Rattle.indicatif_term.specs.Lines.{bar_lines, all_lines, are_plain, some_wide}
 use Rattle.indicatif_term.specs.Counts.{CountsOf}
 use Rattle.indicatif_term.specs.Inside.Plans.{frame_lines, IsPlan}
-use Rattle.indicatif_term.specs.Inside.Changes.{placed_height}
-use Rattle.indicatif_term.specs.Inside.Moves.{run_bytes, moved_bytes, AreEven}
+use Rattle.indicatif_term.specs.Inside.Changing.{placed_height, run_bytes, moved_bytes, AreEven}
 use Rattle.indicatif_term.specs.Standing.{placed, texts, AreLines}
 use Rattle.indicatif_term.specs.declared.engine.remembered.StandingLine.{StandingLine}
 use Rattle.indicatif_term.specs.declared.engine.remembered.Remembered.{Remembered}
 use Rattle.indicatif_term.specs.Remembered.{AreRemembered, AreStanding, live_lines}
 use Rattle.indicatif_term.specs.declared.engine.counts.Counts.{Counts}
 use Rattle.indicatif_term.specs.declared.engine.layout.Plan.{Plan}
-use Rattle.indicatif_term.specs.declared.engine.lines.Segment.{Segment}
+use Rattle.indicatif_term.specs.declared.target.lines.Segment.{Segment}
 use Rattle.indicatif_term.proofs.LastLineLemmas.{fill_width}
 use Rattle.indicatif_term.proofs.FillLemmas.{spaces}
 use Rattle.indicatif_term.proofs.FilledLineLemmas.{filled_line, looks-append}

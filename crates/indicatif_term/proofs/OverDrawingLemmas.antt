@@ -6,7 +6,7 @@ use Rattle.std.proofs.lemmas.Str.{encodes-chars}
 use Rattle.std.proofs.lemmas.List.{length-map, length-replicate, drop-map, drop_at, drop-drop, drop-replicate}
 use Rattle.indicatif_text.specs.Columns.{Cell, blank_row, visible, rows_of}
 use Rattle.indicatif_term.specs.Screen.{Screen, Op, Put, Return}
-use Rattle.indicatif_term.specs.Inside.Reading.{performed_all}
+use Rattle.indicatif_term.specs.Inside.Scanners.{performed_all}
 use Rattle.indicatif_term.specs.Terminal.{Terminal, GREATEST, after}
 use Rattle.indicatif_term.specs.Calls.{move_bytes}
 use Rattle.indicatif_term.specs.Shows.{Shows, IsOpening, resting, look, looks_of, resting_row}

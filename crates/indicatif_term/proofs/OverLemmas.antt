@@ -9,7 +9,7 @@ use Rattle.unicode_width.specs.Width.{char_width}
 use Rattle.indicatif_text.specs.Columns.{Cell, Blank, Written, Continued, Glyph, width_of, glyph_width, glyph_cells, glyphs_of, columns_in, blank_row, row_of, pieces_after, pieces_of}
 use Rattle.indicatif_text.proofs.WrappingLemmas.{pieces_some}
 use Rattle.indicatif_term.specs.Screen.{Screen, Put, performed, put_here, put_sized, line_feed, is_continued, written_at, emptied_front, cut_before, cursor_row, with_joiner, joined_at}
-use Rattle.indicatif_term.specs.Inside.Reading.{performed_all}
+use Rattle.indicatif_term.specs.Inside.Scanners.{performed_all}
 use Rattle.indicatif_term.proofs.CursorRowLemmas.{IsSized, IsShowable, glyph_ops}
 use Rattle.indicatif_term.proofs.ScreenRowLemmas.{made, same_screen, joined}
 use Rattle.indicatif_term.proofs.GlyphLemmas.{IsPiece, length_cells, is_piece_push, cells_push, columns_push, put_sized_here, put_sized_next, some_width}

@@ -11,7 +11,7 @@ use Rattle.indicatif_text.specs.Columns.{Cell, Blank, Continued, Glyph, width_of
 use Rattle.indicatif_text.proofs.WrappingLemmas.{pieces_some}
 use Rattle.indicatif_term.specs.Shows.{look, looks_of}
 use Rattle.indicatif_term.specs.Standing.{standing_rows, AreLines}
-use Rattle.indicatif_term.specs.Inside.Moves.{joins}
+use Rattle.indicatif_term.specs.Inside.Changing.{joins}
 use Rattle.indicatif_term.specs.declared.engine.remembered.StandingLine.{StandingLine}
 use Rattle.indicatif_term.proofs.CursorRowLemmas.{IsSized, IsShowable}
 use Rattle.indicatif_term.proofs.GlyphLemmas.{IsPiece, cells_push, columns_push}

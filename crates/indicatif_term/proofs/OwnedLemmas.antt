@@ -1,20 +1,17 @@
 -- The lines of live rows, by their bars.
-use Rattle.std.proofs.Common.{◌≡◌, ℕ, zero, suc, ◌+◌, ◌-◌, ◌<◌, ◌≤◌, Bool, true, false, List, [], ◌∷◌, ◌++◌, length, map, take, drop, replicate, refl, sym, ◌∙◌, ap, subst, arith, inl, inr}
-use Rattle.std.specs.Prelude.{◌==◌, nat_le, sum, sum_by, flat_map}
+use Rattle.std.proofs.Common.{◌≡◌, ℕ, zero, suc, ◌+◌, ◌-◌, ◌<◌, ◌≤◌, Bool, true, false, List, [], ◌∷◌, ◌++◌, length, map, take, drop, replicate, refl, sym, ◌∙◌, ap, subst, arith, inl, inr, length-append, chars, get_or}
+use Rattle.std.specs.Prelude.{◌==◌, nat_le, sum, sum_by, flat_map, string_bytes}
 use Rattle.std.specs.List.{list_any, list_all}
 use Rattle.std.proofs.lemmas.Bool.{cond_both, cases_Bool, lt-ltb, and_parts, ne_eqb}
-use Rattle.std.proofs.lemmas.List.{nil_from_length, length-map, length-take, length-replicate, drop-drop, drop-map, take_at, drop_at, take-append-drop}
+use Rattle.std.proofs.lemmas.List.{nil_from_length, length-map, length-take, length-replicate, drop-drop, drop-map, take_at, drop_at, take-append-drop, take_more, get_or-map}
 use Rattle.std.proofs.lemmas.List.Sums.{sum-map, sum_by-take-drop, sum_by-cons}
 use Rattle.std.proofs.lemmas.Grind.{flat_map-append}
-use Rattle.std.proofs.Common.{length-append, chars, get_or}
-use Rattle.std.proofs.lemmas.List.{take_more, get_or-map}
-use Rattle.std.specs.Prelude.{string_bytes}
 use Rattle.indicatif_text.specs.Columns.{rows_of}
 use Rattle.indicatif_term.specs.Lists.{Lists, Live, BarRows, BarLines, no_live, live_height, segments_height, grouped, fitting, lines_of, shown_rows, is_first, has_rows, passed, live_of_frame, drawn}
 use Rattle.indicatif_term.specs.Counts.{RowCount, row_count, line_count, line_counts}
 use Rattle.indicatif_term.specs.Remembered.{AreOwned, has_row}
 use Rattle.indicatif_term.specs.Standing.{placed, AreLines}
-use Rattle.indicatif_term.specs.Inside.Changes.{placed_height}
+use Rattle.indicatif_term.specs.Inside.Changing.{placed_height}
 use Rattle.indicatif_term.specs.Inside.Owned.{run_length, through, blank_count, kept_below}
 use Rattle.indicatif_term.specs.Inside.Plans.{IsPlan}
 use Rattle.indicatif_term.specs.declared.engine.layout.Plan.{Plan}

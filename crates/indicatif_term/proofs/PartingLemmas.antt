@@ -15,7 +15,7 @@ use Rattle.indicatif_text.proofs.PieceLawLemmas.{visible_past}
 use Rattle.indicatif_text.proofs.WrappingLemmas.{pieces_some}
 use Rattle.std.proofs.lemmas.List.{length-map}
 use Rattle.indicatif_term.proofs.GlyphLemmas.{columns_push}
-use Rattle.indicatif_term.specs.Inside.Edits.{Tails, IsNarrowChar}
+use Rattle.indicatif_term.specs.Inside.RowEdits.{Tails, IsNarrowChar}
 use Rattle.indicatif_term.proofs.EditLineLemmas.{IsOne, one, one_piece, glyphs_on, ones_columns}
 
 pub space_one : width_of 0x20 ≡ 1

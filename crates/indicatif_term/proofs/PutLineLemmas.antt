@@ -7,7 +7,7 @@ use Rattle.std.specs.declared.io.ErrorKind.{ErrorKind}
 use Rattle.std.proofs.Math.Bool.{or-false}
 use Rattle.std.proofs.lemmas.List.{take_more, take-append-drop}
 use Rattle.indicatif_term.specs.Calls.{TermView, BreaksOff, Writes}
-use Rattle.indicatif_term.specs.Inside.Bytes.{lines_bytes, ArePut, Puts}
+use Rattle.indicatif_term.specs.Inside.MoveBytes.{lines_bytes, ArePut, Puts}
 use Rattle.indicatif_term.proofs.CallTurnLemmas.{reaches_none, reaches_then, breaks_then, breaks_early, lines-append, or_lt_sum}
 
 pub put_none : (x : Bool) (s : TermView) → ArePut x [] x s s

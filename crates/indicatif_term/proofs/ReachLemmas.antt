@@ -5,7 +5,7 @@ use Rattle.indicatif_text.specs.Columns.{Cell, blank_row}
 use Rattle.indicatif_term.specs.Screen.{Screen}
 use Rattle.indicatif_term.specs.Terminal.{Terminal, GREATEST, after}
 use Rattle.indicatif_term.specs.Calls.{move_bytes, clear_bytes}
-use Rattle.indicatif_term.specs.Inside.Bytes.{next_row, rows_down, reach_bytes}
+use Rattle.indicatif_term.specs.Inside.MoveBytes.{next_row, rows_down, reach_bytes}
 use Rattle.indicatif_term.proofs.CursorRowLemmas.{Stands}
 use Rattle.indicatif_term.proofs.ScreenRowLemmas.{same_screen}
 use Rattle.indicatif_term.specs.Shows.{resting}

@@ -9,7 +9,7 @@ use Rattle.std.proofs.lemmas.Str.{encode_same, length-encode, len_utf8_bounds, c
 use Rattle.indicatif_text.specs.Columns.{is_parameter}
 use Rattle.indicatif_term.specs.Screen.{Op}
 use Rattle.indicatif_term.specs.Terminal.{SequencePlace, OutsideSequence, Sequence, Reader, number_with, sequence_op, char_step, byte_step, is_leading, spelling_with, first_char}
-use Rattle.indicatif_term.specs.Inside.Reading.{char_ops, char_place, reader_after}
+use Rattle.indicatif_term.specs.Inside.Scanners.{char_ops, char_place, reader_after}
 use Rattle.indicatif_term.specs.Feeding.{ops_of}
 use Rattle.indicatif_term.proofs.FeedLemmas.{ops_of-append, reader_after-append}
 

@@ -5,16 +5,15 @@ use Rattle.std.proofs.Common.{◌≡◌, ℕ, zero, suc, ◌+◌, ◌-◌, ◌<�
 use Rattle.std.specs.Prelude.{string_bytes, IfSome, ◌==◌}
 use Rattle.std.proofs.lemmas.Grind.{flat_map-append}
 use Rattle.std.proofs.lemmas.Bool.{cases_Bool, eqb-true}
-use Rattle.std.proofs.lemmas.List.{take_more, map-append, take_at, drop_at, drop-drop, length-map, length-take-le, length-drop, take-append-drop, take_all, nil_from_length}
+use Rattle.std.proofs.lemmas.List.{take_more, map-append, take_at, drop_at, drop-drop, length-map, length-take-le, length-drop, take-append-drop, take_all, nil_from_length, drop-map}
 use Rattle.indicatif_text.specs.Columns.{Cell, rows_of}
-use Rattle.indicatif_term.specs.Inside.Changes.{PlacedLine, placed_height, placed_lines, free_behind}
+use Rattle.indicatif_term.specs.Inside.Changing.{PlacedLine, placed_height, placed_lines, free_behind}
 use Rattle.indicatif_term.specs.Inside.Fills.{last_of}
 use Rattle.indicatif_term.proofs.LastLineLemmas.{last_push}
 use Rattle.indicatif_term.specs.Standing.{placed_of, placed, texts, standing_rows, IsLine, AreLines}
 use Rattle.indicatif_term.specs.Remembered.{AreRemembered, AreStanding, AreOwned, kept_lines, live_lines}
-use Rattle.indicatif_term.specs.Inside.Remembering.{StandAbove, IsNext, IsNothing}
+use Rattle.indicatif_term.specs.Inside.Remembered.{StandAbove, IsNext, IsNothing}
 use Rattle.std.proofs.Math.Seq.{drop-append-add}
-use Rattle.std.proofs.lemmas.List.{drop-map}
 use Rattle.indicatif_term.specs.Counts.{line_count, line_counts}
 use Rattle.indicatif_term.proofs.OwnedLemmas.{height_counted, owned_height, none_owned}
 use Rattle.indicatif_term.proofs.ShownRowLemmas.{lines_rows}

@@ -4,19 +4,18 @@ use Rattle.std.specs.Prelude.{IsTrue, IsFalse, string_bytes, nat_lt, ◌==◌, �
 use Rattle.std.specs.List.{AllByRecursion}
 use Rattle.std.proofs.lemmas.Bool.{cond_both, lt-ltb}
 use Rattle.std.proofs.lemmas.Bool.Decides.{nat_tests}
-use Rattle.std.proofs.lemmas.List.{take-append-drop, take_at, drop_at, nil_from_length, take_more, take_all, take_more_set, length-map, length-set, get_or-set_other, get_or-map, set_comm, take-map, drop-map}
+use Rattle.std.proofs.lemmas.List.{take-append-drop, take_at, drop_at, nil_from_length, take_more, take_all, take_more_set, length-map, length-set, get_or-set_other, get_or-map, set_comm, take-map, drop-map, length-take-le, get_or-take}
 use Rattle.indicatif_text.specs.Columns.{Cell, rows_of, has_wide, last_columns}
 use Rattle.indicatif_term.specs.Shows.{look, looks_of}
 use Rattle.indicatif_term.specs.Standing.{placed_of, placed, texts, standing_rows, IsLine, AreLines, AreReady}
 use Rattle.indicatif_term.specs.Inside.Inks.{IsRead}
 use Rattle.indicatif_term.specs.Inside.Parting.{IsTurned, IsReady, change_of, waits_of}
 use Rattle.indicatif_term.specs.declared.engine.comparing.Step.TheVariants.{Leave}
-use Rattle.indicatif_term.specs.Inside.Changes.{placed_height, Becomes, Ends, AreSitting}
+use Rattle.indicatif_term.specs.Inside.Changing.{placed_height, Becomes, Ends, AreSitting}
 use Rattle.indicatif_term.specs.Inside.Renewed.{IsNew, heights, FitsIn, AreFitting, AreFittingFrom, renewed, AreInPlace, IsOver, AreOver}
 use Rattle.indicatif_term.specs.Inside.Layouts.{AreWhole}
 use Rattle.indicatif_term.specs.declared.engine.remembered.StandingLine.{StandingLine}
 use Rattle.indicatif_term.specs.declared.engine.beside.NewLine.{NewLine}
-use Rattle.std.proofs.lemmas.List.{length-take-le, get_or-take}
 use Rattle.std.proofs.Math.Seq.{take-set-lt}
 
 -- ---- new lines in the place of others

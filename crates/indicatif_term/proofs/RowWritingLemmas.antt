@@ -11,7 +11,7 @@ use Rattle.std.proofs.lemmas.Slice.Eq.{bytes_eq-Decides}
 use Rattle.indicatif_term.specs.Calls.{RIGHT, move_bytes, TermView, LeadsOn, BreaksOff, Writes}
 use Rattle.indicatif_term.proofs.CallTurnLemmas.{breaks_then, breaks_early, writes_fail}
 use Rattle.indicatif_term.specs.Inside.Inks.{RESET, Ink, NONE, colours_of, same_ink, Inked, in_ink, is_alike, padded}
-use Rattle.indicatif_term.specs.Inside.Edits.{Edit, Write, edit_bytes, closed, opened, recoloured, plan, rest_bytes, reset_bytes, ink_bytes}
+use Rattle.indicatif_term.specs.Inside.RowEdits.{Edit, Write, edit_bytes, closed, opened, recoloured, plan, rest_bytes, reset_bytes, ink_bytes}
 use Rattle.indicatif_term.specs.Inside.Rests.{HasRoom, ink_of, cells, left_bytes}
 use Rattle.indicatif_term.specs.declared.engine.inks.InkedText.{InkedText}
 use Rattle.indicatif_term.specs.declared.engine.row_edits.Rest.{Rest}

@@ -9,7 +9,7 @@ use Rattle.std.proofs.lemmas.List.Elements.{recursion_from_All, All-take}
 use Rattle.std.proofs.lemmas.List.{take-take, take_at, drop-drop, get_or-set_same, length-set, length-map, length-take-le, get_or_read}
 use Rattle.indicatif_text.specs.Columns.{Cell, Blank, Written, Continued, glyph_cells}
 use Rattle.indicatif_term.specs.Screen.{Screen, IsWhole, Put, performed, is_continued, emptied_front, cut_before, written_at, cursor_row, with_row}
-use Rattle.indicatif_term.specs.Inside.Reading.{performed_all}
+use Rattle.indicatif_term.specs.Inside.Scanners.{performed_all}
 use Rattle.indicatif_term.specs.Inside.Runs.{TakesOneColumn, narrow_cells, puts}
 use Rattle.indicatif_term.proofs.RowEditLemmas.{length-cut_before}
 use Rattle.indicatif_term.proofs.WholeScreenLemmas.{length-written_at, row_written, cursor_full}

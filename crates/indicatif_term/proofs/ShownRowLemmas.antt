@@ -9,9 +9,9 @@ use Rattle.std.proofs.lemmas.List.Concat.{length-flat_map}
 use Rattle.std.proofs.lemmas.Str.{chars-nil}
 use Rattle.indicatif_text.specs.Columns.{Cell, Blank, blank_row, visible, rows_of}
 use Rattle.indicatif_term.specs.Lists.{BarRows, BarLines, segments_height, live_rows, shown_rows, fitting, grouped, onto_segments, lines_of}
-use Rattle.indicatif_term.specs.Frames.{bar_lines, all_lines, text_lines, line_text}
+use Rattle.indicatif_term.specs.Lines.{bar_lines, all_lines, text_lines, line_text}
 use Rattle.indicatif_term.specs.Inside.Plans.{frame_lines}
-use Rattle.indicatif_term.specs.declared.engine.lines.Segment.{Segment}
+use Rattle.indicatif_term.specs.declared.target.lines.Segment.{Segment}
 
 abbrev pub rows_in : List BarRows → List (List Cell)
 rows_in ss = flat_map (λ (s : BarRows). s.rows) ss

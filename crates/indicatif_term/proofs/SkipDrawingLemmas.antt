@@ -6,7 +6,7 @@ use Rattle.indicatif_term.specs.Screen.{Screen}
 use Rattle.indicatif_term.specs.Terminal.{Terminal, GREATEST, after}
 use Rattle.indicatif_term.specs.Shows.{Shows, IsOpening, look, looks_of, resting_row}
 use Rattle.indicatif_term.specs.Lists.{Lists, lists_height, live_height, all_rows}
-use Rattle.indicatif_term.specs.Inside.Changes.{PlacedLine, placed_height, placed_lines, AreSitting}
+use Rattle.indicatif_term.specs.Inside.Changing.{PlacedLine, placed_height, placed_lines, AreSitting}
 use Rattle.indicatif_term.proofs.AmongLemmas.{change_bytes}
 use Rattle.indicatif_term.proofs.RowsAboveLemmas.{Keeps}
 use Rattle.indicatif_term.proofs.FilledLineLemmas.{looks-append}

@@ -9,9 +9,9 @@ use Rattle.indicatif_text.specs.Columns.{Cell, rows_of}
 use Rattle.indicatif_term.specs.Screen.{Screen}
 use Rattle.indicatif_term.specs.Terminal.{Terminal, GREATEST, after}
 use Rattle.indicatif_term.specs.Shows.{look, looks_of}
-use Rattle.indicatif_term.specs.Inside.Changes.{Change, Leave, Within, Whole, PlacedLine, placed_height, placed_lines, frame_bytes, Becomes, AreSitting, stays, all_stay, ending, free_behind}
+use Rattle.indicatif_term.specs.Inside.Changing.{Change, Leave, Within, Whole, PlacedLine, placed_height, placed_lines, frame_bytes, Becomes, AreSitting, stays, all_stay, ending, free_behind}
 use Rattle.indicatif_term.proofs.AmongLemmas.{rewrite_bytes, change_bytes}
-use Rattle.indicatif_term.specs.Inside.Bytes.{back_bytes, lines_bytes}
+use Rattle.indicatif_term.specs.Inside.MoveBytes.{back_bytes, lines_bytes}
 use Rattle.indicatif_term.specs.Inside.Fills.{last_of}
 use Rattle.indicatif_term.proofs.CursorRowLemmas.{Stands}
 use Rattle.indicatif_term.proofs.FeedLemmas.{after-append}

@@ -6,12 +6,12 @@ use Rattle.std.proofs.lemmas.Str.{encodes-chars}
 use Rattle.std.proofs.Math.Utf8.{encodes}
 use Rattle.indicatif_text.specs.Columns.{Cell, blank_row, visible, glyphs_of, pieces_of, row_of, rows_of, last_columns, columns_of_last}
 use Rattle.indicatif_term.specs.Screen.{Screen, Put}
-use Rattle.indicatif_term.specs.Inside.Reading.{performed_all}
+use Rattle.indicatif_term.specs.Inside.Scanners.{performed_all}
 use Rattle.indicatif_term.specs.Terminal.{Terminal, GREATEST, after}
 use Rattle.indicatif_term.specs.Calls.{move_bytes, clear_bytes}
 use Rattle.indicatif_term.specs.Shows.{IsOpening, resting}
-use Rattle.indicatif_term.specs.Inside.Bytes.{next_row, rows_down}
-use Rattle.indicatif_term.specs.Inside.Changes.{emptied_bytes, changed_bytes}
+use Rattle.indicatif_term.specs.Inside.MoveBytes.{next_row, rows_down}
+use Rattle.indicatif_term.specs.Inside.Changing.{emptied_bytes, changed_bytes}
 use Rattle.indicatif_term.proofs.CursorRowLemmas.{Stands, screen_at, screen_after, IsText, IsShowable}
 use Rattle.indicatif_term.proofs.ScreenRowLemmas.{made, same_screen}
 use Rattle.indicatif_term.proofs.FeedLemmas.{after-append}

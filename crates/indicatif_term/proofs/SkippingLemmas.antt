@@ -1,18 +1,18 @@
 -- A draw that leaves lines that stay, by what an engine remembers.
-use Rattle.std.proofs.Common.{◌≡◌, ℕ, zero, suc, ◌+◌, ◌-◌, ◌<◌, ◌≤◌, ◌^◌, min, Bool, true, false, List, [], ◌∷◌, ◌++◌, length, take, map, replicate, refl, sym, ◌∙◌, ap, subst, arith, length-append, append_assoc, append-nil, chars, if◌then◌else◌}
-use Rattle.std.specs.Prelude.{IsTrue, IsFalse, IfSome, IsErrAnd, ◌==◌, flat_map}
+use Rattle.std.proofs.Common.{◌≡◌, ℕ, zero, suc, ◌+◌, ◌-◌, ◌<◌, ◌≤◌, ◌^◌, min, Bool, true, false, List, [], ◌∷◌, ◌++◌, length, take, map, replicate, refl, sym, ◌∙◌, ap, subst, arith, length-append, append_assoc, append-nil, chars, if◌then◌else◌, Result, Ok, Err, Option, Some}
+use Rattle.std.specs.Prelude.{IsTrue, IsFalse, IfSome, IsErrAnd, ◌==◌, flat_map, fold}
 use Rattle.std.proofs.lemmas.Bool.{eq-eqb}
 use Rattle.std.proofs.lemmas.List.{take_at, take-map, length-map, nil_from_length}
 use Rattle.indicatif_text.specs.Columns.{rows_of}
 use Rattle.indicatif_term.specs.Terminal.{GREATEST}
 use Rattle.indicatif_term.specs.Shows.{looks_of}
-use Rattle.indicatif_term.specs.Lists.{Lists, forgotten_lists, all_rows, live_rows, live_height, drawn, logged, passed, live_of_frame, shown_rows, BarLines, segments_height, blanks_for, fitting, lines_of}
-use Rattle.indicatif_term.specs.Frames.{bar_lines, all_lines, are_plain, some_wide}
+use Rattle.indicatif_term.specs.Lists.{Lists, forgotten_lists, all_rows, live_rows, live_height, drawn, logged, passed, live_of_frame, shown_rows, BarLines, segments_height, blanks_for, fitting, lines_of, grouped, onto_segments}
+use Rattle.indicatif_term.specs.Lines.{bar_lines, all_lines, are_plain, some_wide, is_fault}
 use Rattle.indicatif_term.specs.Counts.{CountsOf, RowCount, line_counts}
 use Rattle.indicatif_term.specs.Inside.Owned.{blank_count, kept_below}
 use Rattle.indicatif_term.proofs.OwnedLemmas.{owned_drawn, frame_owned, lines_have}
 use Rattle.indicatif_term.specs.Inside.Plans.{frame_lines, IsPlan, AreCounted, text_height}
-use Rattle.indicatif_term.specs.Inside.Changes.{PlacedLine, placed_height, placed_lines, AreSitting}
+use Rattle.indicatif_term.specs.Inside.Changing.{PlacedLine, placed_height, placed_lines, AreSitting}
 use Rattle.indicatif_term.proofs.AmongLemmas.{change_bytes}
 use Rattle.indicatif_term.specs.Inside.Places.{IsWithin}
 use Rattle.indicatif_term.specs.declared.engine.beside.Room.{Room}
@@ -22,15 +22,11 @@ use Rattle.indicatif_term.specs.declared.engine.remembered.StandingLine.{Standin
 use Rattle.indicatif_term.specs.declared.engine.remembered.Remembered.{Remembered}
 use Rattle.indicatif_term.specs.declared.engine.counts.Counts.{Counts}
 use Rattle.indicatif_term.specs.declared.engine.layout.Plan.{Plan}
-use Rattle.indicatif_term.specs.declared.engine.lines.Segment.{Segment}
-use Rattle.std.proofs.Common.{Result, Ok, Err, Option, Some}
-use Rattle.std.specs.Prelude.{fold}
+use Rattle.indicatif_term.specs.declared.target.lines.Segment.{Segment}
 use Rattle.indicatif_text.specs.declared.refusal.Refusal.{Refusal}
 use Rattle.indicatif_term.specs.Calls.{TermView}
-use Rattle.indicatif_term.specs.Lists.{grouped, onto_segments}
-use Rattle.indicatif_term.specs.Frames.{is_fault}
 use Rattle.indicatif_term.specs.Engines.{Counted, Fits, failure_kind, lists_after}
-use Rattle.indicatif_term.specs.Inside.Remembering.{Draws, Remembers, StandAbove, IsNext}
+use Rattle.indicatif_term.specs.Inside.Remembered.{Draws, Remembers, StandAbove, IsNext}
 use Rattle.indicatif_term.specs.declared.engine.Engine.{Engine}
 use Rattle.indicatif_term.proofs.ShownRowLemmas.{lines_rows, frame_rows, frame_lines_le, frame_chars}
 use Rattle.indicatif_term.proofs.CountLemmas.{settled-rows, passed-rows, same_blanks_log}

@@ -6,12 +6,12 @@ use Rattle.std.proofs.lemmas.List.{take_all, take-append-drop, length-map, lengt
 use Rattle.indicatif_term.specs.Counts.{line_count, line_counts}
 use Rattle.indicatif_term.specs.Remembered.{live_lines}
 use Rattle.indicatif_term.specs.Standing.{placed_of, placed, texts, AreLines}
-use Rattle.indicatif_term.specs.Inside.Bytes.{back_bytes}
-use Rattle.indicatif_term.specs.Inside.Changes.{all_stay, free_behind, frame_bytes, ending}
+use Rattle.indicatif_term.specs.Inside.MoveBytes.{back_bytes}
+use Rattle.indicatif_term.specs.Inside.Changing.{all_stay, free_behind, frame_bytes, ending}
 use Rattle.indicatif_term.specs.Inside.Fills.{last_of}
 use Rattle.indicatif_term.specs.Inside.Layouts.{AreWhole, ArePut, laid_texts, laid_lines}
 use Rattle.indicatif_term.specs.Inside.Owned.{kept_below}
-use Rattle.indicatif_term.specs.Inside.Remembering.{IsNext, Stands}
+use Rattle.indicatif_term.specs.Inside.Remembered.{IsNext, Stands}
 use Rattle.indicatif_term.specs.Inside.Renewed.{AreFitting, renewed}
 use Rattle.indicatif_term.specs.Inside.Writings.{writing_bytes}
 use Rattle.indicatif_term.specs.declared.engine.counts.Counts.{Counts}

@@ -7,7 +7,7 @@ use Rattle.unicode_width.specs.Width.{char_width}
 use Rattle.indicatif_text.specs.Columns.{is_parameter, parameters_length, colour_length, visible_from}
 use Rattle.indicatif_term.specs.Screen.{Op, Put}
 use Rattle.indicatif_term.specs.Terminal.{SequencePlace, OutsideSequence, Sequence, plain_step, sequence_op, number_with}
-use Rattle.indicatif_term.specs.Inside.Reading.{char_ops, char_place}
+use Rattle.indicatif_term.specs.Inside.Scanners.{char_ops, char_place}
 use Rattle.indicatif_term.proofs.ReaderLemmas.{char_list_ops, place_after, first_ops, first_place, parameter_step}
 
 -- a character that a terminal shows

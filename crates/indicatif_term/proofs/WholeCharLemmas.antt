@@ -8,9 +8,8 @@ use Rattle.std.proofs.lemmas.List.{take_all}
 use Rattle.std.proofs.lemmas.Bool.{and_parts, ne_eqb, le-ltb, lt-ltb}
 use Rattle.indicatif_term.specs.Screen.{Screen, Op, Put, performed}
 use Rattle.indicatif_term.specs.Terminal.{SequencePlace, OutsideSequence, Reader, Terminal, idle, plain_step, after}
-use Rattle.indicatif_term.specs.Inside.Reading.{char_ops, char_place, performed_all, reader_after}
+use Rattle.indicatif_term.specs.Inside.Scanners.{char_ops, char_place, performed_all, reader_after, IsWholeChar}
 use Rattle.indicatif_term.specs.Feeding.{ops_of}
-use Rattle.indicatif_term.specs.Inside.Scanners.{IsWholeChar}
 use Rattle.indicatif_term.specs.Inside.Runs.{puts}
 use Rattle.indicatif_term.proofs.FeedLemmas.{fed, after-append, same_terminal}
 use Rattle.indicatif_term.proofs.ReaderLemmas.{Spells, char_read, char_list_ops, place_after, chars_read}

@@ -7,9 +7,8 @@ use Rattle.std.proofs.lemmas.List.{take_more}
 use Rattle.indicatif_text.specs.Columns.{is_parameter}
 use Rattle.indicatif_term.specs.Screen.{Screen}
 use Rattle.indicatif_term.specs.Terminal.{OutsideSequence, Sequence, Reader, Terminal, idle, number_with, sequence_op, after}
-use Rattle.indicatif_term.specs.Inside.Reading.{performed_all, char_ops, char_place, reader_after}
+use Rattle.indicatif_term.specs.Inside.Scanners.{performed_all, char_ops, char_place, reader_after, IsWholeSequence, IsSequenceFront}
 use Rattle.indicatif_term.specs.Feeding.{ops_of}
-use Rattle.indicatif_term.specs.Inside.Scanners.{IsWholeSequence, IsSequenceFront}
 use Rattle.indicatif_term.proofs.FeedLemmas.{ops_of-append, reader_after-append, fed}
 use Rattle.indicatif_term.proofs.ReaderLemmas.{Spells, char_read}
 

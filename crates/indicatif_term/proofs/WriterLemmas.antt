@@ -6,7 +6,7 @@ use Rattle.std.specs.Io.KnownBytes.{Appends, Keeps}
 use Rattle.std.proofs.lemmas.Bool.{false≢true}
 use Rattle.std.proofs.lemmas.List.{take_rest}
 use Rattle.indicatif_term.specs.Calls.{Bytes, is_told, led_on, Writes}
-use Rattle.indicatif_term.specs.Writers.{WriterTerm, told_by, view_behind, counted_as, AppendsAllOrFront}
+use Rattle.indicatif_term.specs.Term.{WriterTerm, told_by, view_behind, counted_as, AppendsAllOrFront}
 
 -- ---- what a writer holds
 

@@ -4,11 +4,10 @@ use Rattle.std.specs.Prelude.{◌&&◌, ◌||◌, not, nat_lt, ◌==◌}
 use Rattle.std.proofs.lemmas.List.{take_all, take_at, drop_at, take-map, drop-map, length-drop, length-map}
 use Rattle.indicatif_term.specs.Calls.{anew_bytes}
 use Rattle.indicatif_term.specs.Standing.{placed_of, placed, texts, AreReady}
-use Rattle.indicatif_term.specs.Inside.Bytes.{back_bytes, reach_bytes, lines_bytes}
+use Rattle.indicatif_term.specs.Inside.MoveBytes.{back_bytes, reach_bytes, lines_bytes}
 use Rattle.indicatif_term.proofs.PaintingLemmas.{paint_bytes}
-use Rattle.indicatif_term.specs.Inside.Changes.{PlacedLine, placed_height, placed_lines, frame_bytes, all_stay, ending, ended, among_bytes, free_behind}
+use Rattle.indicatif_term.specs.Inside.Changing.{PlacedLine, placed_height, placed_lines, frame_bytes, all_stay, ending, ended, among_bytes, free_behind, moved_bytes}
 use Rattle.indicatif_term.specs.Inside.Fills.{last_of}
-use Rattle.indicatif_term.specs.Inside.Moves.{moved_bytes}
 use Rattle.indicatif_term.specs.Inside.Writings.{writing_bytes}
 use Rattle.indicatif_term.specs.declared.engine.counts.Fresh.{Fresh}
 use Rattle.indicatif_term.specs.declared.engine.remembered.StandingLine.{StandingLine}

@@ -7,7 +7,7 @@ use Rattle.std.proofs.lemmas.Bool.{cond_both, eqb-true, eqb-false, le-ltb, lt-lt
 use Rattle.unicode_width.specs.Width.{char_width}
 use Rattle.indicatif_text.specs.Columns.{Cell, Glyph, width_of, glyphs_of, pieces_of, blank_row}
 use Rattle.indicatif_term.specs.Screen.{Put, put_sized, line_feed}
-use Rattle.indicatif_term.specs.Inside.Reading.{performed_all}
+use Rattle.indicatif_term.specs.Inside.Scanners.{performed_all}
 use Rattle.indicatif_term.proofs.CursorRowLemmas.{screen_at, screen_after, glyph_ops, IsSized, IsShowable}
 use Rattle.indicatif_term.proofs.ScreenRowLemmas.{same_screen, cursor_row_at, with_row_at}
 use Rattle.indicatif_term.proofs.GlyphLemmas.{no_piece, glyphs_put, screen_with}

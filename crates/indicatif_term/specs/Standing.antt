@@ -2,7 +2,7 @@
 use Rattle.std.specs.Prelude.{◌≡◌, ℕ, IsTrue, IsFalse, List, map, length, flat_map, chars, string_bytes}
 use Rattle.std.specs.List.{AllByRecursion}
 use Rattle.indicatif_text.specs.Columns.{Cell, has_wide, rows_of, last_columns}
-use Rattle.indicatif_term.specs.Inside.Changes.{PlacedLine}
+use Rattle.indicatif_term.specs.Inside.Changing.{PlacedLine}
 use Rattle.indicatif_term.specs.Inside.Inks.{IsRead}
 use Rattle.indicatif_term.specs.Inside.Parting.{change_of, waits_of, IsReady}
 use Rattle.indicatif_term.specs.declared.engine.remembered.StandingLine.{StandingLine}

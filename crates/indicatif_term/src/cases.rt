@@ -5,7 +5,7 @@ ghost use Rattle.indicatif_text.specs.ColumnCases.{cell};
 ghost use Rattle.indicatif_term.specs.Calls.{move_bytes, line_bytes, clear_bytes, UP, DOWN, RIGHT, LEFT};
 ghost use Rattle.indicatif_term.specs.Calm.{Character, Colours, Move, Empty, stroke_bytes, is_quiet};
 ghost use Rattle.indicatif_term.specs.Shows.{look, looks_of};
-ghost use Rattle.indicatif_term.specs.Frames.{logged_lines};
+ghost use Rattle.indicatif_term.specs.Lines.{logged_lines};
 ghost use Rattle.indicatif_term.specs.Memory.{move_text, quoted_char, written_text};
 ghost use Rattle.indicatif_term.specs.Terminal.{after};
 ghost use Rattle.indicatif_term.specs.CellCases.{contents_after, cursor_after, picture_after, ESC};
@@ -15,7 +15,7 @@ ghost use Rattle.indicatif_term.specs.Resizes.{resized_terminal};
 ghost use Rattle.indicatif_term.specs.ResizeCases.{fed, picture_at, cursor_at, NotJoined, LiveRowsScrollAway, LogIsCut, RowsBelowDropped, ReachedBelow, KeptRowsScrollAway};
 ghost use Rattle.indicatif_term.specs.Inside.Recutting.{piece_text, texts_then};
 ghost use Rattle.indicatif_term.specs.Inside.Owned.{run_length, through};
-ghost use Rattle.indicatif_term.specs.DrawTargets.{is_dumb};
+ghost use Rattle.indicatif_term.specs.Target.{is_dumb};
 ghost use Rattle.indicatif_term.specs.LimiterCases.{TwentyAtOnce, WholeMilliseconds, NoMoreInHand, NoneBefore};
 
 /// The bytes of calls.

@@ -8,17 +8,12 @@
 //! their place. The rows above stand at every moment.
 //!
 //! `Engine` is here with its calls, which decide whether lines stay, are moved over or are painted anew, and remember what stands then. The
-//! modules below are private, in the order of a draw. What comes in:
-//!
-//! - `lines`: `LineType` and `Segment`, the lines that bars show.
-//! - `window`: `Window`, the size of a terminal that has some columns.
-//! - `spare`: `Spare`, room that was taken before, for lines and texts: it is taken, and kept again.
-//!
-//! What stands:
+//! modules below are private. What stands:
 //!
 //! - `counts`: `Counts`, how many rows are kept, live or blank, and how far the cursor is: after a draw, a log, a clear or a `keep`.
 //!   `Fresh`, the rows that are reached for the first time.
 //! - `remembered`: `Remembered`, the lines in those rows: the live ones, those of kept rows, and new ones in their place or below.
+//! - `spare`: `Spare`, room that was taken before, for lines and texts: it is taken, and kept again.
 //! - `recutting`: the remembered lines at another size (`CutLines`): each row's glyphs are cut into lines of one row; and the counts of those.
 //!
 //! What differs:
@@ -53,12 +48,10 @@ pub(crate) mod comparing;
 pub(crate) mod counts;
 pub(crate) mod inks;
 pub(crate) mod layout;
-pub(crate) mod lines;
 pub(crate) mod recutting;
 pub(crate) mod remembered;
 pub(crate) mod row_edits;
 pub(crate) mod spare;
-pub(crate) mod window;
 pub(crate) mod writing;
 
 use crate::engine::beside::{Room, height_of, last_column, lines_within};
@@ -66,14 +59,14 @@ use crate::engine::changing::{are_even, fill_behind};
 use crate::engine::counts::{Counts, Fresh, Keep};
 use crate::engine::inks::leaves_open;
 use crate::engine::layout::{Asked, Laid, plan_drawing, run_of};
-use crate::engine::lines::Segment;
 use crate::engine::recutting::{CutLines, Widths};
 use crate::engine::remembered::{Remembered, Span, StandingLine};
 use crate::engine::spare::Spare;
-use crate::engine::window::Window;
 use crate::engine::writing::{Drawing, Manner, Writing, write};
 use crate::target::limiter::RateLimiter;
+use crate::target::lines::Segment;
 use crate::target::term_like::{Resize, TermLike};
+use crate::target::window::Window;
 use crate::target::{MultiProgressAlignment, ProgressDrawTarget};
 use indicatif_text::columns::Refusal;
 use std::alloc::Global;
@@ -137,17 +130,17 @@ impl<T: TermLike + Drop> Engine<T> {
     ghost use Rattle.indicatif_term.specs.Lists.{Lists, drawn, logged, cleared, kept_of, fate};
     ghost use Rattle.indicatif_term.specs.Inside.Writings.{CanWrite, writing_bytes};
     ghost use Rattle.indicatif_term.specs.Calls.{TermView, Writes};
-    ghost use Rattle.indicatif_term.specs.Frames.{bar_lines, all_lines, are_plain, logged_lines, text_lines, is_fault};
+    ghost use Rattle.indicatif_term.specs.Lines.{bar_lines, all_lines, are_plain, logged_lines, text_lines, is_fault};
     ghost use Rattle.indicatif_term.specs.Inside.Plans.{frame_lines, text_above};
     ghost use Rattle.indicatif_term.specs.Engines.{engine_moves, engine_term, Fits, is_failure, Answers, Counted, Paints, lists_after};
-    ghost use Rattle.indicatif_term.specs.Inside.Remembering.{Draws, Remembers, IsNext, IsNothing};
+    ghost use Rattle.indicatif_term.specs.Inside.Remembered.{Draws, Remembers, IsNext, IsNothing};
     ghost use Rattle.indicatif_term.specs.Inside.Layouts.{ArePut, CanPut};
     ghost use Rattle.indicatif_term.specs.Inside.Owned.{kept_below};
     ghost use Rattle.indicatif_term.specs.Remembered.{live_lines};
     ghost use Rattle.indicatif_term.specs.Shows.{IsOpening, Rests, resting};
     ghost use Rattle.indicatif_term.specs.Screen.{Screen};
     ghost use Rattle.indicatif_term.specs.Terminal.{Terminal};
-    ghost use Rattle.indicatif_term.specs.DrawTargets.{is_bottom, term_of, limiter_of};
+    ghost use Rattle.indicatif_term.specs.Target.{is_bottom, term_of, limiter_of};
 
     /// An engine that has drawn nothing yet. It takes no memory and writes nothing.
     pub fn new(alloc: Global, term: T) -> Self
@@ -649,9 +642,9 @@ struct Before {
 }
 
 impl Before {
-    ghost use Rattle.indicatif_term.specs.Inside.Remembering.{HasRoom, CanMove, Stands};
+    ghost use Rattle.indicatif_term.specs.Inside.Remembered.{HasRoom, CanMove, Stands};
     ghost use Rattle.indicatif_term.specs.Inside.Writings.{IsChosen, whole_writing};
-    ghost use Rattle.indicatif_term.specs.Inside.Changes.{placed_height};
+    ghost use Rattle.indicatif_term.specs.Inside.Changing.{placed_height};
     ghost use Rattle.indicatif_term.specs.Inside.Places.{IsWithin};
     ghost use Rattle.indicatif_term.specs.Standing.{placed};
 

@@ -1,10 +1,12 @@
 //! Where bars are drawn, how often, and where they stand if a draw has fewer rows than the last one.
 //!
-//! `Facts`, `ProgressDrawTarget`, `Setup` and `MultiProgressAlignment` are here, and the public names of the engine and its lines.
+//! `Facts`, `ProgressDrawTarget`, `Setup` and `MultiProgressAlignment` are here, and the public names of the engine.
 //!
+//! - `lines`: `LineType` and `Segment`, the lines that bars show.
 //! - `limiter`: `RateLimiter`, how often a target may draw.
 //! - `term_like`: `TermLike`, what a terminal has to offer: its size, its faults, and its calls, each with its bytes: moves, texts, lines,
 //!   a cleared line, a flush. `Resize`, what changes its size.
+//! - `window`: `Window`, the size of a terminal that has some columns.
 //! - `move_bytes`: `MoveBytes`, the escape sequence of a move of the cursor.
 //! - `term`: `Term`, a terminal behind any writer. `write_whole` writes all of some bytes.
 //! - `own_rows`: `OwnRows`, a terminal whose rows are ended by the program if nobody knows the columns, or by the terminal.
@@ -13,20 +15,22 @@
 //!   waits (`Phase`), how a text is put piece by piece where its row has room, and how a row is left.
 ghost use Rattle.std.specs.Prelude.{◌≡◌, ◌↔◌, Option, option_map, string_bytes, IsTrue, Some, None, Err, IfOk, IfErr, if◌then◌else◌};
 ghost use Rattle.indicatif_term.specs.Limiters.{default_rate, draw_limiter};
-ghost use Rattle.indicatif_term.specs.DrawTargets.{term_of, is_dumb, hides, term_behind};
+ghost use Rattle.indicatif_term.specs.Target.{term_of, is_dumb, hides, term_behind};
 
 mod ended_rows;
 pub(crate) mod limiter;
+pub(crate) mod lines;
 pub(crate) mod move_bytes;
 mod own_row;
 mod own_rows;
 pub(crate) mod term;
 pub(crate) mod term_like;
+pub(crate) mod window;
 
 pub use crate::engine::Engine;
 pub use crate::engine::counts::Keep;
-pub use crate::engine::lines::{LineType, Segment};
 pub use crate::target::limiter::{DEFAULT_RATE, RateLimiter};
+pub use crate::target::lines::{LineType, Segment};
 pub use crate::target::own_row::OwnRow;
 pub use crate::target::own_rows::OwnRows;
 pub use crate::target::term::{Term, write_whole};
@@ -267,7 +271,7 @@ pub enum MultiProgressAlignment {
 }
 
 impl MultiProgressAlignment {
-    ghost use Rattle.indicatif_term.specs.DrawTargets.{is_bottom};
+    ghost use Rattle.indicatif_term.specs.Target.{is_bottom};
 
     /// Whether the bars stand below blank rows.
     pub(crate) fn is_bottom(self) -> bool

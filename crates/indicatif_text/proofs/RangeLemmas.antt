@@ -6,13 +6,12 @@ use Rattle.std.specs.Str.{IsUtf8, IsCharBoundary}
 use Rattle.std.proofs.lemmas.List.{take_at}
 use Rattle.std.proofs.lemmas.List.Sums.{sum_by-append}
 use Rattle.indicatif_text.specs.Columns.{width_of, columns_of}
-use Rattle.indicatif_text.specs.Pieces.{text_piece}
+use Rattle.indicatif_text.specs.Pieces.{text_piece, TextPiece, Colour, Run, pieces_of_text}
 use Rattle.indicatif_text.specs.declared.pieces.Piece.{Piece}
 use Rattle.indicatif_text.proofs.PieceLawLemmas.{runs_are_visible}
-use Rattle.indicatif_text.specs.Pieces.{TextPiece, Colour, Run, pieces_of_text}
 use Rattle.indicatif_text.specs.PieceLaws.{run_text}
 use Rattle.indicatif_text.specs.Range.{Appends, standing_within}
-use Rattle.indicatif_text.specs.Inside.Growing.{Grows}
+use Rattle.indicatif_text.specs.Inside.Range.{Grows}
 
 -- ---- a text appended piece by piece
 

@@ -2,7 +2,7 @@
 pub mod Draft
 pub mod StoredParts
 pub mod Durations
-pub mod Growing
+pub mod Range
 pub mod Pieces
 pub mod Quotients
 pub mod Reading

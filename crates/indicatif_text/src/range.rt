@@ -2,7 +2,7 @@
 ghost use Rattle.std.specs.Prelude.{◌≡◌, ◌+◌, ◌<◌, ◌≤◌, ◌^◌, chars, length, sum_by, encode_utf8_all, string_bytes, string_len, string_capacity, OnOk, OnErr, IfOk, IfErr};
 ghost use Rattle.indicatif_text.specs.Columns.{width_of};
 ghost use Rattle.indicatif_text.specs.Range.{Appends, ansi_range, run_within};
-ghost use Rattle.indicatif_text.specs.Inside.Growing.{Grows};
+ghost use Rattle.indicatif_text.specs.Inside.Range.{Grows};
 
 use crate::columns;
 use crate::refusal::Refusal;

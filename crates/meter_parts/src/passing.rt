@@ -1,7 +1,7 @@
 //! Bytes passed on.
 ghost use Rattle.std.specs.Prelude.{◌≡◌, ◌<◌, ◌≤◌, length, IfOk, IfErr};
 ghost use Rattle.std.specs.Io.KnownBytes.{WriteAppends};
-ghost use Rattle.indicatif_term.specs.Writers.{AppendsAllOrFront};
+ghost use Rattle.indicatif_term.specs.Term.{AppendsAllOrFront};
 ghost use Rattle.meter_parts.specs.Passing.{PassedAll, IsFinal, EndsAt};
 ghost use Rattle.meter_parts.specs.Inside.Reads.{PassedSome};
 

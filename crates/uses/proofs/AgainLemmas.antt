@@ -13,7 +13,7 @@ use Rattle.indicatif_text.specs.declared.refusal.Refusal.TheVariants.{Terminal a
 use Rattle.indicatif_term.specs.declared.engine.Engine.{Engine}
 use Rattle.indicatif_term.specs.Calls.{State, TermView, led_on}
 use Rattle.indicatif_term.specs.Engines.{Counted, Fits, Paints, is_failure, lists_after}
-use Rattle.indicatif_term.specs.Frames.{all_lines, are_plain, logged_lines, text_lines}
+use Rattle.indicatif_term.specs.Lines.{all_lines, are_plain, logged_lines, text_lines}
 use Rattle.indicatif_term.specs.Lists.{Lists, all_rows, fitting, forgotten_lists, grouped, lines_of, lists_height, logged, shown_rows}
 use Rattle.indicatif_term.specs.Screen.{Screen}
 use Rattle.indicatif_term.specs.Shows.{IsOpening, Placed, RestsOver, RowsStay, emptied_below, looks_of, on_next_row}

@@ -11,7 +11,7 @@ use Rattle.indicatif_term.specs.Lists.{Lists}
 use Rattle.indicatif_term.specs.CellCases.{AnyCut}
 use Rattle.indicatif_term.specs.Terminal.{Terminal, after}
 use Rattle.indicatif_term.specs.Pictures.{picture_text, row_text}
-use Rattle.indicatif_term.specs.Writers.{WriterTerm, view_behind}
+use Rattle.indicatif_term.specs.Term.{WriterTerm, view_behind}
 use Rattle.uses.specs.Readings.{BeginAs}
 
 -- what stands in the writer is what the terminal tells

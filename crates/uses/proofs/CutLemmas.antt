@@ -9,7 +9,7 @@ use Rattle.unicode_width.proofs.Computing.{unicode_width}
 use Rattle.indicatif_text.specs.Columns.{rows_of, visible, has_wide}
 use Rattle.indicatif_text.specs.declared.refusal.Drawn.{Drawn}
 use Rattle.indicatif_text.specs.ColumnLaws.{PrintedIsPlain}
-use Rattle.indicatif_term.specs.Frames.{logged_lines}
+use Rattle.indicatif_term.specs.Lines.{logged_lines}
 use Rattle.indicatif_term.specs.Screen.{blank_screen}
 use Rattle.indicatif_term.specs.Lists.{all_rows, drawn, logged, cleared, shown_rows, lines_of, fitting, grouped}
 use Rattle.indicatif_term.specs.Pictures.{row_text}

@@ -14,7 +14,7 @@ use Rattle.indicatif_text.specs.declared.refusal.Refusal.TheVariants.{TooWide, N
 use Rattle.indicatif_term.specs.declared.engine.Engine.{Engine}
 use Rattle.indicatif_term.specs.Calls.{State, TermView, led_on}
 use Rattle.indicatif_term.specs.Engines.{Answers, Counted, Fits, Paints, engine_term, failure_kind, is_failure, lists_after}
-use Rattle.indicatif_term.specs.Frames.{RefusesLines, all_lines, are_plain, is_fault, logged_lines, some_wide, text_lines}
+use Rattle.indicatif_term.specs.Lines.{RefusesLines, all_lines, are_plain, is_fault, logged_lines, some_wide, text_lines}
 use Rattle.indicatif_term.specs.Limiters.{Limiter, allow, draw_limiter}
 use Rattle.indicatif_term.specs.Lists.{BarLines, Lists, all_rows, cleared, drawn, fate, fitting, grouped, kept_of, lines_of, logged, opening_lists, forgotten_lists, shown_rows}
 use Rattle.indicatif_term.specs.declared.engine.counts.Keep.TheVariants.{Behind}

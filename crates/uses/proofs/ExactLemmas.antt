@@ -9,13 +9,13 @@ use Rattle.indicatif_text.specs.declared.refusal.Refusal.TheVariants.{NoColumns,
 use Rattle.indicatif_text.specs.declared.refusal.Drawn.{Drawn}
 use Rattle.indicatif_text.specs.declared.refusal.Drawn.TheVariants.{Yes, Limited, Hidden}
 use Rattle.indicatif_term.specs.Calls.{TermView}
-use Rattle.indicatif_term.specs.Frames.{all_lines, logged_lines, some_wide, text_lines}
+use Rattle.indicatif_term.specs.Lines.{all_lines, logged_lines, some_wide, text_lines}
 use Rattle.indicatif_term.specs.Engines.{is_failure}
 use Rattle.indicatif_bar.specs.declared.ask.Ask.{Ask}
 use Rattle.indicatif_bar.specs.declared.ask.Ask.TheVariants.{No, Unforced, Forced}
 use Rattle.indicatif_bar.specs.Machines.{Target, target_of, Draw, Leads, is_no, comes_to_lines, drawn_by}
 use Rattle.indicatif_term.specs.Limiters.{Limiter}
-use Rattle.indicatif_bar.specs.Kinds.{asked_of, has_line}
+use Rattle.indicatif_bar.specs.Kinds.{asked_of, has_line, NoFrame}
 use Rattle.indicatif_bar.specs.Runs.{wrote}
 use Rattle.indicatif_bar.specs.Says.{Decided, DecidedBy, Says}
 use Rattle.indicatif_bar.specs.Trackers.{Tracking}
@@ -27,7 +27,6 @@ use Rattle.indicatif_bar.specs.Lone.{LoneState, Obey, Log, Clear, draw_of_call, 
 use Rattle.indicatif_bar.specs.LoneBars.{lone_bar}
 use Rattle.indicatif_board.specs.BoardBars.{board_bars}
 use Rattle.indicatif_board.specs.Boards.{BoardState, Id, Clear as ClearBoard, Tell, Refused, says, drawn_of, drawn_of_said, draw_of, draw_of_command, draws, or_refused, turned_away, board}
-use Rattle.indicatif_bar.specs.Kinds.{NoFrame}
 use Rattle.indicatif_board.specs.Members.{Member, is_member, said_of, followers, order_of}
 
 -- no conjunction with a false side holds

@@ -11,7 +11,7 @@ use Rattle.indicatif_text.specs.Template.{TemplatePart, KeyText, Keyed, Parses, 
 use Rattle.indicatif_text.specs.declared.refusal.Refusal.{Refusal}
 use Rattle.indicatif_text.specs.declared.refusal.Drawn.{Drawn}
 use Rattle.indicatif_term.specs.Lists.{all_rows, drawn, logged, cleared, shown_rows, lines_of, fitting, grouped}
-use Rattle.indicatif_term.specs.Frames.{are_plain}
+use Rattle.indicatif_term.specs.Lines.{are_plain}
 use Rattle.indicatif_term.specs.Pictures.{row_text}
 use Rattle.indicatif_bar.specs.Styles.{BarStyle, lines}
 use Rattle.indicatif_bar.specs.Builders.{first_clusters}

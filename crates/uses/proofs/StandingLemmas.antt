@@ -11,7 +11,7 @@ use Rattle.indicatif_text.specs.Columns.{Cell, rows_of, visible, has_wide}
 use Rattle.indicatif_text.specs.declared.refusal.Drawn.{Drawn}
 use Rattle.indicatif_term.specs.Calls.{TermView}
 use Rattle.indicatif_term.specs.Engines.{Paints}
-use Rattle.indicatif_term.specs.Frames.{text_lines, logged_lines}
+use Rattle.indicatif_term.specs.Lines.{text_lines, logged_lines}
 use Rattle.indicatif_term.specs.Lists.{Lists, BarLines, all_rows, live_rows, drawn, logged, cleared, shown_rows, lines_of, fitting, grouped}
 use Rattle.indicatif_term.specs.Pictures.{row_text, picture_text}
 use Rattle.indicatif_term.specs.Screen.{Screen}

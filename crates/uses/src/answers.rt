@@ -2,7 +2,7 @@
 ghost use Rattle.std.specs.Prelude.{◌≡◌, ◌≢◌, ◌↔◌, ◌⊎◌, Some, Ok, Err, IsTrue, IsFalse};
 ghost use Rattle.indicatif_term.specs.Calls.{TermView};
 ghost use Rattle.indicatif_term.specs.Engines.{Paints, is_failure};
-ghost use Rattle.indicatif_term.specs.Frames.{logged_lines, some_wide, text_lines};
+ghost use Rattle.indicatif_term.specs.Lines.{logged_lines, some_wide, text_lines};
 ghost use Rattle.indicatif_bar.specs.Commands.{BarRecord, command_of};
 ghost use Rattle.indicatif_bar.specs.Lone.{LoneState, Obey};
 ghost use Rattle.indicatif_bar.specs.LoneBars.{LoneIsIn, lone_bar, lone_known, lone_terminal, record_of};

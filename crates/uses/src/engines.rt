@@ -3,7 +3,7 @@ ghost use Rattle.std.specs.Prelude.{◌≡◌, ◌⊎◌, ◌++◌, ◌∷◌, [
 ghost use Rattle.indicatif_text.specs.Columns.{rows_of};
 ghost use Rattle.indicatif_term.specs.Calls.{State};
 ghost use Rattle.indicatif_term.specs.Engines.{Fits, engine_term};
-ghost use Rattle.indicatif_term.specs.Frames.{all_lines, are_plain, bar_lines, is_fault};
+ghost use Rattle.indicatif_term.specs.Lines.{all_lines, are_plain, bar_lines, is_fault};
 ghost use Rattle.indicatif_term.specs.Lists.{Lists, all_rows, drawn, forgotten_lists, opening_lists};
 ghost use Rattle.indicatif_term.specs.Pictures.{picture_text, row_text};
 ghost use Rattle.indicatif_term.specs.Screen.{Screen};

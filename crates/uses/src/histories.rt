@@ -4,7 +4,7 @@ ghost use Rattle.std.specs.List.{last_or};
 ghost use Rattle.std.specs.declared.io.ErrorKind.TheVariants.{Other};
 ghost use Rattle.indicatif_text.specs.Columns.{Cell, rows_of};
 ghost use Rattle.indicatif_term.specs.Calls.{TermView};
-ghost use Rattle.indicatif_term.specs.Frames.{text_lines, logged_lines};
+ghost use Rattle.indicatif_term.specs.Lines.{text_lines, logged_lines};
 ghost use Rattle.indicatif_term.specs.Limiters.{draw_limiter};
 ghost use Rattle.indicatif_term.specs.Lists.{opening_lists, all_rows};
 ghost use Rattle.indicatif_term.specs.Memory.{view_of};

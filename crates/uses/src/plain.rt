@@ -3,7 +3,7 @@ ghost use Rattle.std.specs.Prelude.{◌≡◌, ◌≤◌, ◌∷◌, [], ℕ, Li
 ghost use Rattle.indicatif_term.specs.Calls.{TermView};
 ghost use Rattle.indicatif_term.specs.Calm.{is_quiet};
 ghost use Rattle.indicatif_term.specs.Engines.{Paints, is_failure};
-ghost use Rattle.indicatif_term.specs.Frames.{logged_lines};
+ghost use Rattle.indicatif_term.specs.Lines.{logged_lines};
 ghost use Rattle.indicatif_term.specs.Memory.{view_of};
 ghost use Rattle.indicatif_term.specs.Pictures.{picture_text};
 ghost use Rattle.indicatif_term.specs.Terminal.{after, blank_terminal};

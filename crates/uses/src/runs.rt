@@ -9,7 +9,7 @@ ghost use Rattle.indicatif_term.specs.Screen.{Screen};
 ghost use Rattle.indicatif_term.specs.Calls.{TermView};
 ghost use Rattle.indicatif_term.specs.Memory.{view_of};
 ghost use Rattle.indicatif_term.specs.Engines.{is_failure};
-ghost use Rattle.indicatif_term.specs.Frames.{text_lines, logged_lines};
+ghost use Rattle.indicatif_term.specs.Lines.{text_lines, logged_lines};
 ghost use Rattle.indicatif_term.specs.Lists.{all_rows};
 ghost use Rattle.indicatif_bar.specs.Commands.{BarRecord};
 ghost use Rattle.indicatif_bar.specs.Runs.{Runs, AllPlain};

@@ -6,7 +6,7 @@ use Rattle.indicatif_text.specs.declared.refusal.Drawn.{Drawn}
 use Rattle.indicatif_term.specs.Calls.{TermView}
 use Rattle.indicatif_term.specs.Limiters.{Limiter}
 use Rattle.indicatif_term.specs.Lists.{opening_lists}
-use Rattle.indicatif_term.specs.DrawTargets.{term_of, limiter_of}
+use Rattle.indicatif_term.specs.Target.{term_of, limiter_of}
 use Rattle.indicatif_bar.specs.Trackers.{Tracking}
 use Rattle.indicatif_bar.specs.Commands.{BarRecord}
 use Rattle.indicatif_board.specs.Boards.{BoardState, Id, Location, Entrant, Answer, Given, Accepted, Drew, Refused, Clear, Insert, Remove, drawn_of}

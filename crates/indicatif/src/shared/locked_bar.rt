@@ -3,7 +3,7 @@
 //! - `told`: the bar's plain line, if its target is hidden and a line is due.
 ghost use Rattle.std.specs.Prelude.{◌≡◌, ◌≢◌, ◌<◌, ◌-◌, ℕ, Some, None, Ok, Err, true, false, IsTrue, IsFalse, IfOk, IfErr, MatchResult};
 ghost use Rattle.std.specs.Fn.{FnOnceReturnsAt};
-ghost use Rattle.indicatif_term.specs.DrawTargets.{term_of};
+ghost use Rattle.indicatif_term.specs.Target.{term_of};
 ghost use Rattle.indicatif_bar.specs.Commands.{SetTicker, SetPosition, FinishUsingStyle};
 ghost use Rattle.indicatif_bar.specs.Lone as Lone;
 ghost use Rattle.indicatif_bar.specs.LoneBars.{lone_call_as, record_of};

@@ -1,6 +1,6 @@
 -- A style's lists of texts. Texts are lists of bytes in UTF-8.
 use Rattle.std.specs.Prelude.{ℕ, List, map}
-use Rattle.indicatif_bar.specs.Inside.Cells.{bytes_of_strings}
+use Rattle.indicatif_bar.specs.Inside.Bars.{bytes_of_strings}
 use Rattle.indicatif_bar.specs.declared.style.texts.Texts.{Texts}
 use Rattle.indicatif_bar.specs.declared.style.texts.Texts.TheVariants.{Fixed, Own}
 

@@ -2,7 +2,7 @@
 ghost use Rattle.std.specs.Prelude.{◌≡◌, ◌<◌, ◌≤◌, ◌++◌, ◌*◌, ◌/◌, ◌%◌, nat_lt, string_bytes, length, OnOk, IfOk, IfErr, IfSome, [], MatchOption};
 ghost use Rattle.indicatif_text.specs.StyleWords.{numbers_of, opening_of};
 ghost use Rattle.indicatif_bar.specs.Layout.{text_columns, cluster, bar_text};
-ghost use Rattle.indicatif_bar.specs.Inside.Cells.{shade_of, begun_text, cells_left};
+ghost use Rattle.indicatif_bar.specs.Inside.Bars.{shade_of, begun_text, cells_left};
 ghost use Rattle.indicatif_bar.specs.Inside.Texts.{texts_in};
 
 use crate::measures::Fraction;

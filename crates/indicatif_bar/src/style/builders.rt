@@ -3,9 +3,8 @@ ghost use Rattle.std.specs.Prelude.{◌≡◌, ◌⊎◌, ◌≤◌, None, Some,
 ghost use Rattle.std.specs.List.{list_all};
 ghost use Rattle.indicatif_bar.specs.Bars.{is_bar_line};
 ghost use Rattle.indicatif_text.specs.declared.template.TemplateError.{TemplateError};
-ghost use Rattle.indicatif_text.specs.Template.{Parses, IsRefused};
-ghost use Rattle.indicatif_text.specs.Template.{refusal_of};
-ghost use Rattle.indicatif_term.specs.Frames.{line_text};
+ghost use Rattle.indicatif_text.specs.Template.{Parses, IsRefused, refusal_of};
+ghost use Rattle.indicatif_term.specs.Lines.{line_text};
 ghost use Rattle.indicatif_bar.specs.Trackers.{entries};
 ghost use Rattle.indicatif_bar.specs.Styles.{lines, is_empty_style};
 ghost use Rattle.indicatif_bar.specs.Builders.{characters_of, clusters_of, tick_fault, progress_fault, with_key, first_style};

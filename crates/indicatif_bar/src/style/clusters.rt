@@ -1,10 +1,9 @@
 //! Lists of texts: characters, grapheme clusters, copies.
-ghost use Rattle.std.specs.Prelude.{◌≡◌, List, ℕ, map, length, nat_lt, IfOk, IfErr};
+ghost use Rattle.std.specs.Prelude.{◌≡◌, List, ℕ, map, length, nat_lt, IfOk, IfErr, ◌==◌};
 ghost use Rattle.indicatif_bar.specs.Builders.{characters_of, clusters_of, progress_fault};
-ghost use Rattle.std.specs.Prelude.{◌==◌};
 ghost use Rattle.std.specs.List.{list_all};
 ghost use Rattle.indicatif_bar.specs.Layout.{text_columns};
-ghost use Rattle.indicatif_bar.specs.Inside.Cells.{bytes_of_strings};
+ghost use Rattle.indicatif_bar.specs.Inside.Bars.{bytes_of_strings};
 
 use indicatif_text::columns::{Refusal, columns};
 use std::alloc::Global;

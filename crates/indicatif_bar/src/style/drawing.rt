@@ -4,7 +4,7 @@ ghost use Rattle.std.specs.Option.{option_map_or, option_or};
 ghost use Rattle.std.specs.List.{list_all, list_any, slice_get};
 ghost use Rattle.indicatif_bar.specs.Bars.{is_bar_line};
 ghost use Rattle.std.specs.Str.{trim_end};
-ghost use Rattle.indicatif_term.specs.Frames.{line_text};
+ghost use Rattle.indicatif_term.specs.Lines.{line_text};
 ghost use Rattle.indicatif_bar.specs.Tabs.{expanded};
 ghost use Rattle.indicatif_bar.specs.Progress.{fraction, shown_message};
 ghost use Rattle.indicatif_bar.specs.Layout.{bar_text, padded};

@@ -3,7 +3,7 @@ ghost use Rattle.std.specs.Prelude.{◌≡◌, ◌++◌, ◌∷◌, [], false, f
 ghost use Rattle.std.specs.Option.{option_map_or};
 ghost use Rattle.std.specs.List.{list_all, list_any, slice_get, slice_split};
 ghost use Rattle.indicatif_bar.specs.Bars.{is_bar_line};
-ghost use Rattle.indicatif_term.specs.Frames.{line_text};
+ghost use Rattle.indicatif_term.specs.Lines.{line_text};
 ghost use Rattle.indicatif_bar.specs.Layout.{text_columns};
 ghost use Rattle.indicatif_bar.specs.Styles.{is_filler, is_newline, ends_in_filler, columns_left};
 

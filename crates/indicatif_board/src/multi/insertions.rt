@@ -9,7 +9,7 @@ ghost use Rattle.indicatif_board.specs.Boards.{BoardState, Location, End, Index,
 ghost use Rattle.indicatif_board.specs.BoardValues.{id_of};
 ghost use Rattle.indicatif_board.specs.Calls.{entrant_of, given, place_at, IsForeign};
 ghost use Rattle.indicatif_board.specs.Insertions.{Inserts, HasAnchor};
-ghost use Rattle.indicatif_board.specs.Inside.Anchors.{LacksAnchor};
+ghost use Rattle.indicatif_board.specs.Inside.Insertions.{LacksAnchor};
 ghost use Rattle.indicatif_board.specs.Multi.{IsIn, EntersAbsent, TurnsAway, Keeps, mark_of, seat_in, RecordsTake, SlotsTake, slots_of};
 
 use crate::bar_id::BarId;

@@ -7,12 +7,12 @@ use Rattle.indicatif_term.specs.Lists.{BarRows, lines_of, blanks_for}
 use Rattle.indicatif_term.specs.Calls.{TermView}
 use Rattle.indicatif_term.specs.Shows.{looks_of}
 use Rattle.indicatif_term.specs.Counts.{RowCount, line_counts}
-use Rattle.indicatif_term.specs.Frames.{bar_lines, all_lines, text_lines, some_wide}
+use Rattle.indicatif_term.specs.Lines.{bar_lines, all_lines, text_lines, some_wide}
 use Rattle.indicatif_term.specs.Remembered.{live_lines}
 use Rattle.indicatif_term.specs.Inside.Inks.{IsRead}
 use Rattle.indicatif_term.specs.Inside.Owned.{blank_count, no_plan}
 use Rattle.indicatif_term.specs.Inside.Fills.{line_end, last_or_none}
-use Rattle.indicatif_term.specs.Inside.Changes.{AreSitting}
+use Rattle.indicatif_term.specs.Inside.Changing.{AreSitting}
 use Rattle.indicatif_term.specs.Inside.Plans.{passing_of, IsPlan, IsSummed, IsLaidOut, IsWithheld, frame_lines, text_height}
 use Rattle.indicatif_term.specs.Inside.Renewed.{AreFitting, renewed}
 use Rattle.indicatif_term.specs.Standing.{placed, texts, standing_rows, AreLines, AreReady}
@@ -20,7 +20,7 @@ use Rattle.indicatif_term.specs.declared.engine.comparing.Turn.{Turn}
 use Rattle.indicatif_term.specs.declared.engine.layout.Laid.{Laid}
 use Rattle.indicatif_term.specs.declared.engine.layout.OwnLine.{OwnLine}
 use Rattle.indicatif_term.specs.declared.engine.layout.Planned.{Planned}
-use Rattle.indicatif_term.specs.declared.engine.lines.Segment.{Segment}
+use Rattle.indicatif_term.specs.declared.target.lines.Segment.{Segment}
 use Rattle.indicatif_term.specs.declared.engine.comparing.Step.TheVariants.{Whole}
 use Rattle.indicatif_term.specs.declared.engine.remembered.Remembered.{Remembered}
 use Rattle.indicatif_term.specs.declared.engine.remembered.Span.{Span}

@@ -3,9 +3,9 @@ use Rattle.std.specs.Prelude.{◌≡◌, ℕ, ◌+◌, ◌<◌, ◌≤◌, ◌++
 use Rattle.std.specs.List.{AllByRecursion}
 use Rattle.indicatif_text.specs.Columns.{Cell, visible, rows_of}
 use Rattle.indicatif_term.specs.Shows.{looks_of}
-use Rattle.indicatif_term.specs.Inside.Edits.{Edit, Tails, IsNarrowChar, plan, repainted, edit_colours}
+use Rattle.indicatif_term.specs.Inside.RowEdits.{Edit, Tails, IsNarrowChar, plan, repainted, edit_colours}
 use Rattle.indicatif_term.specs.Inside.Inks.{Inked, IsRead, NONE, in_colours, as_painted, painted, read, padded}
-use Rattle.indicatif_term.specs.Inside.Changes as drawn
+use Rattle.indicatif_term.specs.Inside.Changing as drawn
 use Rattle.indicatif_term.specs.declared.engine.comparing.Stretch.{Stretch}
 use Rattle.indicatif_term.specs.declared.engine.comparing.Step.{Step}
 use Rattle.indicatif_term.specs.declared.engine.comparing.Step.TheVariants as steps

@@ -1,6 +1,6 @@
 -- Lines in rows that were there before.
 use Rattle.std.specs.Prelude.{◌≡◌, ℕ, ◌+◌, ◌<◌, ◌≤◌, List, length, take}
-use Rattle.indicatif_term.specs.Inside.Changes.{placed_height}
+use Rattle.indicatif_term.specs.Inside.Changing.{placed_height}
 use Rattle.indicatif_term.specs.Standing.{placed}
 use Rattle.indicatif_term.specs.declared.engine.remembered.StandingLine.{StandingLine}
 use Rattle.indicatif_term.specs.declared.engine.beside.Room.{Room}

@@ -5,11 +5,11 @@ use Rattle.indicatif_text.specs.Columns.{has_wide, rows_of, last_columns}
 use Rattle.indicatif_text.specs.declared.columns.Metrics.{Metrics}
 use Rattle.indicatif_text.specs.declared.refusal.Refusal.{Refusal}
 use Rattle.indicatif_term.specs.Lists.{BarLines, BarRows, shown_rows, fitting, lines_of, segments_height}
-use Rattle.indicatif_term.specs.Frames.{line_text, bar_lines, text_lines, logged_lines, some_wide, RefusesLines, is_fault}
+use Rattle.indicatif_term.specs.Lines.{line_text, bar_lines, text_lines, logged_lines, some_wide, RefusesLines, is_fault}
 use Rattle.indicatif_term.specs.Counts.{RowCount, row_count}
 use Rattle.indicatif_term.specs.Inside.Owned.{through}
 use Rattle.indicatif_term.specs.Inside.Fills.{line_end, last_or_none}
-use Rattle.indicatif_term.specs.declared.engine.lines.Segment.{Segment}
+use Rattle.indicatif_term.specs.declared.target.lines.Segment.{Segment}
 use Rattle.indicatif_term.specs.declared.engine.layout.Plan.{Plan}
 
 -- ---- what a draw writes

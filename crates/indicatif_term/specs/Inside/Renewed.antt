@@ -4,7 +4,7 @@ use Rattle.indicatif_text.specs.Columns.{Cell, has_wide, rows_of, last_columns}
 use Rattle.indicatif_term.specs.Shows.{looks_of}
 use Rattle.indicatif_term.specs.Standing.{placed_of, texts, IsLine}
 use Rattle.indicatif_term.specs.Inside.Inks.{IsRead}
-use Rattle.indicatif_term.specs.Inside.Changes.{Becomes, Ends}
+use Rattle.indicatif_term.specs.Inside.Changing.{Becomes, Ends}
 use Rattle.indicatif_term.specs.Inside.Parting.{IsTurned, IsReady}
 use Rattle.indicatif_term.specs.declared.engine.remembered.StandingLine.{StandingLine}
 use Rattle.indicatif_term.specs.declared.engine.beside.NewLine.{NewLine}

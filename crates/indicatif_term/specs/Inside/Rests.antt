@@ -2,7 +2,7 @@
 use Rattle.std.specs.Prelude.{◌≡◌, ℕ, ◌+◌, ◌≤◌, ◌==◌, ◌++◌, Bool, false, List, length, take, chars, IsCharBoundary}
 use Rattle.std.specs.List.{list_any}
 use Rattle.indicatif_term.specs.Inside.Inks.{Ink, Inked, read}
-use Rattle.indicatif_term.specs.Inside.Edits.{rest_bytes}
+use Rattle.indicatif_term.specs.Inside.RowEdits.{rest_bytes}
 use Rattle.indicatif_term.specs.Inside.Parting.{tail}
 use Rattle.indicatif_term.specs.declared.engine.inks.Colours.{Colours}
 use Rattle.indicatif_term.specs.declared.engine.inks.InkedText.{InkedText}

@@ -3,7 +3,7 @@ use Rattle.std.specs.Prelude.{◌≡◌, Result, MatchResult}
 use Rattle.indicatif_text.specs.declared.refusal.Refusal.{Refusal}
 use Rattle.indicatif_text.specs.declared.refusal.Refusal.TheVariants.{NoColumns}
 use Rattle.indicatif_term.specs.Calls.{TermView}
-use Rattle.indicatif_term.specs.declared.engine.window.Window.{Window}
+use Rattle.indicatif_term.specs.declared.target.window.Window.{Window}
 
 -- it is the terminal's, or there is none
 abbrev pub WindowOf : TermView → Result Window Refusal → Type 0

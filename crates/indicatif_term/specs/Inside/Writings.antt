@@ -2,12 +2,11 @@
 use Rattle.std.specs.Prelude.{◌≡◌, ◌⊎◌, ℕ, ◌≤◌, Bool, true, false, ◌&&◌, ◌||◌, not, nat_lt, ◌==◌, List, [], ◌++◌, length, take, drop, replicate, option_map, if◌then◌else◌}
 use Rattle.indicatif_term.specs.Calls.{anew_bytes}
 use Rattle.indicatif_term.specs.Standing.{placed, texts, AreReady}
-use Rattle.indicatif_term.specs.Inside.Bytes.{next_row, reach_bytes, back_bytes, lines_bytes}
-use Rattle.indicatif_term.specs.Inside.Changes.{PlacedLine, placed_height, free_behind, among_bytes}
+use Rattle.indicatif_term.specs.Inside.MoveBytes.{next_row, reach_bytes, back_bytes, lines_bytes}
+use Rattle.indicatif_term.specs.Inside.Changing.{PlacedLine, placed_height, free_behind, among_bytes, moved_bytes}
 use Rattle.indicatif_term.specs.Inside.Fills.{last_of, fill_columns}
-use Rattle.indicatif_term.specs.Inside.Moves.{moved_bytes}
 use Rattle.indicatif_term.specs.Inside.Places.{IsWithin}
-use Rattle.indicatif_term.specs.Inside.Remembering.{CanMove, HasRoom}
+use Rattle.indicatif_term.specs.Inside.Remembered.{CanMove, HasRoom}
 use Rattle.indicatif_term.specs.declared.engine.beside.Room.{Room}
 use Rattle.indicatif_term.specs.declared.engine.counts.Counts.{Counts}
 use Rattle.indicatif_term.specs.declared.engine.counts.Fresh.{Fresh}

@@ -2,9 +2,8 @@
 ghost use Rattle.std.specs.Prelude.{◌≡◌, ◌∷◌, [], ◌⊎◌, ◌↔◌, ◌-◌, ◌<◌, ◌≤◌, ◌==◌, ◌&&◌, take, drop, map, length, Err, IfOk, IfErr, IsTrue, IsFalse, OnOk, OnErr, string_bytes};
 ghost use Rattle.indicatif_term.specs.Screen.{top};
 ghost use Rattle.indicatif_term.specs.Terminal.{after, blank_terminal, idle};
-ghost use Rattle.indicatif_term.specs.Inside.Reading.{byte_ops};
+ghost use Rattle.indicatif_term.specs.Inside.Scanners.{byte_ops, IsWholeChar, IsWholeSequence};
 ghost use Rattle.indicatif_term.specs.Feeding.{first_takes_memory, feeding_takes_memory};
-ghost use Rattle.indicatif_term.specs.Inside.Scanners.{IsWholeChar, IsWholeSequence};
 ghost use Rattle.indicatif_term.specs.Pictures.{contents_text, has_contents, picture_text};
 ghost use Rattle.indicatif_term.specs.Resizes.{resized_terminal};
 

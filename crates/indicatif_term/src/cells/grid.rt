@@ -5,7 +5,7 @@ ghost use Rattle.std.specs.Prelude.{All, ◌≡◌, ℕ, ◌+◌, ◌-◌, ◌<�
 ghost use Rattle.std.specs.List.{join_with_byte};
 ghost use Rattle.indicatif_text.specs.Columns.{blank_row};
 ghost use Rattle.indicatif_term.specs.Screen.{Put, Return, Up, Down, Right, Left, EmptyRow, performed, blank_screen, line_feed, put_wide, put_joiner, put_here, top};
-ghost use Rattle.indicatif_term.specs.Inside.Reading.{performed_all};
+ghost use Rattle.indicatif_term.specs.Inside.Scanners.{performed_all};
 ghost use Rattle.indicatif_term.specs.Pictures.{contents_text, has_contents, picture_text, row_text, written_rows};
 ghost use Rattle.indicatif_term.specs.Feeding.{op_takes_memory};
 ghost use Rattle.indicatif_term.specs.Inside.Grids.{op_of};

@@ -3,11 +3,11 @@ ghost use Rattle.std.specs.Prelude.{Err, IfErr, IfOk, IfSome, IsTrue, List, [], 
 ghost use Rattle.indicatif_term.specs.Counts.{line_count, line_counts};
 ghost use Rattle.indicatif_term.specs.Inside.Owned.{blank_count};
 ghost use Rattle.indicatif_term.specs.Inside.Layouts.{AreBlank, AreWhole, IsFrameLaid};
-ghost use Rattle.indicatif_term.specs.Inside.Changes.{PlacedLine, placed_height};
+ghost use Rattle.indicatif_term.specs.Inside.Changing.{PlacedLine, placed_height};
 ghost use Rattle.indicatif_term.specs.Inside.Fills.{last_of};
 ghost use Rattle.indicatif_term.specs.Inside.Places.{IsWithin};
 ghost use Rattle.indicatif_term.specs.Standing.{AreLines, placed, texts};
-ghost use Rattle.indicatif_term.specs.declared.engine.lines.Segment.{Segment};
+ghost use Rattle.indicatif_term.specs.declared.target.lines.Segment.{Segment};
 ghost use Rattle.indicatif_term.specs.Inside.Renewed.{FitsIn, AreFitting, AreInPlace, AreOver, renewed};
 
 use crate::engine::comparing::{Step, Turn};

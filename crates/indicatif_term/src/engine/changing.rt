@@ -3,10 +3,9 @@
 ghost use Rattle.std.specs.Prelude.{length, ◌≡◌, ◌==◌, ◌&&◌, ◌+◌, ◌-◌, ◌*◌, ◌≤◌, ◌++◌, ◌∷◌, [], IsTrue, IfSome, chars, replicate, string_bytes};
 ghost use Rattle.indicatif_text.specs.Columns.{visible};
 ghost use Rattle.indicatif_term.specs.Calls.{Writes, DOWN, RIGHT, move_bytes};
-ghost use Rattle.indicatif_term.specs.Inside.Changes.{placed_height, changed_bytes, filled_whole, last_bytes, all_stay, stays, free_behind, among_bytes, ends_plainly, last_byte};
+ghost use Rattle.indicatif_term.specs.Inside.Changing.{placed_height, changed_bytes, filled_whole, last_bytes, all_stay, stays, free_behind, among_bytes, ends_plainly, last_byte, filled_bytes, moved_bytes, joins, IsEven, AreEven};
 ghost use Rattle.indicatif_term.specs.Inside.Parting.{IsReady};
 ghost use Rattle.indicatif_term.specs.Inside.Fills.{last_of};
-ghost use Rattle.indicatif_term.specs.Inside.Moves.{filled_bytes, moved_bytes, joins, IsEven, AreEven};
 ghost use Rattle.indicatif_term.specs.Standing.{placed_of, placed, AreReady};
 
 use crate::engine::beside::height_of;

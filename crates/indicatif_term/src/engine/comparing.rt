@@ -5,7 +5,7 @@ ghost use Rattle.indicatif_text.specs.Columns.{width_of, visible};
 ghost use Rattle.indicatif_text.specs.Pieces.{TextPiece, text_piece};
 ghost use Rattle.indicatif_text.specs.PieceLaws.{run_text};
 ghost use Rattle.indicatif_term.specs.Standing.{IsLine};
-ghost use Rattle.indicatif_term.specs.Inside.Edits.{AreSingle};
+ghost use Rattle.indicatif_term.specs.Inside.RowEdits.{AreSingle};
 ghost use Rattle.indicatif_term.specs.Inside.Inks.{IsRead, is_tidy};
 ghost use Rattle.indicatif_term.specs.Inside.Parting.{Parted, IsTurned};
 ghost use Rattle.indicatif_term.specs.Inside.Rests.{ArePlain};
@@ -15,7 +15,7 @@ ghost use Rattle.indicatif_term.specs.Inside.Layouts.{IsSized};
 use crate::engine::inks::{Alike, char_count, closes, split};
 use crate::engine::layout::metrics_of;
 use crate::engine::remembered::StandingLine;
-use crate::engine::window::Window;
+use crate::target::window::Window;
 use indicatif_text::columns::{Piece, Refusal, pieces, width};
 
 /// What is written of a line whose text parts from the one that stands there at a byte: some columns from one on, and whether the cursor is

@@ -62,8 +62,7 @@ impl Counts {
     ghost use Rattle.indicatif_term.specs.Counts.{CountsOf};
     ghost use Rattle.indicatif_term.specs.Inside.Plans.{IsPlan, IsSummed, text_height};
     ghost use Rattle.indicatif_term.specs.Inside.Fills.{fill_columns};
-    ghost use Rattle.indicatif_term.specs.Inside.Reached.{IsFresh, IsAtop};
-    ghost use Rattle.indicatif_term.specs.Inside.Counted.{IsPassed};
+    ghost use Rattle.indicatif_term.specs.Inside.Counts.{IsFresh, IsAtop, IsPassed};
 
     /// The counts before the first drawing: the cursor is on the first row, at its front.
     pub fn new() -> Counts
@@ -242,7 +241,7 @@ struct NextRows {
 }
 
 impl NextRows {
-    ghost use Rattle.indicatif_term.specs.Inside.Counted.{SettledCounts};
+    ghost use Rattle.indicatif_term.specs.Inside.Counts.{SettledCounts};
 
     /// The counts where those kept rows that have scrolled away join those above. `reached` rows were reached before.
     fn settled(self, reached: usize, height: usize) -> Counts

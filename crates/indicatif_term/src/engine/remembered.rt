@@ -118,7 +118,7 @@ pub struct Remembered {
 impl Remembered {
     ghost use Rattle.indicatif_term.specs.Lists.{Lists};
     ghost use Rattle.indicatif_term.specs.Remembered.{AreRemembered, live_lines};
-    ghost use Rattle.indicatif_term.specs.Inside.Remembering.{StandAbove, IsNext, IsNothing};
+    ghost use Rattle.indicatif_term.specs.Inside.Remembered.{StandAbove, IsNext, IsNothing};
     ghost use Rattle.indicatif_term.specs.Inside.Owned.{kept_below};
     ghost use Rattle.indicatif_term.specs.Inside.Layouts.{AreBlank, ArePut, CanPut};
 

@@ -3,7 +3,7 @@ ghost use Rattle.std.specs.Prelude.{◌≡◌, ◌+◌, ◌-◌, ◌≤◌, ◌<
 ghost use Rattle.std.specs.IoError.{error_kind};
 ghost use Rattle.indicatif_term.specs.Calls.{Writes, LeadsOn, BreaksOff, DOWN, RIGHT, move_bytes};
 ghost use Rattle.indicatif_term.specs.Inside.Inks.{colours_of, in_ink, is_alike};
-ghost use Rattle.indicatif_term.specs.Inside.Edits.{edit_bytes, row_bytes, reset_bytes, ink_bytes};
+ghost use Rattle.indicatif_term.specs.Inside.RowEdits.{edit_bytes, row_bytes, reset_bytes, ink_bytes};
 ghost use Rattle.indicatif_term.specs.Inside.Parting.{HasPart, part_edits};
 ghost use Rattle.indicatif_term.specs.Inside.Rests.{HasRoom, ink_of, left_bytes};
 

@@ -1,7 +1,7 @@
 //! A drawing, written from its first byte to its last.
 ghost use Rattle.std.specs.Prelude.{◌≡◌, ◌<◌, ◌≤◌, ◌+◌, ◌-◌, [], ◌∷◌, ◌++◌, replicate, if◌then◌else◌};
 ghost use Rattle.indicatif_term.specs.Calls.{Writes, UP, DOWN, move_bytes, clear_bytes, anew_bytes};
-ghost use Rattle.indicatif_term.specs.Inside.Bytes.{rows_down, reach_bytes, back_bytes, next_row, Puts};
+ghost use Rattle.indicatif_term.specs.Inside.MoveBytes.{rows_down, reach_bytes, back_bytes, next_row, Puts};
 ghost use Rattle.indicatif_term.specs.Inside.Writings.{CanWrite, is_inside, is_at_end, lower_lines, begin_bytes, inside_bytes, rest_bytes, writing_bytes};
 ghost use Rattle.indicatif_term.specs.Standing.{texts};
 ghost use Rattle.indicatif_term.specs.Inside.Plans.{text_above};

@@ -2,7 +2,7 @@
 ghost use Rattle.std.specs.Prelude.{◌≡◌, false, ◌⊎◌, ◌↔◌, IsOk, IfErr, OnOk, OnErr};
 ghost use Rattle.indicatif_term.specs.Calls.{Writes, move_bytes, UP, DOWN, RIGHT, LEFT};
 ghost use Rattle.indicatif_term.specs.Resizes.{Resized};
-ghost use Rattle.indicatif_term.specs.Writers.{WriterTerm, view_behind, counted_as, AppendsAllOrFront};
+ghost use Rattle.indicatif_term.specs.Term.{WriterTerm, view_behind, counted_as, AppendsAllOrFront};
 
 use crate::target::move_bytes::MoveBytes;
 use crate::target::term_like::{Resize, TermLike};
@@ -30,7 +30,7 @@ pub struct Term<W: Write> {
 }
 
 impl<W: Write> Model for Term<W> {
-    ghost use Rattle.indicatif_term.specs.Writers.{WriterTerm};
+    ghost use Rattle.indicatif_term.specs.Term.{WriterTerm};
 
     ghost Value = { WriterTerm W };
 

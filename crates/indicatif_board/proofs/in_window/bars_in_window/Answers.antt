@@ -2,7 +2,7 @@ use Rattle.std.proofs.Common.{◌≡◌, ◌+◌, ◌-◌, ◌≤◌, map, min, 
 use lib.Seq.{take-length as take_all}
 use Rattle.std.proofs.lemmas.List.{length-map, take-map, take_rest}
 use Rattle.indicatif_term.specs.Engines.{engine_term}
-use Rattle.indicatif_term.specs.Frames.{bar_lines}
+use Rattle.indicatif_term.specs.Lines.{bar_lines}
 use Rattle.indicatif_bar.specs.Shown.{PutsFrame}
 use Rattle.indicatif_bar.specs.Stages.{writing_as}
 use Rattle.indicatif_board.proofs.WindowLemmas.{SeesEnough, puts_all, first_within, sees_enough}

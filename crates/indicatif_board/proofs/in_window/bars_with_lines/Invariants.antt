@@ -1,5 +1,5 @@
 use Rattle.std.proofs.Common.{◌≤◌, map, take, length}
-use Rattle.indicatif_term.specs.Frames.{all_lines, bar_lines}
+use Rattle.indicatif_term.specs.Lines.{all_lines, bar_lines}
 use Rattle.indicatif_board.proofs.in_window.bars_with_lines.Given as goal
 
 abbrev pub invariant-loop-count : goal.invariant-loop-count

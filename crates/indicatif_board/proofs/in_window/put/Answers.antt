@@ -1,7 +1,7 @@
 use Rattle.std.proofs.Common.{◌-◌, ◌∙◌, sym, ap, map, drop, length, length-drop, arith}
 use Rattle.std.proofs.lemmas.List.{take_all, drop-map}
-use Rattle.indicatif_term.specs.Frames.{bar_lines, text_lines, logged_lines}
-use Rattle.indicatif_term.specs.DrawTargets.{is_bottom}
+use Rattle.indicatif_term.specs.Lines.{bar_lines, text_lines, logged_lines}
+use Rattle.indicatif_term.specs.Target.{is_bottom}
 use Rattle.indicatif_bar.proofs.StageLemmas.{puts_text}
 use Rattle.indicatif_board.proofs.in_window.put.Goals as goal
 

@@ -1,6 +1,6 @@
 use Rattle.std.proofs.Common.{ap}
 use Rattle.indicatif_term.specs.Lists.{opening_lists}
-use Rattle.indicatif_term.specs.DrawTargets.{limiter_of}
+use Rattle.indicatif_term.specs.Target.{limiter_of}
 use Rattle.indicatif_bar.specs.Commands.{TickerTick}
 use Rattle.indicatif_bar.specs.Lone.{Obey}
 use Rattle.indicatif_bar.specs.LoneBars.{lone_known}

@@ -1,6 +1,6 @@
 use Rattle.std.proofs.Common.{ap}
 use Rattle.indicatif_term.specs.Lists.{opening_lists}
-use Rattle.indicatif_term.specs.DrawTargets.{limiter_of}
+use Rattle.indicatif_term.specs.Target.{limiter_of}
 use Rattle.indicatif_bar.specs.Commands.{TickerTick}
 use Rattle.indicatif_board.specs.Boards.{Tell, says}
 use Rattle.indicatif_board.specs.BoardValues.{id_of}

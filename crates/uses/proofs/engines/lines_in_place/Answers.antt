@@ -2,7 +2,7 @@ use Rattle.std.proofs.Common.{◌∙◌, ◌++◌, ◌∷◌, [], Ok, Err, ap, m
 use Rattle.std.specs.Prelude.{codes, false}
 use Rattle.std.proofs.lemmas.Result.{err_from_is_err_and}
 use Rattle.indicatif_term.specs.Engines.{engine_term}
-use Rattle.indicatif_term.specs.Frames.{all_lines, bar_lines}
+use Rattle.indicatif_term.specs.Lines.{all_lines, bar_lines}
 use Rattle.indicatif_term.specs.Lists.{drawn, logged, opening_lists}
 use Rattle.uses.proofs.EngineLemmas.{drawn_sound, name, refused_for_memory, stands_led, stands_new, stands_read, three_fit, three_plain, two_fit, two_plain, two_read, where_ok}
 use Rattle.uses.proofs.engines.lines_in_place.Goals as goal

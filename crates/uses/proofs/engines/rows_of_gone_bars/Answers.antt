@@ -1,7 +1,7 @@
 use Rattle.std.proofs.Common.{◌≡◌, ◌∙◌, ◌∷◌, [], Ok, map, true, arith}
 use Rattle.std.specs.Prelude.{codes}
 use Rattle.indicatif_term.specs.Engines.{engine_term}
-use Rattle.indicatif_term.specs.Frames.{bar_lines}
+use Rattle.indicatif_term.specs.Lines.{bar_lines}
 use Rattle.indicatif_term.specs.Lists.{drawn, fate, kept_of, logged, opening_lists}
 use Rattle.indicatif_term.specs.Screen.{blank_screen}
 use Rattle.indicatif_term.specs.declared.engine.counts.Keep.TheVariants.{Behind}

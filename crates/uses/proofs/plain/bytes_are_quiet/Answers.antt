@@ -2,8 +2,8 @@ use Rattle.std.proofs.Common.{◌≡◌, refl, ◌∙◌, ap, subst, map, [], So
 use Rattle.std.proofs.lemmas.List.Elements.{All-from_recursion}
 use Rattle.std.specs.declared.io.ErrorKind.TheVariants.{Other}
 use Rattle.indicatif_term.specs.Calls.{TermView, Bytes}
-use Rattle.indicatif_term.specs.DrawTargets.{term_of, limiter_of}
-use Rattle.indicatif_term.specs.Writers.{view_behind}
+use Rattle.indicatif_term.specs.Target.{term_of, limiter_of}
+use Rattle.indicatif_term.specs.Term.{view_behind}
 use Rattle.indicatif_board.specs.Boards.{opening_board}
 use Rattle.indicatif_board.specs.Calls.{answer_of, timed}
 use Rattle.indicatif_board.specs.Multi.{IsIn, known, terminal_of}

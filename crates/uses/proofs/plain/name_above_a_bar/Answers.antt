@@ -4,8 +4,8 @@ use Rattle.std.specs.Str.{chars}
 use Rattle.indicatif_term.specs.Screen.{blank_screen}
 use Rattle.indicatif_term.specs.Terminal.{blank_terminal}
 use Rattle.indicatif_term.specs.Pictures.{picture_text}
-use Rattle.indicatif_term.specs.DrawTargets.{term_of, limiter_of}
-use Rattle.indicatif_term.specs.Frames.{are_plain}
+use Rattle.indicatif_term.specs.Target.{term_of, limiter_of}
+use Rattle.indicatif_term.specs.Lines.{are_plain}
 use Rattle.indicatif_term.specs.Memory.{view_of}
 use Rattle.indicatif_bar.specs.Commands.{new_bar}
 use Rattle.indicatif_bar.specs.Lone.{Log, opening_state}

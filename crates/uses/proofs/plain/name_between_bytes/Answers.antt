@@ -5,8 +5,8 @@ use Rattle.std.specs.declared.io.ErrorKind.TheVariants.{Other}
 use Rattle.indicatif_term.specs.Screen.{blank_screen}
 use Rattle.indicatif_term.specs.Terminal.{blank_terminal, after}
 use Rattle.indicatif_term.specs.Calls.{TermView, Bytes}
-use Rattle.indicatif_term.specs.DrawTargets.{term_of, limiter_of}
-use Rattle.indicatif_term.specs.Writers.{view_behind}
+use Rattle.indicatif_term.specs.Target.{term_of, limiter_of}
+use Rattle.indicatif_term.specs.Term.{view_behind}
 use Rattle.indicatif_bar.specs.Runs.{CallMade, Runs}
 use Rattle.indicatif_bar.specs.Trackers.{writes_nothing}
 use Rattle.indicatif_board.specs.Boards.{Log, Drew, opening_board}

@@ -5,10 +5,10 @@ use Rattle.std.proofs.lemmas.List.Elements.{All-from_recursion}
 use Rattle.indicatif_term.specs.Screen.{blank_screen}
 use Rattle.indicatif_term.specs.Terminal.{blank_terminal, after}
 use Rattle.indicatif_term.specs.Calls.{State, is_told, led_on}
-use Rattle.indicatif_term.specs.Frames.{text_lines, logged_lines}
+use Rattle.indicatif_term.specs.Lines.{text_lines, logged_lines}
 use Rattle.indicatif_term.specs.Lists.{Lists, opening_lists}
 use Rattle.indicatif_term.specs.Pictures.{picture_text, row_text}
-use Rattle.indicatif_term.specs.DrawTargets.{term_of, limiter_of}
+use Rattle.indicatif_term.specs.Target.{term_of, limiter_of}
 use Rattle.indicatif_term.specs.Memory.{view_of}
 use Rattle.indicatif_text.specs.Columns.{rows_of}
 use Rattle.indicatif_bar.specs.Commands.{BarRecord}

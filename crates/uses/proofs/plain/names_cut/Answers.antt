@@ -4,7 +4,7 @@ use Rattle.std.proofs.lemmas.Option.{same_Some}
 use Rattle.indicatif_term.specs.Screen.{blank_screen}
 use Rattle.indicatif_term.specs.Terminal.{blank_terminal}
 use Rattle.indicatif_term.specs.Pictures.{picture_text, row_text}
-use Rattle.indicatif_term.specs.DrawTargets.{term_of, limiter_of}
+use Rattle.indicatif_term.specs.Target.{term_of, limiter_of}
 use Rattle.indicatif_term.specs.Lists.{all_rows}
 use Rattle.indicatif_term.specs.Memory.{view_of}
 use Rattle.indicatif_bar.specs.Machines.{Leads, target_of}

@@ -2,7 +2,7 @@ use Rattle.std.proofs.Common.{◌≡◌, ◌∙◌, ◌++◌, ◌∷◌, [], Som
 use Rattle.std.specs.Prelude.{string_bytes, codes, All}
 use Rattle.std.proofs.lemmas.List.Elements.{All-from_recursion}
 use Rattle.indicatif_text.specs.ColumnLaws.{PrintedIsPlain}
-use Rattle.indicatif_term.specs.Frames.{logged_lines}
+use Rattle.indicatif_term.specs.Lines.{logged_lines}
 use Rattle.indicatif_bar.specs.PlainLaws.{IsPlainWithTabs}
 use Rattle.indicatif_bar.specs.StyleLaws.{IsPlainText}
 use Rattle.bars_run.specs.Arguments.{asked_by}

@@ -4,12 +4,12 @@ use Rattle.std.specs.List.{list_any}
 use Rattle.indicatif_text.specs.Columns.{rows_of}
 use Rattle.std.specs.declared.io.ErrorKind.TheVariants.{OutOfMemory}
 use Rattle.indicatif_term.specs.Calls.{State}
-use Rattle.indicatif_term.specs.Frames.{text_lines, logged_lines}
+use Rattle.indicatif_term.specs.Lines.{text_lines, logged_lines}
 use Rattle.indicatif_term.specs.Lists.{opening_lists, all_rows}
 use Rattle.indicatif_term.specs.Shows.{resting}
 use Rattle.indicatif_term.specs.Pictures.{picture_text, row_text}
 use Rattle.indicatif_term.specs.Engines.{is_failure}
-use Rattle.indicatif_term.specs.DrawTargets.{term_of, limiter_of}
+use Rattle.indicatif_term.specs.Target.{term_of, limiter_of}
 use Rattle.indicatif_term.specs.Memory.{view_of}
 use Rattle.indicatif_bar.specs.Commands.{BarRecord}
 use Rattle.indicatif_bar.specs.Bars.{bar_kind}

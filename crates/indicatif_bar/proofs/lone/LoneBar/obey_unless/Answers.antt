@@ -2,7 +2,7 @@ use Rattle.std.proofs.Common.{sym, ◌∙◌, ap, subst, Ok, Err}
 use Rattle.std.proofs.lemmas.Result.{err_from_is_err_and}
 use Rattle.indicatif_text.specs.declared.refusal.Drawn.TheVariants.{Limited}
 use Rattle.indicatif_bar.specs.Kinds.{Frame}
-use Rattle.indicatif_bar.specs.Inside.Obeying.{IsToldOrNot}
+use Rattle.indicatif_bar.specs.Inside.Lone.{IsToldOrNot}
 use Rattle.indicatif_bar.proofs.LoneDrawLemmas.{obeys_or_not, refuses, draws_none, draws_on}
 use Rattle.indicatif_bar.proofs.lone.LoneBar.obey_unless.Goals as goal
 

@@ -1,5 +1,5 @@
 use Rattle.std.proofs.Common.{refl}
-use Rattle.indicatif_term.specs.Frames.{text_lines, logged_lines}
+use Rattle.indicatif_term.specs.Lines.{text_lines, logged_lines}
 use Rattle.indicatif_bar.specs.Kinds.{TextAndFrame}
 use Rattle.indicatif_bar.specs.declared.ask.Ask.TheVariants.{Forced}
 use Rattle.indicatif_bar.proofs.LoneDrawLemmas.{draws_on, log_leads}

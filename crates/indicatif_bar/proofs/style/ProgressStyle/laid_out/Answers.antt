@@ -1,11 +1,10 @@
 use Rattle.std.proofs.Common.{◌≡◌, ◌≤◌, ◌++◌, [], None, true, false, refl, length, arith, append-nil, ◌∙◌, sym, ap, map, drop, string_bytes}
 use Rattle.std.specs.Prelude.{option_map, ◌==◌}
 use Rattle.std.proofs.Math.ListN.{drop_of_length-le}
-use Rattle.indicatif_term.specs.Frames.{line_text}
+use Rattle.indicatif_term.specs.Lines.{line_text}
 use Rattle.indicatif_bar.specs.Styles.{lines_with}
 use Rattle.indicatif_bar.specs.Inside.Steps.{effect_of, wide_found}
-use Rattle.indicatif_bar.proofs.LinesLemmas.{lines_from}
-use Rattle.indicatif_bar.proofs.LinesLemmas.{lines_by_steps, deeds_are, ended}
+use Rattle.indicatif_bar.proofs.LinesLemmas.{lines_from, lines_by_steps, deeds_are, ended}
 use Rattle.indicatif_bar.proofs.style.ProgressStyle.laid_out.Goals as goal
 
 pub returns-then-is_empty-clause-lines : goal.returns-then-is_empty-clause-lines

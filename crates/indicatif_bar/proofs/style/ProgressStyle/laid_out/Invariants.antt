@@ -2,7 +2,7 @@ use Rattle.std.proofs.Common.{◌≡◌, ◌++◌, [], None, map, drop, string_b
 use Rattle.std.specs.Prelude.{option_map, IsTrue}
 use Rattle.std.specs.List.{list_all}
 use Rattle.indicatif_bar.specs.Bars.{is_bar_line}
-use Rattle.indicatif_term.specs.Frames.{line_text}
+use Rattle.indicatif_term.specs.Lines.{line_text}
 use Rattle.indicatif_bar.specs.Inside.Steps.{effect_of, wide_found}
 use Rattle.indicatif_bar.proofs.LinesLemmas.{lines_from}
 use Rattle.indicatif_bar.proofs.style.ProgressStyle.laid_out.Given as goal

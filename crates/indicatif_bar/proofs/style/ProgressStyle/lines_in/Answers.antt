@@ -1,5 +1,5 @@
 use Rattle.std.proofs.Common.{◌∙◌, sym, ap, map}
-use Rattle.indicatif_term.specs.Frames.{line_text}
+use Rattle.indicatif_term.specs.Lines.{line_text}
 use Rattle.indicatif_bar.proofs.EmptyStyleLemmas.{empty_styles_have_no_lines}
 use Rattle.indicatif_bar.proofs.style.ProgressStyle.lines_in.Goals as goal
 

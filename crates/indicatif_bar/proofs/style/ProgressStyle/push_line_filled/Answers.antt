@@ -1,5 +1,5 @@
 use Rattle.std.proofs.Common.{◌≡◌, ◌++◌, [], ◌∷◌, Some, ◌∙◌, sym, ap, subst, map, string_bytes}
-use Rattle.indicatif_term.specs.Frames.{line_text}
+use Rattle.indicatif_term.specs.Lines.{line_text}
 use Rattle.indicatif_bar.specs.Styles.{BarStyle, wide_text, with_fillers_as, lines_with}
 use Rattle.indicatif_bar.specs.StyleLaws.{AreTaken}
 use Rattle.indicatif_bar.specs.Inside.Steps.{placeholder_layout, wide_found}

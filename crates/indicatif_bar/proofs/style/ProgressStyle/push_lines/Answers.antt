@@ -1,7 +1,7 @@
 use Rattle.std.proofs.Common.{◌≡◌, false, ◌++◌, ◌∙◌, sym, ap, map, string_bytes}
 use Rattle.std.specs.Prelude.{option_map}
 use Rattle.std.specs.List.{slice_split, list_any}
-use Rattle.indicatif_term.specs.Frames.{line_text}
+use Rattle.indicatif_term.specs.Lines.{line_text}
 use Rattle.indicatif_bar.specs.Styles.{is_newline, is_filler, wide_text, lines_with}
 use Rattle.indicatif_bar.specs.Inside.Steps.{wide_found}
 use Rattle.indicatif_bar.proofs.FillingLemmas.{no_fillers}

@@ -1,10 +1,9 @@
 use Rattle.std.proofs.Common.{◌≡◌, ◌++◌, ◌-◌, ◌/◌, ◌∙◌, ap, sym, length, string_bytes}
 use Rattle.indicatif_text.specs.StyleWords.{opening_of, numbers_of, sequence_of}
-use Rattle.indicatif_bar.proofs.LayoutLemmas.{rest_text, last_sequence}
+use Rattle.indicatif_bar.proofs.LayoutLemmas.{rest_text, last_sequence, rest_is, bar_parts, styled_opened, styled_alone, grown, grown_three}
 use Rattle.indicatif_bar.specs.Layout.{cluster, text_columns}
-use Rattle.indicatif_bar.specs.Inside.Cells.{begun_text}
+use Rattle.indicatif_bar.specs.Inside.Bars.{begun_text}
 use Rattle.indicatif_bar.specs.Inside.Texts.{texts_in}
-use Rattle.indicatif_bar.proofs.LayoutLemmas.{rest_text, rest_is, bar_parts, styled_opened, styled_alone, grown, grown_three}
 use Rattle.indicatif_bar.proofs.style.bar.push_bar.Goals as goal
 
 pub returns-then-some-clause-text : goal.returns-then-some-clause-text

@@ -1,5 +1,5 @@
 use Rattle.std.proofs.Common.{◌≡◌, drop}
-use Rattle.indicatif_bar.specs.Inside.Cells.{bytes_of_strings}
+use Rattle.indicatif_bar.specs.Inside.Bars.{bytes_of_strings}
 use Rattle.std.specs.Prelude.{◌==◌}
 use Rattle.std.specs.List.{list_all}
 use Rattle.indicatif_bar.specs.Layout.{text_columns}

@@ -1,5 +1,5 @@
 use Rattle.std.proofs.Common.{◌≡◌, map}
-use Rattle.indicatif_bar.specs.Inside.Cells.{bytes_of_strings}
+use Rattle.indicatif_bar.specs.Inside.Bars.{bytes_of_strings}
 use Rattle.std.specs.Prelude.{encode_utf8}
 use Rattle.indicatif_bar.proofs.style.clusters.characters_of.Given as goal
 

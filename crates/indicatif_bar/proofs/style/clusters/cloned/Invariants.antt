@@ -1,5 +1,5 @@
 use Rattle.std.proofs.Common.{◌≡◌, take}
-use Rattle.indicatif_bar.specs.Inside.Cells.{bytes_of_strings}
+use Rattle.indicatif_bar.specs.Inside.Bars.{bytes_of_strings}
 use Rattle.indicatif_bar.proofs.style.clusters.cloned.Given as goal
 
 abbrev pub invariant-texts : goal.invariant-texts

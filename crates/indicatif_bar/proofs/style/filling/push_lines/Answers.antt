@@ -1,6 +1,6 @@
 use Rattle.std.proofs.Common.{◌≡◌, ◌++◌, ◌∙◌, sym, ap, map, string_bytes, false}
 use Rattle.std.specs.List.{list_any}
-use Rattle.indicatif_term.specs.Frames.{line_text}
+use Rattle.indicatif_term.specs.Lines.{line_text}
 use Rattle.indicatif_bar.specs.Styles.{is_newline}
 use Rattle.indicatif_bar.proofs.ScanLemmas.{whole}
 use Rattle.indicatif_bar.proofs.style.filling.push_lines.Goals as goal

@@ -2,7 +2,7 @@ use Rattle.std.proofs.Common.{◌≡◌, ◌++◌, map, length}
 use Rattle.std.specs.Prelude.{IsTrue}
 use Rattle.std.specs.List.{list_all, slice_split}
 use Rattle.std.specs.Str.{IsUtf8}
-use Rattle.indicatif_term.specs.Frames.{line_text}
+use Rattle.indicatif_term.specs.Lines.{line_text}
 use Rattle.indicatif_bar.specs.Bars.{is_bar_line}
 use Rattle.indicatif_bar.specs.Styles.{is_newline}
 use Rattle.indicatif_bar.proofs.style.filling.push_pieces.Given as goal

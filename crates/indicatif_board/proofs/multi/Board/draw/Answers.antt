@@ -8,9 +8,9 @@ use Rattle.indicatif_text.specs.declared.refusal.Drawn.TheVariants.{Limited, Yes
 use Rattle.indicatif_text.specs.declared.refusal.Refusal.{Refusal}
 use Rattle.indicatif_text.specs.declared.refusal.Refusal.TheVariants.{NoColumns}
 use Rattle.indicatif_term.specs.Engines.{engine_moves, engine_term, Fits}
-use Rattle.indicatif_term.specs.Frames.{bar_lines}
-use Rattle.indicatif_term.specs.declared.engine.lines.Segment.{Segment}
-use Rattle.indicatif_term.specs.DrawTargets.{is_bottom}
+use Rattle.indicatif_term.specs.Lines.{bar_lines}
+use Rattle.indicatif_term.specs.declared.target.lines.Segment.{Segment}
+use Rattle.indicatif_term.specs.Target.{is_bottom}
 use Rattle.indicatif_term.specs.Lists.{opening_lists}
 use Rattle.indicatif_bar.specs.Machines.{Target, target_of}
 use Rattle.indicatif_bar.specs.Kinds.{asked_of}
@@ -20,7 +20,7 @@ use Rattle.indicatif_bar.proofs.OutcomeLemmas.{drew_none, outcome-unasked, drew_
 use Rattle.indicatif_bar.proofs.StageLemmas.{drew_staged, drew_hidden}
 use Rattle.indicatif_board.specs.BoardBars.{board_bars}
 use Rattle.indicatif_board.specs.Boards.{draw_of, board}
-use Rattle.indicatif_board.specs.Inside.Named.{named_laid_out, named_layout_takes}
+use Rattle.indicatif_board.specs.Inside.ShownBars.{named_laid_out, named_layout_takes}
 use Rattle.indicatif_board.specs.Multi.{IsIn, known}
 use Rattle.indicatif_board.specs.Members.{leaders}
 use Rattle.indicatif_board.specs.ShownBars.{AreShownAs, Holds, record_on}

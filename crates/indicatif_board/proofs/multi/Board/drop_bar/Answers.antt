@@ -1,13 +1,13 @@
 use Rattle.std.proofs.Common.{◌<◌, ◌∙◌, false, refl, sym, ap, subst, length, arith, option_map, Err, Some}
 use Rattle.std.proofs.lemmas.Result.{err_from_is_err_and}
-use Rattle.indicatif_term.specs.DrawTargets.{is_bottom}
+use Rattle.indicatif_term.specs.Target.{is_bottom}
 use Rattle.indicatif_bar.specs.Commands.{BarRecord, after_drop}
 use Rattle.indicatif_bar.specs.Kinds.{Frame}
 use Rattle.indicatif_bar.specs.Machines.{target_of, Draws}
 use Rattle.indicatif_bar.specs.Runs.{CallMade, wrote}
 use Rattle.indicatif_bar.specs.Shown.{DrewOn}
 use Rattle.indicatif_bar.specs.declared.ask.Ask.TheVariants.{No}
-use Rattle.indicatif_board.specs.Inside.Parting.{parted}
+use Rattle.indicatif_board.specs.Inside.Leaving.{parted}
 use Rattle.indicatif_board.specs.BoardBars.{board_bars}
 use Rattle.indicatif_board.specs.BoardValues.{id_of}
 use Rattle.indicatif_board.specs.Boards.{Drop, says, draw_of, last_draw, left_on, ownerless_on, laid_out, layout_takes, bar_changed, or_refused, board}

@@ -1,5 +1,5 @@
 use Rattle.std.proofs.Common.{refl}
-use Rattle.indicatif_term.specs.DrawTargets.{limiter_of}
+use Rattle.indicatif_term.specs.Target.{limiter_of}
 use Rattle.indicatif_board.specs.Multi.{IsIn}
 use Rattle.indicatif_board.proofs.multi.Board.new.Goals as goal
 

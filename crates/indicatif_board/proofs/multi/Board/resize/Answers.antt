@@ -1,4 +1,4 @@
-use Rattle.indicatif_term.specs.DrawTargets.{is_bottom}
+use Rattle.indicatif_term.specs.Target.{is_bottom}
 use Rattle.indicatif_bar.proofs.StageLemmas.{size_played}
 use Rattle.indicatif_board.specs.BoardBars.{board_bars}
 use Rattle.indicatif_board.specs.Boards.{board}

@@ -1,5 +1,5 @@
 use Rattle.std.proofs.Common.{refl, false}
-use Rattle.indicatif_term.specs.DrawTargets.{is_bottom}
+use Rattle.indicatif_term.specs.Target.{is_bottom}
 use Rattle.indicatif_board.specs.Boards.{Align, Accepted}
 use Rattle.indicatif_board.specs.Multi.{IsIn, known}
 use Rattle.indicatif_board.proofs.BoardCallLemmas.{made_at_once}

@@ -1,6 +1,6 @@
 use Rattle.std.proofs.Common.{◌≡◌, subst}
 use Rattle.std.specs.Prelude.{IfSome}
-use Rattle.indicatif_term.specs.DrawTargets.{is_bottom, limiter_of}
+use Rattle.indicatif_term.specs.Target.{is_bottom, limiter_of}
 use Rattle.indicatif_term.specs.Lists.{opening_lists}
 use Rattle.indicatif_board.specs.Multi.{IsIn}
 use Rattle.indicatif_board.proofs.MemberLemmas.{held_with}

@@ -4,7 +4,7 @@ use Rattle.std.specs.Prelude.{◌==◌}
 use Rattle.std.proofs.lemmas.Bool.{cases_Bool, eqb-true, eq-eqb, false≢true}
 use Rattle.indicatif_board.specs.ShownBars.{record_in, record_on}
 use Rattle.indicatif_text.specs.declared.refusal.Refusal.TheVariants.{ElapsedBeyondClock, NotMember}
-use Rattle.indicatif_term.specs.DrawTargets.{is_bottom}
+use Rattle.indicatif_term.specs.Target.{is_bottom}
 use Rattle.indicatif_bar.specs.Commands.{BarRecord, obeyed, command_as, is_beyond_clock, takes_memory}
 use Rattle.indicatif_bar.specs.Kinds.{Frame}
 use Rattle.indicatif_bar.specs.Machines.{target_of}

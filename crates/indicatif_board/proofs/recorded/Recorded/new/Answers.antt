@@ -1,6 +1,6 @@
 use Rattle.std.proofs.Common.{map, sym, ap, ◌∙◌, subst}
 use Rattle.std.specs.declared.io.ErrorKind.TheVariants.{Other}
-use Rattle.indicatif_term.specs.DrawTargets.{limiter_of}
+use Rattle.indicatif_term.specs.Target.{limiter_of}
 use Rattle.indicatif_board.specs.Boards.{opening_board}
 use Rattle.indicatif_board.specs.Multi.{IsIn}
 use Rattle.indicatif_board.specs.Recorded.{step_of, target_by, untold}

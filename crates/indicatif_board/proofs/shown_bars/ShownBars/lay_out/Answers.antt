@@ -1,7 +1,7 @@
 use Rattle.std.proofs.Common.{◌∙◌, ◌<◌, ap, sym, arith, length, subst, Result, Ok, Err}
 use Rattle.std.specs.Prelude.{IfSome, IfOk, IfErr}
 use Rattle.std.specs.VecDeque.{deque_len}
-use Rattle.indicatif_term.specs.DrawTargets.{is_bottom}
+use Rattle.indicatif_term.specs.Target.{is_bottom}
 use Rattle.indicatif_bar.specs.Bars.{lines_of_bar, lines_take_memory}
 use Rattle.indicatif_board.proofs.MemberLemmas.{laid_at, lays_at, relaid_bars}
 use Rattle.indicatif_board.proofs.shown_bars.ShownBars.lay_out.Goals as goal

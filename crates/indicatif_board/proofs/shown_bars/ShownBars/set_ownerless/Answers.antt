@@ -1,5 +1,5 @@
 use Rattle.std.proofs.Common.{◌≡◌, ◌<◌, ◌≤◌, ◌∙◌, ap, sym, subst, set, length, arith}
-use Rattle.indicatif_term.specs.DrawTargets.{is_bottom}
+use Rattle.indicatif_term.specs.Target.{is_bottom}
 use Rattle.indicatif_board.specs.Boards.{ownerless_on}
 use Rattle.indicatif_board.specs.ShownBars.{Holds, owned_record}
 use Rattle.indicatif_board.proofs.MemberLemmas.{place_is, frame_length}

@@ -1,6 +1,6 @@
 use Rattle.std.proofs.Common.{◌<◌, ◌∙◌, Some, length, arith, sym, ap, subst, map}
-use Rattle.indicatif_term.specs.DrawTargets.{is_bottom}
-use Rattle.indicatif_term.specs.declared.engine.lines.Segment.{Segment}
+use Rattle.indicatif_term.specs.Target.{is_bottom}
+use Rattle.indicatif_term.specs.declared.target.lines.Segment.{Segment}
 use Rattle.indicatif_board.specs.ShownBars.{Holds}
 use Rattle.indicatif_board.specs.Slots.{SlotTable}
 use Rattle.indicatif_board.proofs.MemberLemmas.{removed_with, removed_bars, said_of_place}

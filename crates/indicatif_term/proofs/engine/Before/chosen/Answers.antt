@@ -1,6 +1,6 @@
 use Rattle.std.proofs.Common.{inl, inr, ◌-◌, ℕ, ◌∙◌, refl, ap, arith, length, drop}
 use Rattle.std.proofs.lemmas.List.{take_all, length-drop}
-use Rattle.indicatif_term.specs.Inside.Changes.{free_behind}
+use Rattle.indicatif_term.specs.Inside.Changing.{free_behind}
 use Rattle.indicatif_term.specs.Inside.Fills.{last_of}
 use Rattle.indicatif_term.specs.Standing.{placed}
 use Rattle.indicatif_term.specs.declared.engine.writing.Manner.TheVariants.{Among}

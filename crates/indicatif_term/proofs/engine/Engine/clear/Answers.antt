@@ -2,11 +2,11 @@ use Rattle.std.proofs.Common.{ap, sym, subst, append-nil, ◌∙◌, ◌+◌, []
 use Rattle.indicatif_term.specs.Counts.{CountsOf}
 use Rattle.std.proofs.Math.Logic.{∥∥₁_map}
 use Rattle.indicatif_term.proofs.PaintingLemmas.{paint_bytes}
-use Rattle.indicatif_term.specs.Frames.{is_fault}
+use Rattle.indicatif_term.specs.Lines.{is_fault}
 use Rattle.indicatif_term.specs.Lists.{cleared}
 use Rattle.indicatif_term.specs.Engines.{engine_term}
 use Rattle.indicatif_term.proofs.RememberedLemmas.{nothing_shown, cleared_live}
-use Rattle.indicatif_term.specs.Inside.Remembering.{IsNothing}
+use Rattle.indicatif_term.specs.Inside.Remembered.{IsNothing}
 use Rattle.indicatif_term.proofs.DrawingLemmas.{cleared-adds, cleared-known, cleared-sound}
 use Rattle.indicatif_term.proofs.EngineLemmas.{paints_refused, paints_by, fits_counts, fits_failed, fits_forgets, fits_by, suits_made, clear_paints}
 use Rattle.indicatif_term.specs.declared.engine.remembered.Remembered.{Remembered}

@@ -1,16 +1,16 @@
 use Rattle.std.proofs.Common.{map, arith, ◌∙◌, ◌≡◌, refl, [], ◌++◌, replicate, take, drop, sym, ap, subst}
 use Rattle.std.proofs.Math.Logic.{∥∥₁_map}
-use Rattle.indicatif_term.specs.Inside.Remembering.{Draws}
+use Rattle.indicatif_term.specs.Inside.Remembered.{Draws}
 use Rattle.indicatif_term.specs.Lists.{Lists, drawn, blanks_for}
 use Rattle.indicatif_term.specs.Counts.{CountsOf}
 use Rattle.indicatif_term.specs.Standing.{placed, texts, AreLines}
 use Rattle.indicatif_term.specs.Remembered.{live_lines}
 use Rattle.indicatif_term.specs.Inside.Writings.{CanWrite, writing_bytes, whole_writing}
 use Rattle.indicatif_term.specs.Inside.Plans.{frame_lines}
-use Rattle.indicatif_term.specs.Frames.{bar_lines, is_fault}
+use Rattle.indicatif_term.specs.Lines.{bar_lines, is_fault}
 use Rattle.indicatif_term.specs.Engines.{engine_term, Fits, Paints, is_failure, lists_after}
-use Rattle.indicatif_term.specs.DrawTargets.{is_bottom}
-use Rattle.indicatif_term.specs.Inside.Changes.{placed_height}
+use Rattle.indicatif_term.specs.Target.{is_bottom}
+use Rattle.indicatif_term.specs.Inside.Changing.{placed_height}
 use Rattle.indicatif_term.proofs.LastLineLemmas.{fill_bytes}
 use Rattle.indicatif_term.proofs.DrawingLemmas.{drawn-adds, drawn-known, drawn-sound}
 use Rattle.indicatif_term.proofs.LineEndLemmas.{draw_fill}

@@ -5,7 +5,7 @@ use Rattle.indicatif_term.specs.Lists.{kept_of}
 use Rattle.indicatif_term.specs.Counts.{line_counts}
 use Rattle.indicatif_term.specs.Standing.{placed}
 use Rattle.indicatif_term.specs.Remembered.{live_lines}
-use Rattle.indicatif_term.specs.Inside.Changes.{placed_height}
+use Rattle.indicatif_term.specs.Inside.Changing.{placed_height}
 use Rattle.indicatif_term.specs.Inside.Owned.{run_length}
 use Rattle.indicatif_term.specs.Engines.{engine_term, Fits}
 use Rattle.indicatif_term.proofs.DrawingLemmas.{kept_rests}

@@ -2,21 +2,21 @@ use Rattle.std.proofs.Common.{map, ◌≡◌, ◌≤◌, ◌+◌, [], ◌++◌, 
 use Rattle.std.proofs.Math.Logic.{∥∥₁_map}
 use Rattle.indicatif_term.specs.Lists.{Lists, logged}
 use Rattle.indicatif_term.specs.Counts.{CountsOf}
-use Rattle.indicatif_term.specs.Inside.Bytes.{reach_bytes}
+use Rattle.indicatif_term.specs.Inside.MoveBytes.{reach_bytes}
 use Rattle.indicatif_term.proofs.PaintingLemmas.{paint_bytes}
 use Rattle.indicatif_term.proofs.LastLineLemmas.{fill_bytes}
 use Rattle.indicatif_term.specs.Inside.Plans.{frame_lines, text_height}
 use Rattle.indicatif_term.specs.Standing.{texts, AreLines}
-use Rattle.indicatif_term.specs.Frames.{bar_lines, logged_lines, text_lines, all_lines, is_fault}
+use Rattle.indicatif_term.specs.Lines.{bar_lines, logged_lines, text_lines, all_lines, is_fault}
 use Rattle.indicatif_term.specs.Remembered.{live_lines}
 use Rattle.indicatif_term.specs.Engines.{engine_term, Fits, Paints, is_failure, lists_after}
-use Rattle.indicatif_term.specs.DrawTargets.{is_bottom}
+use Rattle.indicatif_term.specs.Target.{is_bottom}
 use Rattle.indicatif_term.proofs.SkippingLemmas.{logged_shown, some_lines, counted_refused, fits_refused}
 use Rattle.indicatif_term.proofs.DrawingLemmas.{logged-adds, logged-known, logged-sound}
 use Rattle.indicatif_term.proofs.LineEndLemmas.{log_fill}
 use Rattle.indicatif_term.proofs.LaidLemmas.{own_count, can_be_put, none_kept}
 use Rattle.indicatif_term.proofs.EngineLemmas.{all_or_many, paints_refused, paints_by, led, fits_counts, fits_failed, fits_forgets, fits_by, suits_made, log_paints, narrow_both, answer_made}
-use Rattle.indicatif_term.specs.Inside.Remembering.{Draws}
+use Rattle.indicatif_term.specs.Inside.Remembered.{Draws}
 use Rattle.indicatif_term.proofs.WritingLemmas.{whole_bytes}
 use Rattle.indicatif_term.proofs.LoggedLineLemmas.{logged_length, logged_utf8}
 use Rattle.indicatif_term.proofs.engine.Engine.log.Goals as goal

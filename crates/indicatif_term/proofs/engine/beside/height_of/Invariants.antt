@@ -1,5 +1,5 @@
 use Rattle.std.proofs.Common.{◌≡◌, ◌-◌, ◌^◌, min, take}
-use Rattle.indicatif_term.specs.Inside.Changes.{placed_height}
+use Rattle.indicatif_term.specs.Inside.Changing.{placed_height}
 use Rattle.indicatif_term.specs.Standing.{placed}
 use Rattle.indicatif_term.proofs.engine.beside.height_of.Given as goal
 

@@ -1,6 +1,6 @@
 use Rattle.std.proofs.Common.{◌-◌, ◌∙◌, ap, sym, arith, length, Some}
 use Rattle.std.specs.Prelude.{option_map}
-use Rattle.indicatif_term.specs.Inside.Changes.{PlacedLine}
+use Rattle.indicatif_term.specs.Inside.Changing.{PlacedLine}
 use Rattle.indicatif_term.specs.declared.engine.remembered.StandingLine.{StandingLine}
 use Rattle.indicatif_term.proofs.RememberedLemmas.{last_line}
 use Rattle.indicatif_term.proofs.engine.beside.last_column.Goals as goal

@@ -1,5 +1,5 @@
 use Rattle.std.proofs.Common.{◌≡◌, true, take}
-use Rattle.indicatif_term.specs.Inside.Changes.{all_stay}
+use Rattle.indicatif_term.specs.Inside.Changing.{all_stay}
 use Rattle.indicatif_term.specs.Standing.{placed}
 use Rattle.indicatif_term.proofs.engine.changing.all_standing.Given as goal
 

@@ -1,5 +1,5 @@
 use Rattle.std.proofs.Common.{take}
-use Rattle.indicatif_term.specs.Inside.Moves.{AreEven}
+use Rattle.indicatif_term.specs.Inside.Changing.{AreEven}
 use Rattle.indicatif_term.proofs.engine.changing.are_even.Given as goal
 
 abbrev pub invariant-loop-line : goal.invariant-loop-line

@@ -2,7 +2,7 @@ use Rattle.std.proofs.Common.{◌≡◌, min, refl, append-nil, arith, sym, ◌�
 use Rattle.std.proofs.lemmas.Bool.{eqb-true}
 use Rattle.std.proofs.lemmas.List.{nil_from_length, take_all}
 use Rattle.indicatif_term.specs.Calls.{LeadsOn}
-use Rattle.indicatif_term.specs.Inside.Changes.{placed_height, among_bytes}
+use Rattle.indicatif_term.specs.Inside.Changing.{placed_height, among_bytes}
 use Rattle.std.specs.Prelude.{string_bytes}
 use Rattle.indicatif_term.specs.Inside.Parting.{IsReady}
 use Rattle.indicatif_term.specs.declared.engine.comparing.Step.TheVariants as Step

@@ -1,6 +1,6 @@
 use Rattle.std.proofs.Common.{◌≡◌, ◌+◌, ◌-◌, ◌++◌, min, length, take}
 use Rattle.indicatif_term.specs.Calls.{UP, LeadsOn, move_bytes}
-use Rattle.indicatif_term.specs.Inside.Changes.{placed_height, walk_bytes, walk_down}
+use Rattle.indicatif_term.specs.Inside.Changing.{placed_height, walk_bytes, walk_down}
 use Rattle.indicatif_term.specs.Standing.{placed}
 use Rattle.indicatif_term.proofs.engine.changing.put_among.Given as goal
 

@@ -1,6 +1,6 @@
 use Rattle.std.proofs.Common.{arith, sym, ◌≡◌, take, take_all, append-nil, [], ◌∷◌, ◌++◌, List, ℕ}
 use Rattle.indicatif_term.specs.Standing.{placed}
-use Rattle.indicatif_term.specs.Inside.Moves.{run_bytes}
+use Rattle.indicatif_term.specs.Inside.Changing.{run_bytes}
 use Rattle.indicatif_term.proofs.CallTurnLemmas.{reaches_then, writes_then, writes_fail}
 use Rattle.indicatif_term.proofs.MovedByteLemmas.{moved_next, moved_breaks}
 use Rattle.indicatif_term.proofs.engine.changing.put_over.Goals as goal

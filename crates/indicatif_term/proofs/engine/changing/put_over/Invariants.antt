@@ -1,7 +1,7 @@
 use Rattle.std.proofs.Common.{take}
 use Rattle.indicatif_term.specs.Calls.{LeadsOn}
 use Rattle.indicatif_term.specs.Standing.{placed}
-use Rattle.indicatif_term.specs.Inside.Moves.{moved_bytes}
+use Rattle.indicatif_term.specs.Inside.Changing.{moved_bytes}
 use Rattle.indicatif_term.proofs.engine.changing.put_over.Given as goal
 
 abbrev pub invariant-loop-line : goal.invariant-loop-line

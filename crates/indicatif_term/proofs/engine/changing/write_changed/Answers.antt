@@ -1,8 +1,8 @@
 use Rattle.std.proofs.Common.{◌++◌, ◌-◌}
 use Rattle.std.specs.Prelude.{string_bytes}
 use Rattle.indicatif_term.specs.Calls.{move_bytes, clear_bytes}
-use Rattle.indicatif_term.specs.Inside.Bytes.{rows_down}
-use Rattle.indicatif_term.specs.Inside.Changes.{emptied_bytes}
+use Rattle.indicatif_term.specs.Inside.MoveBytes.{rows_down}
+use Rattle.indicatif_term.specs.Inside.Changing.{emptied_bytes}
 use Rattle.indicatif_term.proofs.CallTurnLemmas.{writes_then, writes_fail, reaches_then, breaks_then}
 use Rattle.indicatif_term.proofs.WalkLemmas.{four, four_two}
 use Rattle.indicatif_term.proofs.engine.changing.write_changed.Goals as goal

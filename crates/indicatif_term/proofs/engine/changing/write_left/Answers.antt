@@ -1,8 +1,7 @@
 use Rattle.std.proofs.Common.{◌≡◌, ◌∙◌, ap, sym, arith, true, false}
 use Rattle.std.specs.Prelude.{string_bytes, nat_lt}
 use Rattle.std.proofs.lemmas.Bool.{le-ltb}
-use Rattle.indicatif_term.specs.Inside.Changes.{Leave}
-use Rattle.indicatif_term.specs.Inside.Changes.{ends_plainly}
+use Rattle.indicatif_term.specs.Inside.Changing.{Leave, ends_plainly}
 use Rattle.indicatif_term.specs.Inside.Parting.{change_of}
 use Rattle.indicatif_term.specs.Standing.{placed_of}
 use Rattle.indicatif_term.proofs.WalkLemmas.{left_bytes}

@@ -2,7 +2,7 @@ use Rattle.std.proofs.Common.{◌≡◌, ℕ, ◌+◌, ◌∙◌, ◌++◌, List
 use Rattle.std.specs.Prelude.{string_bytes, IsTrue, IfSome}
 use Rattle.indicatif_text.specs.Columns.{visible, rows_of, last_columns}
 use Rattle.indicatif_term.specs.Standing.{IsLine}
-use Rattle.indicatif_term.specs.Inside.Edits.{AreSingle}
+use Rattle.indicatif_term.specs.Inside.RowEdits.{AreSingle}
 use Rattle.indicatif_term.specs.Inside.Inks.{IsRead}
 use Rattle.indicatif_term.specs.Inside.Rests.{ArePlain}
 use Rattle.indicatif_term.specs.declared.engine.inks.Alike.{Alike}

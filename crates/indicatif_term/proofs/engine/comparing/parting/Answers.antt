@@ -2,7 +2,7 @@ use Rattle.std.proofs.Common.{◌≡◌, ◌++◌, ◌-◌, ◌<◌, ◌≤◌, 
 use Rattle.std.specs.Prelude.{IsTrue, string_bytes}
 use Rattle.std.specs.List.{AllByRecursion}
 use Rattle.indicatif_text.specs.Columns.{visible}
-use Rattle.indicatif_term.specs.Inside.Edits.{IsNarrowChar}
+use Rattle.indicatif_term.specs.Inside.RowEdits.{IsNarrowChar}
 use Rattle.indicatif_term.specs.Inside.Inks.{IsRead, NONE, in_colours, painted, padded}
 use Rattle.indicatif_term.specs.Inside.Parting.{tail, cells_at}
 use Rattle.indicatif_term.specs.Inside.Rests.{ArePlain}

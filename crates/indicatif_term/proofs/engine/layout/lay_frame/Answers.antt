@@ -4,9 +4,9 @@ use Rattle.std.proofs.lemmas.List.{take_all}
 use Rattle.indicatif_text.specs.declared.refusal.Refusal.TheVariants.{Memory}
 use Rattle.indicatif_term.specs.Lists.{fitting, lines_of}
 use Rattle.indicatif_term.specs.Counts.{line_counts}
-use Rattle.indicatif_term.specs.Frames.{bar_lines}
+use Rattle.indicatif_term.specs.Lines.{bar_lines}
 use Rattle.indicatif_term.specs.Standing.{placed}
-use Rattle.indicatif_term.specs.Inside.Changes.{placed_height}
+use Rattle.indicatif_term.specs.Inside.Changing.{placed_height}
 use Rattle.indicatif_term.specs.Inside.Owned.{through}
 use Rattle.indicatif_term.specs.Inside.Plans.{frame_lines}
 use Rattle.indicatif_term.specs.Inside.Layouts.{own_lines, IsLaid}

@@ -1,6 +1,6 @@
 use Rattle.std.proofs.Common.{◌≡◌, ◌≤◌, false, length, map, take}
 use Rattle.indicatif_term.specs.Lists.{lines_of}
-use Rattle.indicatif_term.specs.Frames.{bar_lines, all_lines, some_wide}
+use Rattle.indicatif_term.specs.Lines.{bar_lines, all_lines, some_wide}
 use Rattle.indicatif_term.specs.Inside.Plans.{IsSummed, frame_lines, passing_of}
 use Rattle.indicatif_term.specs.Inside.Layouts.{IsLaid}
 use Rattle.indicatif_term.proofs.engine.layout.lay_frame.Given as goal

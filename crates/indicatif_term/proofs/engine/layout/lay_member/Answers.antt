@@ -1,6 +1,6 @@
 use Rattle.std.proofs.Common.{arith, get_or, ◌<◌, ◌∙◌, sym, ap, chars, length, [], ◌∷◌, Err}
 use Rattle.std.proofs.lemmas.Result.{err_from_is_err_and}
-use Rattle.indicatif_term.specs.Frames.{bar_lines, line_text}
+use Rattle.indicatif_term.specs.Lines.{bar_lines, line_text}
 use Rattle.indicatif_term.proofs.MeasureLemmas.{withheld_by, one_of}
 use Rattle.indicatif_term.proofs.LayoutLemmas.{string_at}
 use Rattle.indicatif_term.proofs.LaidLemmas.{member_none, member_more, member_whole}

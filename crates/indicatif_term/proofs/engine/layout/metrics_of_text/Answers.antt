@@ -3,7 +3,7 @@ use Rattle.std.specs.Str.Iter.{lines_steps}
 use Rattle.std.specs.Str.Lines.{lines}
 use Rattle.std.proofs.lemmas.Result.{err_from_is_err_and}
 use Rattle.std.proofs.lemmas.Iterator.Splits.{YieldsList-from_lines}
-use Rattle.indicatif_term.specs.Frames.{text_lines, logged_lines}
+use Rattle.indicatif_term.specs.Lines.{text_lines, logged_lines}
 use Rattle.indicatif_term.proofs.IteratorLemmas.{parted, next_came, all_came}
 use Rattle.indicatif_term.proofs.LoggedLineLemmas.{logged_some, logged_none}
 use Rattle.indicatif_term.proofs.MeasureLemmas.{text_refused, narrow_after, height_after, came_lines}

@@ -1,5 +1,5 @@
 use Rattle.std.proofs.Common.{◌≡◌, ◌-◌, ◌^◌, false, map, min}
-use Rattle.indicatif_term.specs.Frames.{some_wide, text_lines}
+use Rattle.indicatif_term.specs.Lines.{some_wide, text_lines}
 use Rattle.indicatif_term.specs.Inside.Plans.{text_height}
 use Rattle.indicatif_term.specs.Inside.Fills.{line_end, last_or_none}
 use Rattle.indicatif_term.proofs.engine.layout.metrics_of_text.Given as goal

@@ -1,6 +1,6 @@
 use Rattle.std.proofs.Common.{◌∙◌, arith, ◌≡◌, ◌+◌, sym, subst, map, ◌∷◌, []}
 use Rattle.indicatif_term.specs.Lists.{lines_of}
-use Rattle.indicatif_term.specs.Frames.{bar_lines, line_text}
+use Rattle.indicatif_term.specs.Lines.{bar_lines, line_text}
 use Rattle.indicatif_term.specs.Inside.Layouts.{IsLaidOn}
 use Rattle.indicatif_term.proofs.LaidLemmas.{member_begun, member_more, member_whole, moved, stays_on}
 use Rattle.indicatif_term.proofs.engine.layout.pass_member.Goals as goal

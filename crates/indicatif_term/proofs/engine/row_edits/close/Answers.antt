@@ -1,7 +1,7 @@
 use Rattle.std.proofs.Common.{◌≡◌, ◌++◌, [], ◌∙◌, sym, subst, length}
 use Rattle.std.proofs.lemmas.Bool.{eqb-true}
 use Rattle.indicatif_term.specs.Calls.{LeadsOn, Writes}
-use Rattle.indicatif_term.specs.Inside.Edits.{reset_bytes}
+use Rattle.indicatif_term.specs.Inside.RowEdits.{reset_bytes}
 use Rattle.indicatif_term.specs.Inside.Inks.{RESET}
 use Rattle.indicatif_term.proofs.CallTurnLemmas.{reaches_none}
 use Rattle.indicatif_term.proofs.RowWritingLemmas.{reset_none, reset_first, reset_second}

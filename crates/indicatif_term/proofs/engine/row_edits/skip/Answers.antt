@@ -5,7 +5,7 @@ use Rattle.std.proofs.lemmas.Bool.{and_parts, eqb-true}
 use Rattle.std.proofs.lemmas.List.{length-map, nil_from_length}
 use Rattle.std.proofs.lemmas.Slice.Eq.{bytes_eq-Decides}
 use Rattle.std.proofs.lemmas.Str.{chars-nil}
-use Rattle.indicatif_term.specs.Inside.Edits.{rest_bytes}
+use Rattle.indicatif_term.specs.Inside.RowEdits.{rest_bytes}
 use Rattle.indicatif_term.specs.Inside.Inks.{Ink, Inked, in_ink, read, same_ink}
 use Rattle.indicatif_term.specs.Inside.Rests.{ArePlain, ink_of, cells}
 use Rattle.indicatif_term.proofs.InkLemmas.{read_front, read_none}

@@ -1,7 +1,7 @@
 use Rattle.std.proofs.Common.{◌≡◌, ◌+◌, ◌-◌, ◌++◌, ◌∷◌, [], ◌∙◌, sym, ap, subst, arith, append_assoc}
 use Rattle.std.specs.Prelude.{string_bytes}
 use Rattle.indicatif_term.specs.Calls.{Writes, DOWN, move_bytes}
-use Rattle.indicatif_term.specs.Inside.Edits.{edit_bytes, row_bytes, reset_bytes, rest_bytes}
+use Rattle.indicatif_term.specs.Inside.RowEdits.{edit_bytes, row_bytes, reset_bytes, rest_bytes}
 use Rattle.indicatif_term.specs.Inside.Inks.{colours_of}
 use Rattle.indicatif_term.specs.Inside.Parting.{part_edits}
 use Rattle.indicatif_term.specs.Inside.Rests.{HasRoom, ink_of, cells, left_bytes}

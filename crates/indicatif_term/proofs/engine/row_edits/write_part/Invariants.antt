@@ -1,7 +1,7 @@
 use Rattle.std.proofs.Common.{◌≡◌, ◌+◌, ◌-◌, ◌++◌, ℕ, List}
 use Rattle.std.specs.Prelude.{string_bytes}
 use Rattle.indicatif_term.specs.Calls.{LeadsOn, DOWN, move_bytes}
-use Rattle.indicatif_term.specs.Inside.Edits.{row_bytes}
+use Rattle.indicatif_term.specs.Inside.RowEdits.{row_bytes}
 use Rattle.indicatif_term.specs.Inside.Parting.{part_edits}
 use Rattle.indicatif_term.specs.Inside.Rests.{HasRoom, left_bytes}
 use Rattle.indicatif_term.proofs.engine.row_edits.write_part.Given as goal

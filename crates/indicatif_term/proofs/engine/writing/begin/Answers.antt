@@ -1,4 +1,4 @@
-use Rattle.indicatif_term.specs.Inside.Bytes.{reach_bytes, back_bytes}
+use Rattle.indicatif_term.specs.Inside.MoveBytes.{reach_bytes, back_bytes}
 use Rattle.std.proofs.Common.{◌++◌}
 use Rattle.indicatif_term.proofs.CallTurnLemmas.{writes_then, writes_fail}
 use Rattle.indicatif_term.proofs.engine.writing.begin.Goals as goal

@@ -1,5 +1,5 @@
 use Rattle.indicatif_term.specs.Calls.{LeadsOn}
-use Rattle.indicatif_term.specs.Inside.Bytes.{rows_down}
+use Rattle.indicatif_term.specs.Inside.MoveBytes.{rows_down}
 use Rattle.indicatif_term.proofs.engine.writing.empty_below.Given as goal
 
 abbrev pub invariant-loop : goal.invariant-loop

@@ -1,4 +1,4 @@
-use Rattle.indicatif_term.specs.Inside.Bytes.{rows_down}
+use Rattle.indicatif_term.specs.Inside.MoveBytes.{rows_down}
 use Rattle.indicatif_term.proofs.CallTurnLemmas.{writes_then, writes_fail}
 use Rattle.indicatif_term.proofs.engine.writing.empty_down.Goals as goal
 

@@ -1,6 +1,6 @@
 use Rattle.std.proofs.Common.{take}
 use Rattle.indicatif_term.specs.Standing.{texts}
-use Rattle.indicatif_term.specs.Inside.Bytes.{ArePut}
+use Rattle.indicatif_term.specs.Inside.MoveBytes.{ArePut}
 use Rattle.indicatif_term.proofs.engine.writing.put_lines.Given as goal
 
 abbrev pub invariant-loop-line : goal.invariant-loop-line

@@ -1,5 +1,5 @@
 use Rattle.std.proofs.Common.{map}
-use Rattle.indicatif_term.specs.Inside.Bytes.{ArePut}
+use Rattle.indicatif_term.specs.Inside.MoveBytes.{ArePut}
 use Rattle.indicatif_term.proofs.engine.writing.put_text.Given as goal
 
 abbrev pub invariant-loop-line : goal.invariant-loop-line

@@ -1,6 +1,6 @@
 use Rattle.std.proofs.Common.{arith, ◌++◌, ◌-◌}
 use Rattle.indicatif_term.specs.Calls.{move_bytes, clear_bytes}
-use Rattle.indicatif_term.specs.Inside.Bytes.{rows_down}
+use Rattle.indicatif_term.specs.Inside.MoveBytes.{rows_down}
 use Rattle.indicatif_term.proofs.CallTurnLemmas.{reaches_none, writes_then, writes_fail, reaches_then, breaks_then, breaks_early, back_some}
 use Rattle.indicatif_term.proofs.engine.writing.take_back.Goals as goal
 

@@ -3,7 +3,7 @@ use Rattle.std.specs.Prelude.{IsTrue, option_map, option_to_list}
 use Rattle.indicatif_text.proofs.StyleLemmas.{at_err}
 use Rattle.indicatif_term.specs.Feeding.{first_takes_memory}
 use Rattle.indicatif_term.specs.Terminal.{Terminal, after}
-use Rattle.indicatif_term.specs.Inside.Reading.{byte_ops}
+use Rattle.indicatif_term.specs.Inside.Scanners.{byte_ops}
 use Rattle.indicatif_term.specs.Inside.Grids.{op_of}
 use Rattle.indicatif_term.proofs.FeedLemmas.{fed_one, fed_none}
 use Rattle.indicatif_term.proofs.cells.feeding.Cells.feed_byte.Goals.{in-Some+in_ok-perform-in-Some, in-None}

@@ -1,7 +1,7 @@
 use Rattle.std.proofs.Common.{◌≡◌, ◌∙◌, ◌∷◌, [], ap, subst, sym, take}
 use Rattle.std.specs.Prelude.{IsTrue, option_map, option_to_list}
 use Rattle.indicatif_text.proofs.StyleLemmas.{at_err}
-use Rattle.indicatif_term.specs.Inside.Reading.{performed_all}
+use Rattle.indicatif_term.specs.Inside.Scanners.{performed_all}
 use Rattle.indicatif_term.specs.Terminal.{Terminal, sequence_op, after}
 use Rattle.indicatif_term.specs.Inside.Grids.{op_of}
 use Rattle.indicatif_term.proofs.WholeSequenceLemmas.{fed_sequence}

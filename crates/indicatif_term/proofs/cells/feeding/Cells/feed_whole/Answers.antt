@@ -2,10 +2,9 @@ use Rattle.std.proofs.Common.{◌∙◌, ◌≤◌, ◌*◌, ap, subst, take, re
 use Rattle.std.proofs.lemmas.List.{length-replicate}
 use Rattle.indicatif_text.proofs.StyleLemmas.{at_err}
 use Rattle.indicatif_term.specs.Screen.{Put, performed}
-use Rattle.indicatif_term.specs.Inside.Reading.{performed_all}
+use Rattle.indicatif_term.specs.Inside.Scanners.{performed_all, IsWholeChar}
 use Rattle.indicatif_term.specs.Terminal.{Terminal, after}
 use Rattle.indicatif_term.specs.Inside.Runs.{puts}
-use Rattle.indicatif_term.specs.Inside.Scanners.{IsWholeChar}
 use Rattle.indicatif_term.proofs.WholeCharLemmas.{fed_whole}
 use Rattle.indicatif_term.proofs.FedRunLemmas.{fed_repeated}
 use Rattle.indicatif_term.proofs.FeedMemoryLemmas.{whole_takes}

@@ -1,6 +1,6 @@
 use Rattle.std.proofs.Common.{◌≡◌, ◌∙◌, ◌+◌, ◌≤◌, length, take, ap, arith}
 use Rattle.indicatif_term.specs.Screen.{written_at}
-use Rattle.indicatif_term.specs.Inside.Reading.{performed_all}
+use Rattle.indicatif_term.specs.Inside.Scanners.{performed_all}
 use Rattle.indicatif_term.specs.Inside.Grids.{screen_of}
 use Rattle.indicatif_term.specs.Inside.Runs.{run_chars, narrow_cells, puts}
 use Rattle.indicatif_term.proofs.RunLemmas.{run_keeps_whole, run_is_put}

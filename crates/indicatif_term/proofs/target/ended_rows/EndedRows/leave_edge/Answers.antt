@@ -1,5 +1,5 @@
 use Rattle.std.proofs.Common.{refl, sym, subst, arith}
-use Rattle.indicatif_term.specs.Inside.Ending.{Within, at_column}
+use Rattle.indicatif_term.specs.Inside.EndedRows.{Within, at_column}
 use Rattle.indicatif_term.proofs.EndedRowLemmas.{from_weaker, to_weaker, stands}
 use Rattle.indicatif_term.proofs.target.ended_rows.EndedRows.leave_edge.Goals as goal
 

@@ -5,7 +5,7 @@ use Rattle.indicatif_text.specs.Columns.{visible}
 use Rattle.indicatif_text.specs.Pieces.{text_piece}
 use Rattle.indicatif_text.specs.PieceLaws.{IsExact, run_text}
 use Rattle.indicatif_text.proofs.PieceLawLemmas.{runs_are_visible, all_exact}
-use Rattle.indicatif_term.specs.Inside.Ending.{Within, WithinIf, all_put, AreShown}
+use Rattle.indicatif_term.specs.Inside.EndedRows.{Within, WithinIf, all_put, AreShown}
 use Rattle.indicatif_term.proofs.EndedRowLemmas.{to_weaker, fall_fails, stands}
 use Rattle.indicatif_term.proofs.EndedTextLemmas.{more, run_shown, all_put_more}
 use Rattle.indicatif_term.proofs.target.ended_rows.EndedRows.put.Goals as goal

@@ -3,7 +3,7 @@ use Rattle.std.specs.Prelude.{flat_map}
 use Rattle.std.specs.List.{AllByRecursion}
 use Rattle.indicatif_text.specs.Columns.{visible}
 use Rattle.indicatif_text.specs.PieceLaws.{IsExact, run_text}
-use Rattle.indicatif_term.specs.Inside.Ending.{WithinIf, Falls, all_put, AreShown}
+use Rattle.indicatif_term.specs.Inside.EndedRows.{WithinIf, Falls, all_put, AreShown}
 use Rattle.indicatif_term.proofs.target.ended_rows.EndedRows.put.Given as goal
 
 abbrev pub invariant-rest : goal.invariant-rest

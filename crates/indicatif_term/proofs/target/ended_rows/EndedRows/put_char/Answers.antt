@@ -1,7 +1,7 @@
 use Rattle.std.proofs.Common.{◌≡◌, ◌≤◌, ◌∙◌, Some, [], ◌∷◌, true, false, Ok, refl, sym, ap, subst, arith}
 use Rattle.std.specs.Prelude.{is_some}
 use Rattle.unicode_width.specs.Width.{char_width}
-use Rattle.indicatif_term.specs.Inside.Ending.{Within}
+use Rattle.indicatif_term.specs.Inside.EndedRows.{Within}
 use Rattle.indicatif_term.proofs.EndedRowLemmas.{fall_fails, then_falls, from_weaker, to_weaker, adds, stands}
 use Rattle.indicatif_term.proofs.EndedStepLemmas.{led_of, shown_width, too_wide, with_room_put}
 use Rattle.indicatif_term.proofs.EndedCallLemmas.{chars_sent}

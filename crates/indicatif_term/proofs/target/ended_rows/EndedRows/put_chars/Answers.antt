@@ -2,7 +2,7 @@ use Rattle.std.proofs.Common.{◌≡◌, ◌∙◌, ◌∷◌, [], Ok, Err, char
 use Rattle.std.specs.Str.Iter.{chars_rest, chars_steps}
 use Rattle.std.proofs.lemmas.Iterator.Consumers.{YieldsList-end}
 use Rattle.std.proofs.lemmas.Iterator.{YieldsList-from_chars}
-use Rattle.indicatif_term.specs.Inside.Ending.{Within, WithinIf, all_put, AreShown}
+use Rattle.indicatif_term.specs.Inside.EndedRows.{Within, WithinIf, all_put, AreShown}
 use Rattle.indicatif_term.proofs.IteratorLemmas.{parted, next_came}
 use Rattle.indicatif_term.proofs.PartingLemmas.{same_list}
 use Rattle.indicatif_term.proofs.EndedRowLemmas.{to_weaker, fall_fails, stands}

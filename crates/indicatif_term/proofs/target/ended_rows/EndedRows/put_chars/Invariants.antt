@@ -1,5 +1,5 @@
 use Rattle.std.proofs.Common.{Ok, chars}
-use Rattle.indicatif_term.specs.Inside.Ending.{WithinIf, Falls, all_put, AreShown}
+use Rattle.indicatif_term.specs.Inside.EndedRows.{WithinIf, Falls, all_put, AreShown}
 use Rattle.indicatif_term.proofs.target.ended_rows.EndedRows.put_chars.Given as goal
 
 abbrev pub invariant-loop-c : goal.invariant-loop-c

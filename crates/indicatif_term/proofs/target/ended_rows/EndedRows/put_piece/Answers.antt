@@ -1,5 +1,5 @@
 use Rattle.std.proofs.Common.{◌∙◌, Ok, chars, refl, sym}
-use Rattle.indicatif_term.specs.Inside.Ending.{AreShown}
+use Rattle.indicatif_term.specs.Inside.EndedRows.{AreShown}
 use Rattle.indicatif_term.proofs.EndedRowLemmas.{fall_fails, then_falls, from_weaker, adds}
 use Rattle.indicatif_term.proofs.EndedTextLemmas.{one_text, colour_piece, return_piece, run_piece}
 use Rattle.indicatif_term.proofs.target.ended_rows.EndedRows.put_piece.Goals as goal

@@ -1,5 +1,5 @@
 use Rattle.std.proofs.Common.{true, Ok, Err, refl, sym, ap, subst}
-use Rattle.indicatif_term.specs.Inside.Ending.{Held, Ended, Falls}
+use Rattle.indicatif_term.specs.Inside.EndedRows.{Held, Ended, Falls}
 use Rattle.indicatif_term.specs.declared.target.ended_rows.Phase.TheVariants.{Resting}
 use Rattle.indicatif_term.proofs.EndedRowLemmas.{from_weaker, fall_fails, stands}
 use Rattle.indicatif_term.proofs.EndedTurnLemmas.{returned, rested, rests}

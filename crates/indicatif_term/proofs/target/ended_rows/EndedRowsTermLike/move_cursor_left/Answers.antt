@@ -1,14 +1,13 @@
 use Rattle.std.proofs.Common.{◌<◌, ◌^◌, refl, subst, arith}
 use Rattle.indicatif_term.specs.EndedRows.{Together}
-use Rattle.indicatif_term.specs.Inside.Ending.{Within}
+use Rattle.indicatif_term.specs.Inside.EndedRows.{Within}
 use Rattle.indicatif_term.specs.Terminal.{after}
 use Rattle.indicatif_term.specs.Shows.{resting}
 use Rattle.indicatif_term.specs.Calls.{move_bytes}
 use Rattle.indicatif_term.proofs.OwnRowsLemmas.{writes_quietly}
 use Rattle.indicatif_term.proofs.EndedRowLemmas.{from_weaker, to_weaker, carry_weaker, fall_fails, then_falls}
 use Rattle.indicatif_term.proofs.EndedTurnLemmas.{within_together}
-use Rattle.indicatif_term.proofs.EndedTextLemmas.{draws_by, draws_not}
-use Rattle.indicatif_term.proofs.EndedTextLemmas.{left_there, left_fits_in}
+use Rattle.indicatif_term.proofs.EndedTextLemmas.{draws_by, draws_not, left_there, left_fits_in}
 use Rattle.indicatif_term.proofs.target.ended_rows.EndedRowsTermLike.move_cursor_left.Goals as goal
 
 pub returns-in_err-begin : goal.returns-in_err-begin

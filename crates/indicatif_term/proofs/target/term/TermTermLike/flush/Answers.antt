@@ -1,5 +1,5 @@
 use Rattle.std.proofs.Common.{[]}
-use Rattle.indicatif_term.specs.Writers.{WriterTerm}
+use Rattle.indicatif_term.specs.Term.{WriterTerm}
 use Rattle.indicatif_term.proofs.WriterLemmas.{sent, kept_all}
 use Rattle.indicatif_term.proofs.target.term.TermTermLike.flush.Goals as goal
 

@@ -20,7 +20,7 @@ pub enum LineType {
 }
 
 impl LineType {
-    ghost use Rattle.indicatif_term.specs.Frames.{line_text};
+    ghost use Rattle.indicatif_term.specs.Lines.{line_text};
 
     /// Whether the line's text is `text`, whatever its kind.
     pub fn is_text(&self, text: &str) -> bool
@@ -32,7 +32,7 @@ impl LineType {
 
 /// The line's text; that of an empty line is empty.
 impl AsStr for LineType {
-    ghost use Rattle.indicatif_term.specs.Frames.{line_text};
+    ghost use Rattle.indicatif_term.specs.Lines.{line_text};
 
     ghost text = { line_text };
 

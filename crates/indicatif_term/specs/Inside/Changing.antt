@@ -1,12 +1,13 @@
 -- Lines drawn over others: each stays, is edited in its last row, or is written as a whole.
-use Rattle.std.specs.Prelude.{◌≡◌, true, false, ◌&&◌, ◌==◌, not, nat_lt, slice_index, ℕ, ◌+◌, ◌-◌, min, Bool, IsTrue, List, [], ◌∷◌, ◌++◌, map, length, take, drop, replicate, chars, Option, Some, None, if◌then◌else◌}
-use Rattle.indicatif_text.specs.Columns.{Cell, rows_of, last_columns}
+use Rattle.std.specs.Prelude.{◌≡◌, true, false, ◌&&◌, ◌==◌, not, nat_lt, slice_index, ℕ, ◌+◌, ◌-◌, min, Bool, IsTrue, List, [], ◌∷◌, ◌++◌, map, length, take, drop, replicate, chars, Option, Some, None, if◌then◌else◌, ◌*◌, IsFalse, flat_map, string_bytes}
+use Rattle.indicatif_text.specs.Columns.{Cell, rows_of, last_columns, width_of, columns_of, visible}
 use Rattle.indicatif_term.specs.Calls.{UP, DOWN, move_bytes, clear_bytes}
 use Rattle.indicatif_term.specs.Shows.{look, looks_of}
-use Rattle.indicatif_term.specs.Inside.Bytes.{rows_down}
-use Rattle.indicatif_term.specs.Inside.Edits.{Edit, Write, edit_columns, edit_gap, row_bytes, edited_row, Renews}
-use Rattle.std.specs.List.{list_any}
+use Rattle.indicatif_term.specs.Inside.MoveBytes.{rows_down}
+use Rattle.indicatif_term.specs.Inside.RowEdits.{Edit, Write, edit_columns, edit_gap, row_bytes, edited_row, Renews}
+use Rattle.std.specs.List.{list_any, AllByRecursion}
 use Rattle.std.specs.Int.{is_in_range}
+use Rattle.indicatif_term.specs.declared.engine.remembered.StandingLine.{StandingLine}
 
 -- a change of a line: none, or its last row is edited from a column on, or its rows are emptied and it is written
 pub data Change : Type 0 where
@@ -171,3 +172,28 @@ among_bytes w taken (p ∷ ps) = if (taken == 0) && all_stay (p ∷ ps) then [] 
 abbrev pub free_behind : ℕ → Option PlacedLine → ℕ
 free_behind w None = 0
 free_behind w (Some p) = w - p.last
+
+-- a line with the spaces that fill its last row
+abbrev pub filled_bytes : ℕ → PlacedLine → List ℕ
+filled_bytes w p = p.line ++ replicate (w - p.last) 0x20
+
+-- lines, one after another, each with the spaces that fill its last row
+abbrev pub run_bytes : ℕ → List PlacedLine → List ℕ
+run_bytes w ps = flat_map (filled_bytes w) ps
+
+-- from the last of these rows up to the front of the first, or to the front of the cursor's row; and the lines
+abbrev pub moved_bytes : ℕ → ℕ → List PlacedLine → List ℕ
+moved_bytes w taken ps = move_bytes UP (taken - 1) ++ ((0x0D ∷ []) ++ run_bytes w ps)
+
+-- whether the first of these characters would join one before it
+abbrev pub joins : List ℕ → Bool
+joins [] = false
+joins (c ∷ cs) = width_of c == 0
+
+-- a line whose rows but the last are full, and which joins no line before it
+pub record IsEven (w : ℕ) (l : StandingLine) : Type 0 where
+  pub columns_are : columns_of (chars (string_bytes l.text)) ≡ (l.rows - 1) * w + l.last
+  pub alone : IsFalse (joins (visible (chars (string_bytes l.text))))
+
+abbrev pub AreEven : ℕ → List StandingLine → Type 0
+AreEven w ls = AllByRecursion (IsEven w) ls

@@ -6,9 +6,9 @@ use Rattle.indicatif_text.specs.Columns.{has_wide, is_plain}
 use Rattle.indicatif_text.specs.declared.refusal.Refusal.{Refusal}
 use Rattle.indicatif_text.specs.declared.refusal.Refusal.TheVariants.{NoColumns, TooWide, Terminal, Memory}
 use Rattle.indicatif_term.specs.Lists.{BarLines}
-use Rattle.indicatif_term.specs.declared.engine.lines.Segment.{Segment}
-use Rattle.indicatif_term.specs.declared.engine.lines.LineType.{LineType}
-use Rattle.indicatif_term.specs.declared.engine.lines.LineType.TheVariants.{Text, Bar, Empty}
+use Rattle.indicatif_term.specs.declared.target.lines.Segment.{Segment}
+use Rattle.indicatif_term.specs.declared.target.lines.LineType.{LineType}
+use Rattle.indicatif_term.specs.declared.target.lines.LineType.TheVariants.{Text, Bar, Empty}
 
 -- ---- the lines of bars
 

@@ -5,7 +5,7 @@ use Rattle.unicode_width.specs.Width.{char_width}
 use Rattle.std.specs.declared.io.Error.{Error}
 use Rattle.indicatif_text.specs.Columns.{blank_row}
 use Rattle.indicatif_term.specs.Screen.{Screen, Put, with_row, line_feed}
-use Rattle.indicatif_term.specs.Inside.Reading.{performed_all}
+use Rattle.indicatif_term.specs.Inside.Scanners.{performed_all}
 use Rattle.indicatif_term.specs.Terminal.{GREATEST, after}
 use Rattle.indicatif_term.specs.Calls.{TermView, is_told, led_on, move_bytes}
 use Rattle.indicatif_term.specs.Shows.{resting}

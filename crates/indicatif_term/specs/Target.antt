@@ -2,7 +2,7 @@
 use Rattle.std.specs.Prelude.{ℕ, Bool, true, false, not, ◌||◌, List, Option, Some, None, option_map, string_bytes, codes, bytes_eq}
 use Rattle.std.specs.declared.io.ErrorKind.TheVariants.{Other}
 use Rattle.indicatif_term.specs.Limiters.{Limiter}
-use Rattle.indicatif_term.specs.Writers.{WriterTerm}
+use Rattle.indicatif_term.specs.Term.{WriterTerm}
 use Rattle.indicatif_term.specs.declared.target.Facts.{Facts}
 use Rattle.indicatif_term.specs.declared.target.MultiProgressAlignment.{MultiProgressAlignment}
 use Rattle.indicatif_term.specs.declared.target.MultiProgressAlignment.TheVariants.{Top, Bottom}
