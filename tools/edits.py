@@ -11,9 +11,9 @@ usage, at the root of the repository:
 `check` also reads the edits of crates/CRATE/must-fail. `compile` applies as many edits of a crate at once as stand apart, on a copy, and has it
 read, with nothing proved: seconds to two minutes each time. Where that fails, it tries the halves. Both print the edits at fault.
 
-In the gate the number (hexadecimal; of .ci/run: a sum of the sources) chooses an edit, and nine behind it of the same crate. On two copies of the
-crate, over the libraries that the gate has built, `rt check --only` tries to prove the function in which the edit stands. Each costs half a minute
-to a minute of a processor, since a gate keeps no finished proofs of the crate itself. Where the function is proved nevertheless, `rt must-fail` has
+In the gate the number (hexadecimal; of .ci/run: a sum of the sources) chooses an edit, and 29 behind it of the same crate. On copies of the crate,
+RT_JOBS at a time, over the libraries that the gate has built, `rt check --only` tries to prove the function in which an edit stands. It costs half a
+minute to a minute of a processor, since a gate keeps no finished proofs of the crate itself. Where it is proved nevertheless, `rt must-fail` has
 to say that the whole crate is refused: a contract of another function may be what the body breaks. Time never makes the gate fail: nothing is
 tried if it has taken two hours so far, no edit is begun after five minutes, and a check that goes on for longer than ten minutes is stopped.
 
@@ -33,7 +33,7 @@ import time
 EDITS = pathlib.Path("tools/edits")
 # seconds: of the gate before its edits; of these before the last one begins; of one check
 LATEST, BOUND, PATIENCE = 7200, 300, 600
-MOST = 10
+MOST = 30
 
 
 def pairs(edit):
@@ -257,10 +257,10 @@ def gate(number, begun):
         print(f"{begun} seconds were taken so far: no wrong body was tried")
         return 0
     name, edits = chosen(number)
-    start = time.monotonic()
-    with concurrent.futures.ThreadPoolExecutor(2) as pool:
-        halves = list(pool.map(lambda half: tried_in_turn(name, half, start), (edits[::2], edits[1::2])))
-    faults, count = (sum(column) for column in zip(*halves))
+    start, jobs = time.monotonic(), int(os.environ.get("RT_JOBS", 2))
+    with concurrent.futures.ThreadPoolExecutor(jobs) as pool:
+        parts = list(pool.map(lambda at: tried_in_turn(name, edits[at::jobs], start), range(jobs)))
+    faults, count = (sum(column) for column in zip(*parts))
     print(f"{count} wrong bodies of {name} in {time.monotonic() - start:.0f} seconds, {faults} faults")
     return 1 if faults else 0
 

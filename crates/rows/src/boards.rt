@@ -7,7 +7,7 @@ use indicatif_board::multi::{
 use indicatif_term::target::MultiProgressAlignment;
 use indicatif_text::columns::Moment;
 use scripts::boards::{MARK, bar_id, board_call, of_bar, push_answer, push_id};
-use scripts::got::{Bad, Done, Got};
+use scripts::got::{Bad, Got, Outcome};
 use scripts::lone::read_bar;
 use scripts::row::{At, flag, headed, number};
 use scripts::screen::{Behind, Target};
@@ -31,7 +31,7 @@ pub fn begin(target: Target, word: &str, at: At) -> Result<Box<OnTerm>, Bad> {
 
 /// Makes a call of the board or of one of its bars by its name, or after `call ` as a value; `move yes` or `move no`; or reads the board or
 /// a bar.
-pub fn step(board: &mut OnTerm, step: &str, at: At, got: &mut Got) -> Done {
+pub fn step(board: &mut OnTerm, step: &str, at: At, got: &mut Got) -> Outcome {
     if reads(board, step, at.now, got)? {
         return Ok(());
     }
@@ -109,7 +109,7 @@ fn push_taken(taken: Taken, got: &mut Got) {
 
 /// Makes a call as a value, and appends its answer, with the message of a bar that comes back; `entries`, how many calls the history has;
 /// or reads the board or a bar.
-pub fn record(board: &mut Recording, step: &str, at: At, got: &mut Got) -> Done {
+pub fn record(board: &mut Recording, step: &str, at: At, got: &mut Got) -> Outcome {
     if reads(board.board(), step, at.now, got)? {
         return Ok(());
     }
@@ -129,7 +129,7 @@ pub fn record(board: &mut Recording, step: &str, at: At, got: &mut Got) -> Done 
 
 /// Makes a step of a table, `table`, which begins without bars: `insert PLACE`, `remove PLACE`, `remove_first COUNT`; `order`, `slots` in
 /// that order, `slot NUMBER`.
-pub fn of_table(table: &mut MultiState, step: &str, got: &mut Got) -> Done {
+pub fn of_table(table: &mut MultiState, step: &str, got: &mut Got) -> Outcome {
     match headed(step) {
         ("order", "") => got.numbers(table.order()),
         ("slots", "") => push_slots(table, got),

@@ -1,6 +1,6 @@
 //! The engine by itself: lines drawn, logged above, kept and cleared.
 use indicatif_term::target::{Engine, Keep, LineType, MultiProgressAlignment, Segment};
-use scripts::got::{Bad, Done, Got};
+use scripts::got::{Bad, Got, Outcome};
 use scripts::row::{At, flag, headed, number, tabbed, unescaped};
 use scripts::screen::Behind;
 
@@ -25,7 +25,7 @@ pub fn begin(term: Behind, word: &str, at: At) -> Result<Box<Drawing>, Bad> {
 impl Drawing {
     /// `draw FRAME`; `pass N FRAME`, of which the first N bars are dropped; `log TEXT` and, each after a tab, the frame's bars; `keep BAR`;
     /// `clear`; `move yes` or `move no`.
-    pub fn step(&mut self, step: &str, at: At, got: &mut Got) -> Done {
+    pub fn step(&mut self, step: &str, at: At, got: &mut Got) -> Outcome {
         match headed(step) {
             ("draw", bars) => self.draw(bars, 0, at)?,
             ("pass", rest) => {
@@ -49,7 +49,7 @@ impl Drawing {
         Ok(())
     }
 
-    fn draw(&mut self, bars: &str, pass: usize, at: At) -> Done {
+    fn draw(&mut self, bars: &str, pass: usize, at: At) -> Outcome {
         Ok(self.engine.draw(&frame(bars, at)?, pass, self.alignment)?)
     }
 }
@@ -85,7 +85,7 @@ fn line_of(line: &str, at: At) -> Result<LineType, Bad> {
 }
 
 /// Appends whether this is the text of a line: `is_text LINE`, a tab, and a text.
-pub fn is_text(rest: &str, at: At, got: &mut Got) -> Done {
+pub fn is_text(rest: &str, at: At, got: &mut Got) -> Outcome {
     let (line, text) = tabbed(rest);
     let (line, text) = (line_of(line, at)?, unescaped(at.alloc, text)?);
     got.flag(line.is_text(text.as_str()));

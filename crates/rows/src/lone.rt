@@ -5,7 +5,7 @@ use indicatif_bar::style::NoTracker;
 use indicatif_text::columns::{Drawn, Moment, Refusal};
 use scripts::called;
 use scripts::commands::{command, finish};
-use scripts::got::{Bad, Done, Got};
+use scripts::got::{Bad, Got, Outcome};
 use scripts::lone::{Bar, bar_of, lone_call, push_ask, read_bar, style_of};
 use scripts::row::{At, Words, flag, headed, number, timed};
 use scripts::screen::Behind;
@@ -25,7 +25,7 @@ pub fn new_bar(words: &mut Words<'_>, at: At) -> Result<Box<Bar>, Bad> {
 // ---- a lone bar
 
 /// Makes a call, and appends its answer; `run CALL | CALL ..` makes calls as one list. Or reads the bar.
-pub fn step(bar: &mut Lone, step: &str, at: At, got: &mut Got) -> Done {
+pub fn step(bar: &mut Lone, step: &str, at: At, got: &mut Got) -> Outcome {
     if read_bar(bar.bar(), step, at.now, got)? {
         return Ok(());
     }
@@ -89,7 +89,7 @@ fn push_answers(answers: &[Answer], got: &mut Got) {
 // ---- a record
 
 /// Makes a command of a record (`record LEN BAR`), and appends the draw that it asks for; or reads the bar.
-pub fn ask(bar: &mut Bar, step: &str, at: At, got: &mut Got) -> Done {
+pub fn ask(bar: &mut Bar, step: &str, at: At, got: &mut Got) -> Outcome {
     if read_bar(bar, step, at.now, got)? {
         return Ok(());
     }

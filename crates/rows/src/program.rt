@@ -1,7 +1,7 @@
 //! `bars run` over readers and writers: its output, its message, and its status.
 use crate::scripted::{Answer, Scripted};
 use bars_run::run_bars;
-use scripts::got::{Bad, Done, Got};
+use scripts::got::{Bad, Got, Outcome};
 use scripts::row::{At, Words, number, unescaped_bytes};
 use std::io::ErrorKind;
 
@@ -20,7 +20,7 @@ struct Streams {
 /// A change, each at most once, is `input=KIND`, which gives one byte a call, and fails so after the commands (`BrokenPipe` or
 /// `OutOfMemory`); `room=N`, the output takes N bytes; `flush=no`, the last flush fails; `said=no`, the message can't be written. The word
 /// `alone`: no words, not even an empty one.
-pub fn ran(rest: &str, at: At, got: &mut Got) -> Done {
+pub fn ran(rest: &str, at: At, got: &mut Got) -> Outcome {
     let (words, commands) = rest.split_once(':').ok_or(Bad::Step)?;
     let mut words = Words::of(words);
     let mut streams = streams_of(commands.strip_prefix(' ').unwrap_or(commands), at)?;
@@ -51,7 +51,7 @@ fn streams_of(commands: &str, at: At) -> Result<Streams, Bad> {
 }
 
 /// Makes the change of the next word, if it is one.
-fn change(streams: &mut Streams, words: &mut Words<'_>, at: At) -> Done {
+fn change(streams: &mut Streams, words: &mut Words<'_>, at: At) -> Outcome {
     let mut behind = *words;
     match behind.word().split_once('=') {
         Some(("input", kind)) => {

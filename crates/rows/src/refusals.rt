@@ -1,7 +1,7 @@
 //! The numbers and texts of refusals.
 use indicatif_text::columns::{Refusal, TemplateState};
 use indicatif_text::template::TemplateError;
-use scripts::got::{Bad, Done, Got};
+use scripts::got::{Bad, Got, Outcome};
 use scripts::row::{At, headed, unescaped};
 use std::io::ErrorKind;
 
@@ -26,7 +26,7 @@ const NAMED: &[(&str, Refusal)] = &[
 ];
 
 /// Appends a refusal's number and its text: `refusal NAME`; `refusal Template C STATE`: that of a character.
-pub fn told(rest: &str, at: At, got: &mut Got) -> Done {
+pub fn told(rest: &str, at: At, got: &mut Got) -> Outcome {
     let refusal = match rest.strip_prefix("Template ") {
         Some(rest) => unexpected(rest, at)?.into(),
         None => named(rest)?,
@@ -37,7 +37,7 @@ pub fn told(rest: &str, at: At, got: &mut Got) -> Done {
 }
 
 /// Appends an error's text, and its refusal: `template_error NAME`, or `template_error C STATE`.
-pub fn of_template(rest: &str, at: At, got: &mut Got) -> Done {
+pub fn of_template(rest: &str, at: At, got: &mut Got) -> Outcome {
     let error = match rest {
         "WidthTooLarge" => TemplateError::WidthTooLarge,
         "Memory" => TemplateError::Memory,

@@ -17,7 +17,7 @@ use indicatif_bar::lone::LoneBar;
 use indicatif_board::multi::{Board, Recorded};
 use indicatif_term::target::{Resize, TermLike};
 use scripts::boards::MARK;
-use scripts::got::{Bad, Done, Got};
+use scripts::got::{Bad, Got, Outcome};
 use scripts::lone::Bar;
 use scripts::row::{At, Words, flag, headed, unescaped};
 use scripts::screen::{self, Behind, Screen, Target};
@@ -74,7 +74,7 @@ fn lone_on(bar: Box<Bar>, target: Target, at: At) -> Result<Drawer, Bad> {
 
 impl OnScreen {
     /// Makes a step, or reads the screen or what draws there.
-    pub fn step(&mut self, step: &str, at: At, got: &mut Got) -> Done {
+    pub fn step(&mut self, step: &str, at: At, got: &mut Got) -> Outcome {
         if screen::look_at(&self.screen, step, at, got)? || self.look(step, got) {
             return Ok(());
         }
@@ -131,7 +131,7 @@ impl OnScreen {
         true
     }
 
-    fn go_on(&mut self, rest: &str, at: At, got: &mut Got) -> Done {
+    fn go_on(&mut self, rest: &str, at: At, got: &mut Got) -> Outcome {
         let (screen, target) = screen::begin(&mut Words::of(rest), at)?;
         match &mut self.drawer {
             Drawer::Lone(bar) => drop(bar.set_draw_target(target.0)),
@@ -143,7 +143,7 @@ impl OnScreen {
         Ok(())
     }
 
-    fn resize(&mut self, words: &str) -> Done {
+    fn resize(&mut self, words: &str) -> Outcome {
         let (rows, cols) = screen::size(words)?;
         match &mut self.drawer {
             Drawer::Lone(bar) => bar.resize(rows, cols)?,
@@ -158,7 +158,7 @@ impl OnScreen {
         Ok(())
     }
 
-    fn suspend(&mut self, name: &str, text: &str, at: At, got: &mut Got) -> Done {
+    fn suspend(&mut self, name: &str, text: &str, at: At, got: &mut Got) -> Outcome {
         let text = unescaped(at.alloc, text)?;
         let screen = self.screen.clone()?;
         let look = move || {

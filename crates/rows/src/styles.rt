@@ -2,7 +2,7 @@
 use crate::texts;
 use indicatif_bar::state::BarState;
 use indicatif_bar::style::{NoTracker, ProgressStyle};
-use scripts::got::{Bad, Done, Got};
+use scripts::got::{Bad, Got, Outcome};
 use scripts::lone::{Bar, push_lines, style_of};
 use scripts::row::{At, Words, flag, headed, number, optional, tabbed, unescaped};
 
@@ -24,7 +24,7 @@ pub fn begin(name: &str, rest: &str, at: At) -> Result<Styled, Bad> {
 
 impl Styled {
     /// A builder, or a reading.
-    pub fn step(&mut self, step: &str, at: At, got: &mut Got) -> Done {
+    pub fn step(&mut self, step: &str, at: At, got: &mut Got) -> Outcome {
         let look = self.0.take().ok_or(Bad::Step)?;
         self.0 = Some(match read(&look, headed(step), at, got)? {
             true => look,
@@ -109,7 +109,7 @@ fn in_style(look: Look, len: Option<u64>, at: At) -> Result<Box<Bar>, Bad> {
 /// - `coloured`, before one of these: with colours.
 /// - `laid COLS  TEMPLATE  CHARS  COLOURS  TAB  POS  LEN  MESSAGE  PREFIX  NOW  FINISHED`: it ticks at the moment `NOW`. Flags are 1 for
 ///   yes and 0 for no.
-pub fn laid_out(name: &str, rest: &str, at: At, got: &mut Got) -> Done {
+pub fn laid_out(name: &str, rest: &str, at: At, got: &mut Got) -> Outcome {
     let at = At { now: 0, ..at };
     match name {
         "laid" => laid(rest, at, got),
@@ -119,7 +119,7 @@ pub fn laid_out(name: &str, rest: &str, at: At, got: &mut Got) -> Done {
 }
 
 /// A bar with the most common fields.
-fn brief((name, rest): (&str, &str), colours: bool, at: At, got: &mut Got) -> Done {
+fn brief((name, rest): (&str, &str), colours: bool, at: At, got: &mut Got) -> Outcome {
     let (columns, rest) = headed(rest);
     let (template, rest) = tabbed(rest);
     let bar = match name {
@@ -141,7 +141,7 @@ fn brief((name, rest): (&str, &str), colours: bool, at: At, got: &mut Got) -> Do
 }
 
 /// A bar with all fields.
-fn laid(rest: &str, at: At, got: &mut Got) -> Done {
+fn laid(rest: &str, at: At, got: &mut Got) -> Outcome {
     let mut fields = Words::in_fields(rest);
     let columns = fields.number()?;
     let (template, chars, colours) = (fields.word(), fields.word(), fields.word() == "1");
@@ -174,7 +174,7 @@ fn new_bar(
 }
 
 /// Appends the result of a step by its runs of one character, separated by spaces: how often, and the character. `runs STEP`.
-pub fn in_runs(rest: &str, at: At, got: &mut Got) -> Done {
+pub fn in_runs(rest: &str, at: At, got: &mut Got) -> Outcome {
     let (name, rest) = headed(rest);
     let mut long = Got::new(at.alloc);
     match name {

@@ -3,7 +3,7 @@ use indicatif_bar::lone::LoneBar;
 use indicatif_term::cells::InMemoryTerm;
 use indicatif_term::target::{Facts, ProgressDrawTarget, RateLimiter, Term};
 use indicatif_text::columns::{Drawn, Refusal};
-use scripts::got::{Bad, Done, Got};
+use scripts::got::{Bad, Got, Outcome};
 use scripts::lone::bar_of;
 use scripts::row::{At, Words, flag, number, unescaped};
 
@@ -12,7 +12,7 @@ type Target = ProgressDrawTarget<Term<Vec<u8>>>;
 
 /// `stream NAME ATTENDED TERM`, of 4 rows and 10 columns, where the name is `stdout`, `stderr` or `bar`, `-` is for no `TERM` and `''` for
 /// an empty one: whether a target there is hidden; for `bar` the answer of a tick. After these a rate, in draws a second.
-pub fn on_stream(rest: &str, at: At, got: &mut Got) -> Done {
+pub fn on_stream(rest: &str, at: At, got: &mut Got) -> Outcome {
     let mut words = Words::of(rest);
     let name = words.word();
     let facts = facts(&mut words, (4, 10), at)?;
@@ -26,7 +26,7 @@ pub fn on_stream(rest: &str, at: At, got: &mut Got) -> Done {
 }
 
 /// Appends whether bars are hidden by `hides ROWS COLS ATTENDED TERM`: by a size, `yes` or `no`, and the value of `TERM`, as in `stream`.
-pub fn hides(rest: &str, at: At, got: &mut Got) -> Done {
+pub fn hides(rest: &str, at: At, got: &mut Got) -> Outcome {
     let mut words = Words::of(rest);
     let size = (words.number()?, words.number()?);
     got.flag(facts(&mut words, size, at)?.hides());
@@ -77,7 +77,7 @@ fn ticked(facts: Facts, at: At) -> Result<Result<Drawn, Refusal>, Bad> {
 }
 
 /// Appends the answers of a limiter at these moments, one after another, 1 if it allows a draw: `limiter RATE MAKING MOMENT ..`.
-pub fn limited(rest: &str, got: &mut Got) -> Done {
+pub fn limited(rest: &str, got: &mut Got) -> Outcome {
     let mut words = Words::of(rest);
     let mut limiter = RateLimiter::new(words.number()?, words.number()?)?;
     for moment in words.rest().split_whitespace() {

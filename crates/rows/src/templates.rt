@@ -1,12 +1,12 @@
 //! Templates, and the words of styles.
 use indicatif_text::columns::Style;
 use indicatif_text::template::{Alignment, Part, Template};
-use scripts::got::{Bad, Done, Got};
+use scripts::got::{Bad, Got, Outcome};
 use scripts::row::{At, headed, unescaped};
 
 /// Appends the parts of `parse TEMPLATE`, separated by ` | `: `L TEXT`, `N` for a newline, or `P KEY ALIGNMENT WIDTH ! STYLE STYLE`, with
 /// `-` for what isn't there and styles as the numbers that they write.
-pub fn parsed(rest: &str, at: At, got: &mut Got) -> Done {
+pub fn parsed(rest: &str, at: At, got: &mut Got) -> Outcome {
     let text = unescaped(at.alloc, rest)?;
     match Template::parse(at.alloc, text.as_str()) {
         Ok(template) => push_parts(&template, at, got),
@@ -14,7 +14,7 @@ pub fn parsed(rest: &str, at: At, got: &mut Got) -> Done {
     }
 }
 
-fn push_parts(template: &Template, at: At, got: &mut Got) -> Done {
+fn push_parts(template: &Template, at: At, got: &mut Got) -> Outcome {
     for part in template.parts() {
         got.between(" | ");
         match part {
@@ -48,7 +48,7 @@ fn sign_of(align: Alignment) -> char {
 }
 
 /// Appends the numbers of a style, separated by commas: those that it writes around an empty text, except the last.
-fn push_numbers(style: Option<Style>, at: At, got: &mut Got) -> Done {
+fn push_numbers(style: Option<Style>, at: At, got: &mut Got) -> Outcome {
     let mut written = String::new(at.alloc);
     if let Some(style) = style {
         style.apply_to(true, "", &mut written)?;
@@ -79,7 +79,7 @@ fn push_sequences(written: &str, got: &mut Got) {
 /// - `painted WORDS TEXT`, `unpainted WORDS TEXT`: a text in this style, with colours and without.
 /// - `opened WORDS`: whether sequences are written, and the text.
 /// - `same_style WORDS WORDS`; `no_style WORDS`: whether the style is that of no words.
-pub fn styled(name: &str, rest: &str, at: At, got: &mut Got) -> Done {
+pub fn styled(name: &str, rest: &str, at: At, got: &mut Got) -> Outcome {
     let (words, rest) = headed(rest);
     let style = Style::from_dotted_str(words);
     match name {

@@ -5,13 +5,13 @@ use indicatif_term::cells::{Cells, InMemoryTerm};
 use indicatif_term::target::{ProgressDrawTarget, Resize, TermLike};
 use indicatif_text::columns::Refusal;
 use scripts::boards::{MARK, board_call, push_answer};
-use scripts::got::{Bad, Done, Got};
+use scripts::got::{Bad, Got, Outcome};
 use scripts::row::{At, Words, flag, headed, number, unescaped, unescaped_bytes};
 use scripts::screen::{filled, size};
 
 /// Makes a call of a terminal, and appends `done`, or how it failed: `up N`, `down N`, `right N`, `left N`, `text TEXT`, `line TEXT`,
 /// `clear_line`, `flush`; or resizes it: `size ROWS COLS`.
-pub fn call<T: Resize>(term: &mut T, step: &str, at: At, got: &mut Got) -> Done {
+pub fn call<T: Resize>(term: &mut T, step: &str, at: At, got: &mut Got) -> Outcome {
     let (name, rest) = headed(step);
     let done = match name {
         "size" => {
@@ -42,7 +42,7 @@ pub fn in_memory(rest: &str, at: At) -> Result<Box<InMemoryTerm>, Bad> {
 }
 
 /// Makes a call of a terminal in memory, resizes it, or reads it; `moves` are the calls since the last reading.
-pub fn step(term: &mut InMemoryTerm, step: &str, at: At, got: &mut Got) -> Done {
+pub fn step(term: &mut InMemoryTerm, step: &str, at: At, got: &mut Got) -> Outcome {
     match step {
         "contents" => got.text(term.contents()?.as_str()),
         "picture" => got.rows(&term.picture()?),
@@ -70,7 +70,7 @@ pub fn begin_noted(rest: &str, at: At) -> Result<Box<Noted>, Bad> {
 impl Noted {
     /// A call of the board or of a bar; `move yes` or `move no`; `contents`; or at the end `moves`, all calls of the terminal, which leaves
     /// the board for that.
-    pub fn step(&mut self, step: &str, at: At, got: &mut Got) -> Done {
+    pub fn step(&mut self, step: &str, at: At, got: &mut Got) -> Outcome {
         match headed(step) {
             ("move", word) => self.0.set_move_cursor(flag(word)?),
             ("contents", "") => {
@@ -96,7 +96,7 @@ pub fn of_cells(rest: &str, at: At) -> Result<Box<Cells>, Bad> {
 }
 
 /// `feed BYTES`, `size ROWS COLS`, or a reading: `contents`, `picture`, `cursor`, `reading`.
-pub fn step_cells(cells: &mut Cells, step: &str, at: At, got: &mut Got) -> Done {
+pub fn step_cells(cells: &mut Cells, step: &str, at: At, got: &mut Got) -> Outcome {
     match headed(step) {
         ("reading", "") => push_reading(cells, got)?,
         ("contents", "") => got.text(cells.contents()?.as_str()),
@@ -128,7 +128,7 @@ fn feed(cells: &mut Cells, bytes: &[u8]) -> Result<(), Refusal> {
 
 /// Appends the reading of `fed ROWS COLS BYTES`: fed byte by byte, and in two parts cut at each byte. If a cut gives something else, it
 /// follows.
-pub fn fed(rest: &str, at: At, got: &mut Got) -> Done {
+pub fn fed(rest: &str, at: At, got: &mut Got) -> Outcome {
     let mut words = Words::of(rest);
     let size = (words.number()?, words.number()?);
     let bytes = unescaped_bytes(at.alloc, words.rest())?;
@@ -143,7 +143,7 @@ pub fn fed(rest: &str, at: At, got: &mut Got) -> Done {
 }
 
 /// Appends the result of the first cut of the bytes in two that gives something else.
-fn push_cuts(size: Size, bytes: &[u8], (wanted, at): (&str, At), got: &mut Got) -> Done {
+fn push_cuts(size: Size, bytes: &[u8], (wanted, at): (&str, At), got: &mut Got) -> Outcome {
     let mut reading = Got::new(at.alloc);
     for cut in 0..bytes.len() {
         reading.clear();
@@ -158,7 +158,7 @@ fn push_cuts(size: Size, bytes: &[u8], (wanted, at): (&str, At), got: &mut Got) 
 }
 
 /// Appends what a terminal shows after these parts.
-fn push_fed(size: Size, parts: &[&[u8]], at: At, got: &mut Got) -> Done {
+fn push_fed(size: Size, parts: &[&[u8]], at: At, got: &mut Got) -> Outcome {
     let mut cells = new_cells(size, at)?;
     for part in parts {
         feed(&mut cells, part)?;
@@ -167,7 +167,7 @@ fn push_fed(size: Size, parts: &[&[u8]], at: At, got: &mut Got) -> Done {
 }
 
 /// Appends the picture without the empty rows at its end, the contents and the cursor, separated by tabs.
-fn push_reading(cells: &Cells, got: &mut Got) -> Done {
+fn push_reading(cells: &Cells, got: &mut Got) -> Outcome {
     got.rows(filled(&cells.picture()?));
     got.text("\t");
     got.text(cells.contents()?.as_str());

@@ -7,12 +7,12 @@ use indicatif_text::format::{
     HumanFloatCount,
 };
 use meter_parts::{cut, plain_text};
-use scripts::got::{Bad, Done, Got};
+use scripts::got::{Bad, Got, Outcome};
 use scripts::row::{At, Words, headed, number, unescaped};
 
 /// Appends the text of a formatter, `format FORMATTER VALUE`: `HumanBytes N`, and so on. `HumanDurationShort` is by `write_short`. A quotient
 /// is `HumanFloatCount NUM/DEN`, and by `with_decimals` `HumanFloatCount:N NUM/DEN`; `-` if there is none.
-pub fn formatted(rest: &str, got: &mut Got) -> Done {
+pub fn formatted(rest: &str, got: &mut Got) -> Outcome {
     let (formatter, value) = headed(rest);
     if let Some(decimals) = formatter.strip_prefix("HumanFloatCount") {
         return push_quotient(decimals, value, got);
@@ -31,7 +31,7 @@ pub fn formatted(rest: &str, got: &mut Got) -> Done {
     Ok(())
 }
 
-fn push_quotient(decimals: &str, value: &str, got: &mut Got) -> Done {
+fn push_quotient(decimals: &str, value: &str, got: &mut Got) -> Outcome {
     let (num, den) = value.split_once('/').unwrap_or((value, ""));
     let count = HumanFloatCount::new(number(num)?, number(den)?);
     match (count, decimals.strip_prefix(':')) {
@@ -77,7 +77,7 @@ pub fn asked(name: &str, rest: &str, at: At, got: &mut Got) -> Result<bool, Bad>
     Ok(true)
 }
 
-fn of_text(name: &str, text: &str, at: At, got: &mut Got) -> Done {
+fn of_text(name: &str, text: &str, at: At, got: &mut Got) -> Outcome {
     match (name, text.chars().next()) {
         ("columns", _) => got.number(columns(text)),
         ("pieces" | "plain", _) => push_pieces(text, name == "plain", got),

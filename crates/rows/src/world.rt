@@ -21,7 +21,7 @@ use indicatif::machine::Shares;
 use indicatif_board::multi::MultiState;
 use indicatif_term::cells::Cells;
 use meter_parts::bytes_said;
-use scripts::got::{Bad, Done, Got};
+use scripts::got::{Bad, Got, Outcome};
 use scripts::lone::Bar;
 use scripts::row::{At, Words, headed, timed};
 use std::mem::replace;
@@ -76,7 +76,7 @@ fn asked(name: &str, rest: &str, at: At, got: &mut Got) -> Result<bool, Bad> {
 
 impl<R: Shares + RandomSource> On<R> {
     /// Makes a step, or reads something.
-    fn step(&mut self, step: &str, at: At, got: &mut Got) -> Done {
+    fn step(&mut self, step: &str, at: At, got: &mut Got) -> Outcome {
         match self {
             On::Nothing => Err(Bad::Step),
             On::Screen(world) => world.step(step, at, got),
@@ -168,7 +168,7 @@ impl<R: Shares + RandomSource> World<R> {
 
     /// Makes a step, and appends what it gives. It begins another world, at this moment or at 0, where the step does so; else it goes on with
     /// what is there.
-    pub fn play(&mut self, step: &str, got: &mut Got) -> Done {
+    pub fn play(&mut self, step: &str, got: &mut Got) -> Outcome {
         let (step, moment) = timed(step);
         let (name, rest) = headed(step);
         let is_asked = match self.is_front {

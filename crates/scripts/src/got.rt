@@ -33,7 +33,7 @@ impl<V: Drop> From<AllocFailed<V>> for Bad {
 }
 
 /// A step that was made, or why it has no result.
-pub type Done = Result<(), Bad>;
+pub type Outcome = Result<(), Bad>;
 
 /// The results of steps, as one text, separated by `; `. If a step has none, the text says why. Want of memory is kept, and makes the row
 /// differ.

@@ -3,7 +3,7 @@ use indicatif::{
     Clock, Drawn, InMemoryTerm, Moment, MultiProgress, NoTracker, ProgressBar, ProgressDrawTarget,
     ProgressStyle, Refusal, Setup, StepClock, WeakProgressBar,
 };
-use scripts::got::{Bad, Done, Got};
+use scripts::got::{Bad, Got, Outcome};
 use scripts::row::{Words, number};
 use std::alloc::Global;
 use std::sync::Wait;
@@ -160,7 +160,7 @@ impl<R: Wait + Copy + Clone + Drop> Fronts<R> {
     }
 
     /// Adds a board, which keeps its history if it is recorded.
-    pub fn begins(&mut self, is_recorded: bool) -> Done {
+    pub fn begins(&mut self, is_recorded: bool) -> Outcome {
         let count = self.boards.len();
         let mark = (count as u64).wrapping_add(1);
         let Setup { target, clock } = self.room.setup(self.alloc)?;
@@ -219,7 +219,7 @@ pub fn contents(term: Option<&InMemoryTerm>) -> Option<Result<String, Refusal>> 
 }
 
 /// Appends the contents; `nothing` if there is no terminal.
-pub fn push_contents(contents: Option<Result<String, Refusal>>, got: &mut Got) -> Done {
+pub fn push_contents(contents: Option<Result<String, Refusal>>, got: &mut Got) -> Outcome {
     match contents {
         Some(contents) => got.text(contents?.as_str()),
         None => got.text("nothing"),

@@ -11,7 +11,7 @@ use indicatif::{
     BarCommand, BarState, Clock, InMemoryTerm, LoneBar, LoneCall, Moment, NoTracker, ProgressBar,
     ProgressDrawTarget, ProgressStyle, Refusal, Setup,
 };
-use scripts::got::{Bad, Done, Got};
+use scripts::got::{Bad, Got, Outcome};
 use scripts::lone::{lone_call, read_bar};
 use scripts::replay::rows_of;
 use scripts::row::{At, Words, headed, number};
@@ -132,7 +132,7 @@ impl<R: Wait + Copy + Clone + Drop> Both<R> {
     }
 
     /// Sets another target with this rate for both: the answer of the shared one, and whether they show the same.
-    fn turn(&mut self, rate: &str, got: &mut Got) -> Done {
+    fn turn(&mut self, rate: &str, got: &mut Got) -> Outcome {
         let one = target(self.alloc, self.room, rate)?;
         let other = target(self.alloc, self.room, rate)?;
         got.answer(self.shared.0.set_draw_target(one));
@@ -151,7 +151,7 @@ impl<R: Wait + Copy + Clone + Drop> Both<R> {
     }
 
     /// Makes each of these calls.
-    fn each(&mut self, calls: &[String], got: &mut Got) -> Done {
+    fn each(&mut self, calls: &[String], got: &mut Got) -> Outcome {
         for call in calls {
             if !self.is_same(call.as_str(), got)? {
                 return Ok(());
@@ -162,7 +162,7 @@ impl<R: Wait + Copy + Clone + Drop> Both<R> {
     }
 
     /// Makes `N` of these calls, by the numbers of a generator: `N SEED`.
-    fn random(&mut self, calls: &[String], words: &str, got: &mut Got) -> Done {
+    fn random(&mut self, calls: &[String], words: &str, got: &mut Got) -> Outcome {
         let (times, seed) = headed(words);
         let (times, mut seed): (u32, u64) = (number(times)?, number(seed)?);
         for _ in 0..times {
@@ -198,7 +198,7 @@ pub fn begin<R: Wait + Copy + Clone + Drop>(rt: R, at: At) -> Result<Box<Pair<R>
 
 impl<R: Wait + Copy + Clone + Drop> Pair<R> {
     /// Makes a step.
-    pub fn step(&mut self, step: &str, at: At, got: &mut Got) -> Done {
+    pub fn step(&mut self, step: &str, at: At, got: &mut Got) -> Outcome {
         let (name, rest) = headed(step);
         match (name, &mut self.both) {
             ("learn", _) => self.calls.push(String::from_str(at.alloc, rest)?)?,

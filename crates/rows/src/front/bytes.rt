@@ -17,7 +17,7 @@ use futures::stream::Stream;
 use futures::task::Poll;
 use futures::test::MockTask;
 use indicatif::{Drawn, Moves, ProgressBarIter, Refusal};
-use scripts::got::{Bad, Done, Got};
+use scripts::got::{Bad, Got, Outcome};
 use scripts::row::{Words, headed, number, unescaped};
 use std::alloc::Global;
 use std::fmt::Display;
@@ -59,7 +59,7 @@ impl Over<Counted> {
     }
 
     /// Makes a step, or reads the bar.
-    pub fn step(&mut self, step: &str, got: &mut Got) -> Done {
+    pub fn step(&mut self, step: &str, got: &mut Got) -> Outcome {
         let bar = &mut self.wrapped.as_mut().ok_or(Bad::Step)?.progress;
         match headed(step) {
             ("place", place) => bar.position = number(place)?,
@@ -74,7 +74,7 @@ impl Over<Counted> {
 
 impl<P: Moves + Drop> Over<P> {
     /// Makes a step of the wrapped value.
-    pub fn asks(&mut self, step: &str, got: &mut Got) -> Done {
+    pub fn asks(&mut self, step: &str, got: &mut Got) -> Outcome {
         match headed(step) {
             ("written", "") => self.unwraps(got),
             (name @ ("write" | "write_all" | "poll_write"), text) => {
@@ -101,14 +101,14 @@ impl<P: Moves + Drop> Over<P> {
     }
 
     /// Unwraps, and shows what was written.
-    fn unwraps(&mut self, got: &mut Got) -> Done {
+    fn unwraps(&mut self, got: &mut Got) -> Outcome {
         let (inner, bar) = self.wrapped.take().ok_or(Bad::Step)?.into_inner();
         drop(bar);
         got.bytes(inner.written());
         Ok(())
     }
 
-    fn writes(&mut self, name: &str, bytes: &[u8], got: &mut Got) -> Done {
+    fn writes(&mut self, name: &str, bytes: &[u8], got: &mut Got) -> Outcome {
         let wrapped = self.wrapped.as_mut().ok_or(Bad::Step)?;
         match name {
             "write" => push_number(wrapped.write(bytes), got),
@@ -123,7 +123,7 @@ impl<P: Moves + Drop> Over<P> {
         Ok(())
     }
 
-    fn polls_next(&mut self, count: u64, got: &mut Got) -> Done {
+    fn polls_next(&mut self, count: u64, got: &mut Got) -> Outcome {
         let wrapped = self.wrapped.as_mut().ok_or(Bad::Step)?;
         for _ in 0..count {
             let polled = self.task.enter(|cx| wrapped.poll_next(cx));
@@ -135,7 +135,7 @@ impl<P: Moves + Drop> Over<P> {
     }
 
     /// A read into the front of the buffer, or the buffer itself.
-    fn reads(&mut self, name: &str, count: usize, got: &mut Got) -> Done {
+    fn reads(&mut self, name: &str, count: usize, got: &mut Got) -> Outcome {
         let wrapped = self.wrapped.as_mut().ok_or(Bad::Step)?;
         let room = self.room.get_mut(..count).ok_or(Bad::Step)?;
         let read = match name {
@@ -153,7 +153,7 @@ impl<P: Moves + Drop> Over<P> {
         Ok(())
     }
 
-    fn bare(&mut self, name: &str, got: &mut Got) -> Done {
+    fn bare(&mut self, name: &str, got: &mut Got) -> Outcome {
         let wrapped = self.wrapped.as_mut().ok_or(Bad::Step)?;
         match name {
             "position" => push_number(wrapped.stream_position(), got),
@@ -173,7 +173,7 @@ impl<P: Moves + Drop> Over<P> {
     }
 
     /// The rest, or a line of it.
-    fn to_end(&mut self, name: &str, got: &mut Got) -> Done {
+    fn to_end(&mut self, name: &str, got: &mut Got) -> Outcome {
         let (mut text, mut bytes) = (String::new(self.alloc), Vec::new(self.alloc));
         let wrapped = self.wrapped()?;
         match name {

@@ -5,7 +5,7 @@
 use crate::scripted::Scripted;
 use indicatif::machine::{StreamTerm, facts_of, on_stream, sized_target, wants_colors};
 use indicatif::{Facts, ProgressDrawTarget, TermLike};
-use scripts::got::{Bad, Done, Got};
+use scripts::got::{Bad, Got, Outcome};
 use scripts::row::{At, Words, unescaped_bytes};
 use std::alloc::Global;
 use std::env::{Env, FillError};
@@ -89,7 +89,7 @@ pub fn asked(name: &str, rest: &str, at: At, got: &mut Got) -> Result<bool, Bad>
 }
 
 /// Appends a target on a stream with a given size.
-fn push_sized(alloc: Global, rest: &str, got: &mut Got) -> Done {
+fn push_sized(alloc: Global, rest: &str, got: &mut Got) -> Outcome {
     let mut words = Words::of(rest);
     let (rows, cols) = (words.number()?, words.number()?);
     let words = words.rest();

@@ -33,7 +33,7 @@ use crate::front::history::{Look, Question};
 use crate::scripted::script_of;
 use indicatif::machine::Shares;
 use indicatif::{Drawn, MultiProgressAlignment, ProgressBar, ProgressDrawTarget, WeakProgressBar};
-use scripts::got::{Bad, Done, Got};
+use scripts::got::{Bad, Got, Outcome};
 use scripts::row::{At, Words, flag, headed, number, optional, unescaped};
 use std::random::RandomSource;
 use std::sync::Wait;
@@ -55,7 +55,7 @@ impl<R: Wait + Copy + Clone + Drop> Fronts<R> {
     // ---- what is made from now on
 
     /// Sets how bars are made, or the current board.
-    fn sets(&mut self, step: &str) -> Done {
+    fn sets(&mut self, step: &str) -> Outcome {
         let mut words = Words::of(step);
         match words.word() {
             "rate" => self.room.pace = Some((words.number()?, words.number()?)),
@@ -68,7 +68,7 @@ impl<R: Wait + Copy + Clone + Drop> Fronts<R> {
     // ---- boards and owners
 
     /// Releases or drops the last owner.
-    fn goes(&mut self, is_released: bool) -> Done {
+    fn goes(&mut self, is_released: bool) -> Outcome {
         self.answer = None;
         let bar = self.bars.pop().ok_or(Bad::Step)?;
         match is_released {
@@ -104,7 +104,7 @@ impl<R: Wait + Copy + Clone + Drop> Fronts<R> {
     // ---- insertions
 
     /// Inserts a bar, whose owner comes back from the board.
-    fn takes_in(&mut self, step: &str, got: &mut Got) -> Done {
+    fn takes_in(&mut self, step: &str, got: &mut Got) -> Outcome {
         let mut words = Words::of(step);
         let name = words.word();
         let place = match name {
@@ -143,7 +143,7 @@ impl<R: Wait + Copy + Clone + Drop> Fronts<R> {
     // ---- calls of a board
 
     /// Makes a call of the board, and keeps its answer; one that neither draws nor lends is `done`.
-    fn calls(&mut self, step: &str, got: &mut Got) -> Done {
+    fn calls(&mut self, step: &str, got: &mut Got) -> Outcome {
         let board = &self.board()?.0;
         let settled = match headed(step) {
             ("top", "") => board.set_alignment(MultiProgressAlignment::Top),
@@ -224,7 +224,7 @@ impl<R: Wait + Copy + Clone + Drop> Fronts<R> {
 
     /// The calls that the history has gained since it was last read; first a call of a bar or of the board, if there is one, whose answer is
     /// that of the entry that it adds.
-    fn adds(&mut self, step: &str, got: &mut Got) -> Done {
+    fn adds(&mut self, step: &str, got: &mut Got) -> Outcome {
         if !step.is_empty() {
             self.answer = Some(match step.split_once(": ") {
                 Some((place, rest)) => self.bar_told(place, rest)?,
@@ -271,7 +271,7 @@ impl<R: Shares + RandomSource> WithWrapped<R> {
     }
 
     /// Makes a step, or reads something.
-    pub fn step(&mut self, step: &str, got: &mut Got) -> Done {
+    pub fn step(&mut self, step: &str, got: &mut Got) -> Outcome {
         let (name, rest) = headed(step);
         if name.starts_with("wrap_") {
             self.wrapped = Some(self.fronts.wrapped_by(name, rest)?);
@@ -286,7 +286,7 @@ impl<R: Shares + RandomSource> WithWrapped<R> {
 
 impl<R: Shares + RandomSource> Fronts<R> {
     /// Makes a step without the wrapped value. Unknown steps go to `takes_in`, and then to `calls`.
-    fn step(&mut self, step: &str, got: &mut Got) -> Done {
+    fn step(&mut self, step: &str, got: &mut Got) -> Outcome {
         let (name, rest) = headed(step);
         match step.split_once(": ") {
             Some((place, call)) if name != "adds" => return self.of_bar(place, call, got),
@@ -311,7 +311,7 @@ impl<R: Shares + RandomSource> Fronts<R> {
     }
 
     /// Sets a bar's ticker, reads the bar, or makes a call of it.
-    fn of_bar(&mut self, place: &str, rest: &str, got: &mut Got) -> Done {
+    fn of_bar(&mut self, place: &str, rest: &str, got: &mut Got) -> Outcome {
         let rt = &self.rt;
         let bar = self.bar(place)?;
         match headed(rest) {
@@ -341,7 +341,7 @@ impl<R: Shares + RandomSource> Fronts<R> {
     }
 
     /// Whether nothing is added to the board's history for 50 milliseconds.
-    fn history_rests(&self, got: &mut Got) -> Done {
+    fn history_rests(&self, got: &mut Got) -> Outcome {
         let board = self.board()?;
         let mut unsaid = Got::new(self.alloc);
         let before = board.shown(self.look(Question::Order), &mut unsaid);

@@ -15,7 +15,7 @@ use indicatif::{
     ProgressIterator, ProgressStyle,
 };
 use scripts::commands::command;
-use scripts::got::{Bad, Done, Got};
+use scripts::got::{Bad, Got, Outcome};
 use scripts::lone::read_bar;
 use scripts::row::{At, Words, headed, number};
 use std::alloc::Global;
@@ -46,7 +46,7 @@ pub fn begin_list(rest: &str, at: At) -> Result<Box<List>, Bad> {
 
 impl List {
     /// Makes a step, or reads the bar.
-    pub fn step(&mut self, step: &str, got: &mut Got) -> Done {
+    pub fn step(&mut self, step: &str, got: &mut Got) -> Outcome {
         let wrapped = self.0.as_mut().ok_or(Bad::Step)?;
         match step {
             "next" => got.number_or(wrapped.next(), "end"),
@@ -116,7 +116,7 @@ pub fn begin(rest: &str, at: At) -> Result<Looped, Bad> {
 
 impl Looped {
     /// Makes a step, or reads the bar. A builder that is refused drops the loop.
-    pub fn step(&mut self, step: &str, at: At, got: &mut Got) -> Done {
+    pub fn step(&mut self, step: &str, at: At, got: &mut Got) -> Outcome {
         if step.starts_with("with_") {
             let wrapped = self.0.take().ok_or(Bad::Step)?;
             let told = built(Box::into_inner(wrapped).0, command(at.alloc, step)?)?;

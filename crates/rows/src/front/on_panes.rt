@@ -19,7 +19,7 @@ use crate::front::pane::{Pane, Wire};
 use indicatif::{Board, NoTracker, OwnRows, ProgressDrawTarget, Term, TermLike};
 use meter_parts::row_said;
 use scripts::boards::{MARK, board_call, push_answer};
-use scripts::got::{Bad, Done, Got};
+use scripts::got::{Bad, Got, Outcome};
 use scripts::row::{At, Words, headed};
 use scripts::screen::size;
 use std::rc::Rc;
@@ -83,7 +83,7 @@ fn call<T: TermLike + Drop>(
     step: &str,
     at: At,
     got: &mut Got,
-) -> Done {
+) -> Outcome {
     let call = board_call(at, step)?;
     let calls = vec![in at.alloc; (call, at.now)]?;
     for answer in board.run(calls)? {
@@ -102,7 +102,7 @@ impl OnPane {
     }
 
     /// Makes a step, or reads something.
-    fn step(&mut self, step: &str, at: At, got: &mut Got) -> Done {
+    fn step(&mut self, step: &str, at: At, got: &mut Got) -> Outcome {
         if self.pane.step(step, at, got)? {
             return Ok(());
         }
@@ -113,7 +113,7 @@ impl OnPane {
     }
 
     /// Gives the board another size or a target of this size, whose rows the terminal ends, or resizes the pane.
-    fn resize(&mut self, name: &str, (rows, columns): (u16, u16)) -> Done {
+    fn resize(&mut self, name: &str, (rows, columns): (u16, u16)) -> Outcome {
         match name {
             "size" => self.board.0.resize(rows, columns)?,
             "pane" => self.pane.resize(rows, columns)?,
@@ -129,7 +129,7 @@ impl OnPane {
 
 impl OnPanes {
     /// Makes a step of each.
-    pub fn step(&mut self, step: &str, at: At, got: &mut Got) -> Done {
+    pub fn step(&mut self, step: &str, at: At, got: &mut Got) -> Outcome {
         match headed(step) {
             ("breaks", "") => self.break_all(),
             ("any", step) => self.make_any(step, at),

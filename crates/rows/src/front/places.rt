@@ -3,7 +3,7 @@
 //! `places 10` or `places 1` begins with none, and keeps the last 10 or 1: `put P ..` adds these and gives the greatest. `places seeks`
 //! begins with neither moves nor seeks: `seek P` and `move P BYTES` give the position that is shown.
 use indicatif::{MaxRingBuf, SeekMax};
-use scripts::got::{Bad, Done, Got};
+use scripts::got::{Bad, Got, Outcome};
 use scripts::row::{At, headed, number};
 
 /// The places.
@@ -26,7 +26,7 @@ pub fn begin(rest: &str, at: At) -> Result<Box<Places>, Bad> {
 
 impl Places {
     /// Makes a step.
-    pub fn step(&mut self, step: &str, got: &mut Got) -> Done {
+    pub fn step(&mut self, step: &str, got: &mut Got) -> Outcome {
         let (name, rest) = headed(step);
         let place = match (self, name) {
             (Places::Ten(places), "put") => greatest(places, rest)?,

@@ -6,7 +6,7 @@
 //! - Any other step is a command of the bar, and gives nothing.
 use indicatif::PlainLines;
 use scripts::commands::command;
-use scripts::got::{Bad, Done, Got};
+use scripts::got::{Bad, Got, Outcome};
 use scripts::lone::{Bar, bar_of};
 use scripts::row::{At, Words};
 
@@ -28,7 +28,7 @@ pub fn begin(rest: &str, at: At) -> Result<Plain, Bad> {
 
 impl Plain {
     /// Makes a command, or asks for the line that is due.
-    pub fn step(&mut self, step: &str, at: At, got: &mut Got) -> Done {
+    pub fn step(&mut self, step: &str, at: At, got: &mut Got) -> Outcome {
         if step != "look" {
             let _ = self.bar.apply(command(at.alloc, step)?, at.now);
             return Ok(());
