@@ -46,7 +46,7 @@ fn is_hidden_by(facts: &Facts) -> bool {
     }
 }
 
-/// A target is hidden where the facts say so; and one that is drawn on as often as that is asked.
+/// A target is hidden where the facts say so. Another is drawn on at each call that wants a draw.
 #[test]
 fn targets_of_facts(rt: HostRuntime) {
     let (writer, facts, now) = (rt.stderr(), facts_of_xterm(&rt).granted(&rt), 0);

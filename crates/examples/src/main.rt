@@ -1,17 +1,28 @@
 //! Small programs, each a module with its own `main`. They run in turn, each under its name; `examples NAME` runs one of them.
 //!
-//! - `first`: a first program. `wrapped`: a loop with its own bar. `download`: bytes, rate and time left.
-//! - `fine`: a bar of fine characters. `logging`: lines above a bar (`examples log`). `refusal`: a call that is refused.
-//! - `formatters`: numbers as texts. `template`: the parts of a template. `terminal`: a bar on standard error. `sizes`: another size of a
-//!   terminal, passed on.
-//! - `key`: your own key in a template, on standard error. `still`: ten bars there, of which one goes on.
-//! - With threads, on standard error: `spinner`, which a thread ticks. `several`: three bars, each moved by a thread. `five`: five bars, as
-//!   plain lines if that is no terminal. `log_bridge`: lines of the crate `log` above two bars. `ported`: three programs of the Rust
-//!   crate's documentation, carried over.
+//! - `first`: a first program.
+//! - `wrapped`: a loop with its own bar.
+//! - `download`: bytes, rate and time left.
+//! - `fine`: a bar of fine characters.
+//! - `logging`: lines above a bar (`examples log`).
+//! - `refusal`: a call that is refused.
+//! - `formatters`: numbers as texts.
+//! - `template`: the parts of a template.
+//! - `terminal`: a bar on standard error.
+//! - `sizes`: another size of a terminal, passed on.
+//! - `key`: your own key in a template, on standard error.
+//! - `still`: ten bars there, of which one goes on.
+//! - With threads, on standard error: `spinner`, which a thread ticks.
+//! - `several`: three bars, each moved by a thread.
+//! - `five`: five bars, as plain lines if that is no terminal.
+//! - `log_bridge`: lines of the crate `log` above two bars.
+//! - `ported`: three programs of the Rust crate's documentation, carried over.
 //! - `pieces`: pieces of work that threads do, also some that wait for one another.
-//! - `lost_terminal`: work that goes on when its terminal goes away. `storm`: 64 threads that log, pause and change targets. Not in turn.
+//! - `lost_terminal`: work that goes on when its terminal goes away.
+//! - `storm`: 64 threads that log, pause and change targets. Not in turn.
 //! - `reader`: standard input through a reader with a bar.
-//! - `guide`: the programs of the guide at the head of crate `indicatif`. `guide_key`: the one with your own key.
+//! - `guide`: the programs of the guide at the head of crate `indicatif`.
+//! - `guide_key`: the one with your own key.
 //! - `shown`: the terminal in memory that some of these use, and how they print it.
 #![tactic(auto)]
 

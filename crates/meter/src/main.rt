@@ -6,9 +6,12 @@
 //! The exit status is 0 if all bytes were sent; 1 if an input failed, 3 if the output did, and 4 if memory was refused, each with a
 //! message; 2 after wrong arguments; and 141, without a message, if the consumer went away, as shells report for `cat`.
 //!
-//! - `arguments`: the request. `sizes`: how much will come.
-//! - `copying`: inputs passed on. `numbers`: numbers for other programs.
-//! - `shown`: the bar. `telling`: what it shows besides the count.
+//! - `arguments`: the request.
+//! - `sizes`: how much will come.
+//! - `copying`: inputs passed on.
+//! - `numbers`: numbers for other programs.
+//! - `shown`: the bar.
+//! - `telling`: what it shows besides the count.
 //!
 //! The proved parts are in the crate `meter_parts`.
 #![tactic(auto)]

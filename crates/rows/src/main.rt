@@ -6,13 +6,17 @@
 //!
 //! The exit status is 1 if a row differed or a file had none, and 2 if a file can't be read or a stream fails.
 //!
-//! - `world`: the world that steps are played on, and the module of a step. `front`: what is played over `indicatif`. All that follows is
-//!   played without it.
+//! - `world`: the world that steps are played on, and the module of a step.
+//! - `front`: what is played over `indicatif`. All that follows is played without it.
 //! - `screens`: what draws on a screen: `lone`, bars without a board; `boards`; `engines`; or a terminal alone.
-//! - `terminals`: the calls of a terminal, the terminal in memory, and the cell terminal. `targets`: targets on streams, and limiters.
-//! - `texts`: texts of formatters; columns, rows and pieces of texts. `templates`: templates, and words of styles. `refusals`: numbers and
-//!   texts of refusals. `styles`: styles and their builders, and lines of bars.
-//! - `program`: runs of `bars run`. `scripted`: a reader, a writer and a stream that do what a row says.
+//! - `terminals`: the calls of a terminal, the terminal in memory, and the cell terminal.
+//! - `targets`: targets on streams, and limiters.
+//! - `texts`: texts of formatters; columns, rows and pieces of texts.
+//! - `templates`: templates, and words of styles.
+//! - `refusals`: numbers and texts of refusals.
+//! - `styles`: styles and their builders, and lines of bars.
+//! - `program`: runs of `bars run`.
+//! - `scripted`: a reader, a writer and a stream that do what a row says.
 #![tactic(auto)]
 
 mod boards;

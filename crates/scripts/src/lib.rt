@@ -6,7 +6,8 @@
 //! - `play`: files of rows: which steps a row makes, and which rows agree; each that differs is printed, with its file and its line.
 //! - `row`: the step of a line and its expected result; words, moments, numbers and escapes of a step.
 //! - `got`: the result of a step, or why it has none.
-//! - `commands`: commands of a bar. `lone`: calls of a lone bar, and readings of a bar.
+//! - `commands`: commands of a bar.
+//! - `lone`: calls of a lone bar, and readings of a bar.
 //! - `boards`: calls of a board, their answers, and readings of a board.
 //! - `replay`: whether a new board that makes the calls of a history does the same.
 //! - `screen`: a terminal to draw on, whose writes fail if a row asks for it.
