@@ -94,9 +94,7 @@ impl<C: Debug + Drop> Tally<C> {
             Ok(given) => given,
             Err(fault) => {
                 self.faulty = self.faulty.saturating_add(1);
-                if self.first.is_none() {
-                    self.first = Some((case, fault));
-                }
+                self.first.get_or_insert((case, fault));
                 V::default()
             }
         }

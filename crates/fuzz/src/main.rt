@@ -61,10 +61,7 @@ fn keeps_laws<R: Plays + Print + Env>(rt: R, passed: usize) -> Result<bool> {
 
 fn main(rt: HostRuntime) -> Result<ExitCode> {
     // They are read again if memory was refused.
-    let mut words = match env::args(&rt) {
-        Ok(words) => words,
-        Err(_) => env::args(&rt)?,
-    };
+    let mut words = env::args(&rt).or_else(|_| env::args(&rt))?;
     let first = words.nth(1);
     let mut are_kept = true;
     match first.as_deref() {

@@ -8,21 +8,17 @@ use std::alloc::Global;
 
 /// Numbers one after another, determined by a seed and the number of a stream.
 #[derive(Drop)]
-pub struct Numbers {
-    words: Pcg32,
-}
+pub struct Numbers(Pcg32);
 
 impl Numbers {
     /// The numbers of this seed in this stream.
     pub fn new(seed: u64, stream: u64) -> Numbers {
-        Numbers {
-            words: Pcg32::new(seed, stream),
-        }
+        Numbers(Pcg32::new(seed, stream))
     }
 
     /// The next number.
     pub fn next(&mut self) -> u32 {
-        self.words.next_word()
+        self.0.next_word()
     }
 
     /// A number below this one; 0 if there is none.

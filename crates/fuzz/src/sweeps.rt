@@ -140,10 +140,8 @@ where
 
 /// How a script is played by these words; on the largest terminal if no size is given.
 fn playing_by(words: &mut Args) -> Playing {
-    let room = match words.next().as_deref() {
-        Some("grows") => 0,
-        _ => ROOM,
-    };
+    let grows = words.next().as_deref() == Some("grows");
+    let room = if grows { 0 } else { ROOM };
     let is_judged = words.next().as_deref() != Some("unjudged");
     let size = match (number_of(words.next()), number_of(words.next())) {
         (Some(rows), Some(cols)) => Size { rows, cols },

@@ -19,6 +19,8 @@ const SAID: &str = "a|b|cd|efghij| |国|e\u{301}|\u{1B}[31m|\u{1B}[0m|\t|\n|z";
 
 type Bar = Box<BarState<NoTracker>>;
 
+type Place = (Moment, u16);
+
 /// A bar in some state, with some clusters and some texts of its spinner.
 fn bar_by(alloc: Global, numbers: &mut Numbers) -> Result<Bar, Fault> {
     let style = ProgressStyle::default_bar(alloc)?;
@@ -93,16 +95,11 @@ fn is_but_for_white_space(plain: &str, coloured: &str) -> bool {
 }
 
 /// The visible lines of the same bar in a copy of its style, with colours or without, at this moment and on so many columns.
-fn visible_lines(
-    alloc: Global,
-    bar: &Bar,
-    colours: bool,
-    (now, width): (Moment, u16),
-) -> Result<String, Fault> {
+fn visible_lines(alloc: Global, bar: &Bar, colours: bool, place: Place) -> Result<String, Fault> {
     let style = bar.style().try_clone()?.with_colors(colours)?;
     let mut copy = Box::new(alloc, bar.try_clone()?)?;
     copy.with_style(style, 0)?;
-    visible(alloc, &copy.lines(now, width)?)
+    visible(alloc, &copy.lines(place.0, place.1)?)
 }
 
 /// Checks a bar's lines with this template, if it is one, at any width: colours change no visible character.

@@ -26,13 +26,8 @@ fn bars_of<R: Plays>(rt: R, board: &Multi<R>) -> Result<Vec<Bar<R>>, Refusal> {
 
 /// How many of the rows are logged lines.
 fn logged_in(rows: &[String]) -> u64 {
-    let mut found: u64 = 0;
-    for row in rows {
-        if row.as_str().starts_with("log ") {
-            found = found.wrapping_add(1);
-        }
-    }
-    found
+    let logged = rows.iter().filter(|row| row.as_str().starts_with("log "));
+    logged.count() as u64
 }
 
 type Recording = Recorded<NoTracker, InMemoryTerm>;

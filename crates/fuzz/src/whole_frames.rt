@@ -17,7 +17,7 @@ use crate::whole_frames::calls::{Answer, Call, Frame};
 use crate::whole_frames::coloured::Coloured;
 use crate::whole_frames::whole::WholeFrames;
 use anyhow::Result;
-use indicatif_term::target::{Engine, MultiProgressAlignment, Segment, Term};
+use indicatif_term::target::{Engine, Term};
 use indicatif_text::columns::Refusal;
 use std::alloc::Global;
 use std::env::Args;
@@ -46,7 +46,8 @@ impl Beside {
     }
 
     /// Makes a call.
-    fn make(&mut self, call: &Call, bars: &[Segment], alignment: MultiProgressAlignment) -> Answer {
+    fn make(&mut self, call: &Call, frame: &Frame) -> Answer {
+        let (bars, alignment) = (&frame.bars, frame.alignment);
         match call {
             Call::Draw(pass) => self.engine.draw(bars, *pass, alignment)?,
             Call::Log(text) => self.engine.log(text.as_str(), bars, alignment)?,
@@ -71,27 +72,21 @@ struct Three {
 
 impl Three {
     fn new(alloc: Global, size: Size) -> Result<Three, Refusal> {
+        let engine = Beside::new(alloc, size, false)?;
+        let moving = Beside::new(alloc, size, true)?;
         Ok(Three {
-            engines: [
-                Beside::new(alloc, size, false)?,
-                Beside::new(alloc, size, true)?,
-            ],
+            engines: [engine, moving],
             whole: WholeFrames::new(alloc, size),
             shown: Coloured::new(alloc, size)?,
         })
     }
 
     /// Whether all give the same answer to a call, and show the same after it.
-    fn agree(
-        &mut self,
-        call: &Call,
-        bars: &[Segment],
-        alignment: MultiProgressAlignment,
-    ) -> Result<bool, Refusal> {
-        let wanted = self.whole.make(call, bars, alignment);
+    fn agree(&mut self, call: &Call, frame: &Frame) -> Result<bool, Refusal> {
+        let wanted = self.whole.make(call, frame);
         let mut agree = self.shown.read_on(self.whole.written())?;
         for beside in &mut self.engines {
-            agree &= beside.make(call, bars, alignment) == wanted;
+            agree &= beside.make(call, frame) == wanted;
             agree &= beside.shown.read_on(beside.engine.term().writer())?;
             agree &= beside.shown.is_as(&self.shown)?;
         }
@@ -109,12 +104,8 @@ fn size_by(numbers: &mut Numbers) -> Size {
 /// Plays one more call; whether all agree.
 fn step(three: &mut Three, frame: &mut Frame, numbers: &mut Numbers) -> Result<bool, Refusal> {
     frame.change(numbers)?;
-    let alignment = match numbers.one_in(4) {
-        true => MultiProgressAlignment::Bottom,
-        false => MultiProgressAlignment::Top,
-    };
     let call = frame.call(numbers)?;
-    let agree = three.agree(&call, &frame.bars, alignment)?;
+    let agree = three.agree(&call, frame)?;
     frame.follow(&call);
     Ok(agree)
 }

@@ -33,8 +33,7 @@ pub fn rows_shown(alloc: Global, size: (u16, u16), bars: &[Segment]) -> Result<V
     engine.draw(bars, 0, MultiProgressAlignment::Top)?;
     a_new_terminal_is_an_opening();
     what_is_shown_is_read();
-    let texts = engine.term().picture()?;
-    Ok(texts)
+    Ok(engine.term().picture()?)
 }
 
 /// Logs `a.txt` above three lines on a new terminal of 4 rows and 5 columns, and draws two lines in their place. The second of these stands

@@ -37,17 +37,11 @@ pub fn next_beside<T: TermLike + Drop, C: Clock + Drop, R: Wait + Clone + Drop, 
     ensures next { IfOk result (λ next. next ≡ (number + 1) % 2 ^ 32) }
     ensures refused { IfErr result (λ e. CanAnswer K (Obey (Inc 1)) (Err e)) }
 {
-    match bar.inc(1) {
-        Ok(_) => {
-            let (next, _) = bar.suspend(
-                || -> u32
-                    ensures { result ≡ (number + 1) % 2 ^ 32 }
-                { number.wrapping_add(1) },
-            );
-            Ok(next)
-        }
-        Err(refusal) => Err(refusal),
-    }
+    bar.inc(1)?;
+    let add = || -> u32
+        ensures { result ≡ (number + 1) % 2 ^ 32 }
+    { number.wrapping_add(1) };
+    Ok(bar.suspend(add).0)
 }
 
 /// The number after this one, computed while the rows of all bars of a board are cleared.
@@ -57,12 +51,10 @@ pub fn next_above<T: TermLike + Drop, C: Clock + Drop, R: Wait + Clone + Drop, K
 ) -> u32
     ensures { result ≡ (number + 1) % 2 ^ 32 }
 {
-    let (next, _) = board.suspend(
-        || -> u32
-            ensures { result ≡ (number + 1) % 2 ^ 32 }
-        { number.wrapping_add(1) },
-    );
-    next
+    let add = || -> u32
+        ensures { result ≡ (number + 1) % 2 ^ 32 }
+    { number.wrapping_add(1) };
+    board.suspend(add).0
 }
 
 /// Each number of a list doubled, in order, by threads, whatever bar is moved; a bar whose position can be read has advanced by as many as
@@ -77,13 +69,10 @@ pub fn doubled<R: Threads + Sync, P: Moves + Drop>(
         P.stands result.1 ≡ Some (after_bar_move bar (Advance (length (inner_of list.entry).now))))) }
 {
     blocks_add_up::<P>();
-    list.map_collect(
-        rt,
-        alloc,
-        |x: &u32| -> u32
-            ensures { result ≡ x.now * 2 % 2 ^ 32 }
-        { x.wrapping_mul(2) },
-    )
+    let double = |x: &u32| -> u32
+        ensures { result ≡ x.now * 2 % 2 ^ 32 }
+    { x.wrapping_mul(2) };
+    list.map_collect(rt, alloc, double)
 }
 
 /// Each number of each piece doubled, in order, by threads that count for a shared bar; only `ZeroPieces` and `Memory` are refused.

@@ -33,11 +33,8 @@ use std::alloc::Global;
 pub fn kept_of_a_clear(alloc: Global) -> Result<usize, Refusal>
     ensures { IfOk result (λ count. count ≡ 1) }
 {
-    let mut history: Recorded<NoTracker, InMemoryTerm> = Recorded::new(
-        alloc,
-        ProgressDrawTarget::hidden(),
-        0,
-    );
+    let hidden = ProgressDrawTarget::hidden();
+    let mut history: Recorded<NoTracker, InMemoryTerm> = Recorded::new(alloc, hidden, 0);
     match history.apply(Call::Clear, 0).0 {
         Answer::Refused(refusal) => Err(refusal),
         _ => Ok(history.entries().len()),
@@ -125,11 +122,6 @@ pub fn picture_kept<K: ProgressTracker>(
         IfOk result (λ texts. AreTextsOf (map (λ text. string_bytes text) texts.items) (take opening.row opening.rows ++ all_rows v.columns run.state.lists)) }
 {
     what_a_history_says::<K, InMemoryTerm>();
-    match history.board().term() {
-        Some(term) => {
-            let texts = term.picture()?;
-            Ok(texts)
-        }
-        None => Err(Refusal::Memory),
-    }
+    let left = history.board().term().ok_or(Refusal::Memory)?;
+    Ok(left.picture()?)
 }

@@ -48,24 +48,15 @@ pub fn names_logged(alloc: Global) -> Result<Vec<String>, Refusal>
         ≡ codes "a.txt" ∷ codes "b.txt" ∷ replicate blank [])) }
 {
     let term = InMemoryTerm::new(alloc, 4, 10)?;
-    let mut board: Board<NoTracker, InMemoryTerm> = Board::new(
-        alloc,
-        ProgressDrawTarget::term_like(term),
-        0,
-    );
+    let mut board = Board::<NoTracker, _>::new(alloc, ProgressDrawTarget::term_like(term), 0);
     let _one = board.println("a.txt", 0)?;
     let _other = board.println("b.txt", 0)?;
     columns();
     a_new_terminal_is_an_opening();
     what_a_board_run_reads::<NoTracker>();
     plain_texts_give_plain_runs::<NoTracker>();
-    match board.term() {
-        Some(term) => {
-            let texts = term.picture()?;
-            Ok(texts)
-        }
-        None => Err(Refusal::Memory),
-    }
+    let left = board.term().ok_or(Refusal::Memory)?;
+    Ok(left.picture()?)
 }
 
 /// A name logged on a new terminal of 4 rows and 10 columns, which then gets 3 columns, and another name; and the texts of the rows: the
@@ -77,11 +68,7 @@ pub fn names_cut(alloc: Global) -> Result<Vec<String>, Refusal>
         ≡ codes "a.t" ∷ codes "xt" ∷ codes "b" ∷ replicate blank [])) }
 {
     let term = InMemoryTerm::new(alloc, 4, 10)?;
-    let mut board: Board<NoTracker, InMemoryTerm> = Board::new(
-        alloc,
-        ProgressDrawTarget::term_like(term),
-        0,
-    );
+    let mut board = Board::<NoTracker, _>::new(alloc, ProgressDrawTarget::term_like(term), 0);
     let _one = board.println("a.txt", 0)?;
     board.resize(4, 3)?;
     let _other = board.println("b", 0)?;
@@ -89,13 +76,8 @@ pub fn names_cut(alloc: Global) -> Result<Vec<String>, Refusal>
     a_new_terminal_is_an_opening();
     scripts_of_a_board::<NoTracker>();
     plain_texts_give_plain_runs::<NoTracker>();
-    match board.term() {
-        Some(term) => {
-            let texts = term.picture()?;
-            Ok(texts)
-        }
-        None => Err(Refusal::Memory),
-    }
+    let left = board.term().ok_or(Refusal::Memory)?;
+    Ok(left.picture()?)
 }
 
 /// A bar with the message `copying`, with a name logged above it, on a new terminal of 4 rows and 10 columns; and the texts of the rows
@@ -115,13 +97,8 @@ pub fn name_above_a_bar(alloc: Global) -> Result<Vec<String>, Refusal>
     template_or_refused();
     a_new_terminal_is_an_opening();
     what_a_lone_run_reads::<NoTracker>();
-    match bar.into_term() {
-        Some(term) => {
-            let texts = term.picture()?;
-            Ok(texts)
-        }
-        None => Err(Refusal::Memory),
-    }
+    let left = bar.into_term().ok_or(Refusal::Memory)?;
+    Ok(left.picture()?)
 }
 
 /// A bar on a board, with the message `copying`, with a name logged above it, on a new terminal of 4 rows and 10 columns; and the texts of
@@ -143,13 +120,8 @@ pub fn name_above_a_board(alloc: Global) -> Result<Vec<String>, Refusal>
     template_or_refused();
     a_new_terminal_is_an_opening();
     what_a_board_run_reads::<NoTracker>();
-    match board.term() {
-        Some(left) => {
-            let texts = left.picture()?;
-            Ok(texts)
-        }
-        None => Err(Refusal::Memory),
-    }
+    let left = board.term().ok_or(Refusal::Memory)?;
+    Ok(left.picture()?)
 }
 
 /// A name logged above a bar on a new terminal of 4 rows and 10 columns, then any calls with plain texts, whatever their answers; and the
@@ -175,13 +147,8 @@ pub fn name_stands<K: ProgressTracker>(
     plain_texts_give_plain_lone_runs::<K>();
     where_a_terminal_stands();
     what_is_shown_is_read();
-    match bar.into_term() {
-        Some(term) => {
-            let texts = term.picture()?;
-            Ok(texts)
-        }
-        None => Err(Refusal::Memory),
-    }
+    let left = bar.into_term().ok_or(Refusal::Memory)?;
+    Ok(left.picture()?)
 }
 
 /// A name logged on a new board, then any calls with plain texts, whatever their answers; and the texts of the rows afterwards. The name is
@@ -196,11 +163,7 @@ pub fn name_stands_on<K: ProgressTracker>(
         IfOk result (λ texts. (others : List (List ℕ)) × (map (λ text. string_bytes text) texts.items ≡ codes "a.txt" ∷ others)) }
 {
     let term = InMemoryTerm::new(alloc, 4, 10)?;
-    let mut board: Board<K, InMemoryTerm> = Board::new(
-        alloc,
-        ProgressDrawTarget::term_like(term),
-        0,
-    );
+    let mut board = Board::<K, _>::new(alloc, ProgressDrawTarget::term_like(term), 0);
     let _logged = board.println("a.txt", 0)?;
     let _answers = board.run(calls)?;
     columns();
@@ -208,13 +171,8 @@ pub fn name_stands_on<K: ProgressTracker>(
     plain_texts_give_plain_runs::<K>();
     where_a_terminal_stands();
     what_is_shown_is_read();
-    match board.term() {
-        Some(term) => {
-            let texts = term.picture()?;
-            Ok(texts)
-        }
-        None => Err(Refusal::Memory),
-    }
+    let left = board.term().ok_or(Refusal::Memory)?;
+    Ok(left.picture()?)
 }
 
 /// The bytes of two logs on a new board behind a writer, whose terminal has 4 rows and 10 columns; and how many of them the first log
@@ -227,11 +185,7 @@ pub fn name_between_bytes(alloc: Global) -> Result<(usize, Vec<u8>), Refusal>
 {
     let writer = Vec::new(alloc);
     let term = Term::new(writer, 4, 10);
-    let mut board: Board<NoTracker, Term<Vec<u8>>> = Board::new(
-        alloc,
-        ProgressDrawTarget::term_like(term),
-        0,
-    );
+    let mut board = Board::<NoTracker, _>::new(alloc, ProgressDrawTarget::term_like(term), 0);
     let _one = board.println("a.txt", 0)?;
     let first = bytes_of(alloc, &board)?;
     let _other = board.println("b.txt", 0)?;
@@ -258,11 +212,7 @@ pub fn bytes_are_quiet<K: ProgressTracker>(
 {
     let writer = Vec::new(alloc);
     let term = Term::new(writer, 4, 10);
-    let mut board: Board<K, Term<Vec<u8>>> = Board::new(
-        alloc,
-        ProgressDrawTarget::term_like(term),
-        0,
-    );
+    let mut board = Board::<K, _>::new(alloc, ProgressDrawTarget::term_like(term), 0);
     let _answers = board.run(calls)?;
     plain_texts_give_plain_runs::<K>();
     what_calm_bytes_hold();
@@ -276,13 +226,8 @@ fn bytes_of<K: ProgressTracker>(
 ) -> Result<Vec<u8>, Refusal>
     ensures { IfOk result (λ bytes. IfSome (terminal_of board.now) (λ term. term.writer.items ≡ bytes.items)) }
 {
-    match board.term() {
-        Some(term) => {
-            let bytes = Vec::from_slice(alloc, term.writer().as_slice())?;
-            Ok(bytes)
-        }
-        None => Err(Refusal::Memory),
-    }
+    let term = board.term().ok_or(Refusal::Memory)?;
+    Ok(Vec::from_slice(alloc, term.writer().as_slice())?)
 }
 
 /// Logs a text above a bar that you are lent. Whatever was done with the bar before: if its texts, its trackers' and this one are plain,

@@ -65,13 +65,8 @@ pub fn picture_after<K: ProgressTracker>(
     unbroken(&answers)?;
     an_opening_shows_nothing();
     what_a_lone_run_reads::<K>();
-    match bar.into_term() {
-        Some(term) => {
-            let texts = term.picture()?;
-            Ok(texts)
-        }
-        None => Err(Refusal::Memory),
-    }
+    let left = bar.into_term().ok_or(Refusal::Memory)?;
+    Ok(left.picture()?)
 }
 
 /// The texts of the rows that stand after these calls of a bar, which begins on an `OwnRows` whose rows this terminal ends: those of the
@@ -98,13 +93,8 @@ pub fn picture_on_own_rows<K: ProgressTracker>(
     an_opening_shows_nothing();
     what_a_lone_run_reads::<K>();
     what_own_rows_tell::<InMemoryTerm>();
-    match bar.into_term() {
-        Some(own) => {
-            let texts = own.term().picture()?;
-            Ok(texts)
-        }
-        None => Err(Refusal::Memory),
-    }
+    let left = bar.into_term().ok_or(Refusal::Memory)?;
+    Ok(left.term().picture()?)
 }
 
 /// The texts of the rows that stand after a line was logged above a bar and any calls were made after it: below the rows that were not the
@@ -131,13 +121,8 @@ pub fn log_stands<K: ProgressTracker>(
     unbroken(&answers)?;
     an_opening_shows_nothing();
     what_a_lone_run_reads::<K>();
-    match bar.into_term() {
-        Some(term) => {
-            let texts = term.picture()?;
-            Ok(texts)
-        }
-        None => Err(Refusal::Memory),
-    }
+    let left = bar.into_term().ok_or(Refusal::Memory)?;
+    Ok(left.picture()?)
 }
 
 // ---- of a board
@@ -175,11 +160,6 @@ pub fn board_picture_after<K: ProgressTracker>(
     none_failed(&answers)?;
     an_opening_shows_nothing();
     what_a_board_run_reads::<K>();
-    match board.term() {
-        Some(term) => {
-            let texts = term.picture()?;
-            Ok(texts)
-        }
-        None => Err(Refusal::Memory),
-    }
+    let left = board.term().ok_or(Refusal::Memory)?;
+    Ok(left.picture()?)
 }

@@ -13,8 +13,7 @@ pub fn amount(alloc: Global, there: u64, whole: u64) -> Result<String, Refusal>
     ensures text { IfOk result (λ text. string_bytes text ≡ binary_bytes there ++ codes " of " ++ binary_bytes whole) }
     ensures memory { IfErr result (λ e. e ≡ Refusal.Memory) }
 {
-    let text = format!(in alloc; "{} of {}", HumanBytes(there), HumanBytes(whole))?;
-    Ok(text)
+    Ok(format!(in alloc; "{} of {}", HumanBytes(there), HumanBytes(whole))?)
 }
 
 /// The rows of four characters of two columns each on a terminal of three: one each, since none is split. Its columns by division would
@@ -31,8 +30,7 @@ pub fn nearly_a_mebibyte(alloc: Global) -> Result<String, Refusal>
     ensures { IfOk result (λ text. string_bytes text ≡ codes "1024.00 KiB") }
 {
     bytes();
-    let text = format!(in alloc; "{}", HumanBytes(1_048_575))?;
-    Ok(text)
+    Ok(format!(in alloc; "{}", HumanBytes(1_048_575))?)
 }
 
 /// Appends the first column of a bold `ab`. The sequence after it stays too, so that what follows isn't bold.

@@ -22,6 +22,5 @@ pub fn with_own_key<F: TellsText>(
 {
     plain_tellers_are_plain_trackers::<F>();
     let tracker = FnTracker::new(alloc, teller)?;
-    let keyed = style.with_key(name, tracker)?;
-    Ok(keyed)
+    Ok(style.with_key(name, tracker)?)
 }

@@ -176,10 +176,8 @@ impl Judge {
 }
 
 fn feed(cells: &mut Cells, bytes: &[u8]) -> Held {
-    match cells.feed(bytes) {
-        Ok(()) => Ok(()),
-        Err((_, refusal)) => Err(Fault::Refused(refusal)),
-    }
+    let fed = cells.feed(bytes);
+    fed.map_err(|(_, refusal)| Fault::Refused(refusal))
 }
 
 /// A terminal of this size to which these lines were written.
@@ -221,10 +219,6 @@ fn end_of(picture: &[String], rows: &[String], from: usize, is_cut: bool) -> Opt
 
 /// Whether these rows are prefixes of the first ones.
 fn fronts_are(rows: &[String], fronts: &[String]) -> bool {
-    for (front, row) in fronts.iter().zip(rows) {
-        if !row.as_str().starts_with(front.as_str()) {
-            return false;
-        }
-    }
-    fronts.len() <= rows.len()
+    let mut pairs = fronts.iter().zip(rows);
+    fronts.len() <= rows.len() && pairs.all(|(front, row)| row.as_str().starts_with(front.as_str()))
 }

@@ -103,8 +103,5 @@ fn settle(board: &mut OnBoard, alloc: Global, step: Step) -> Result<(), Refusal>
 
 /// Whether a bar was added.
 fn added(taken: Result<BarId, Turned<NoTracker>>) -> Result<(), Refusal> {
-    match taken {
-        Ok(_) => Ok(()),
-        Err(turned) => Err(turned.refusal),
-    }
+    settled(taken.map_err(|turned| turned.refusal))
 }

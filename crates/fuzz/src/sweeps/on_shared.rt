@@ -4,9 +4,10 @@ use crate::sweeps::local::{MARK, done, still};
 use crate::sweeps::record::{Behind, Record};
 use crate::sweeps::script::{Said, Step};
 use crate::sweeps::sweep::Runs;
+use indicatif::ProgressFinish::AndLeave;
 use indicatif::{
-    Drawn, MultiProgress, MultiProgressAlignment, ProgressBar, ProgressDrawTarget, ProgressFinish,
-    ProgressStyle, Refusal, StepClock,
+    Drawn, MultiProgress, MultiProgressAlignment, ProgressBar, ProgressDrawTarget, ProgressStyle,
+    Refusal, StepClock,
 };
 use std::rc::Rc;
 
@@ -76,11 +77,7 @@ impl<R: Runs> OnShared<R> {
             Step::Add(text) => self.add(None, text),
             Step::Before(anchor, text) => self.add(Some(anchor), text),
             Step::Told(bar, text) => settled(self.bar(bar)?.clone()?.with_message(text)),
-            Step::Keep(bar) => settled(
-                self.bar(bar)?
-                    .clone()?
-                    .with_finish(ProgressFinish::AndLeave),
-            ),
+            Step::Keep(bar) => settled(self.bar(bar)?.clone()?.with_finish(AndLeave)),
             Step::Remove(bar) => self.board.remove(self.bar(bar)?),
             Step::Bottom => self.board.set_alignment(MultiProgressAlignment::Bottom),
             Step::Top => self.board.set_alignment(MultiProgressAlignment::Top),

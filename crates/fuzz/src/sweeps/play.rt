@@ -85,10 +85,8 @@ impl Play {
 
     /// Notes the answer of a call, and the order after it.
     pub fn notes(&mut self, (place, step): Turn, said: Said, order: &[u64]) -> Held {
-        let before = match self.calls.last() {
-            Some(note) => note.between.1,
-            None => Point::default(),
-        };
+        let last = self.calls.last();
+        let before = last.map_or(Point::default(), |note| note.between.1);
         let note = Note {
             place,
             step,

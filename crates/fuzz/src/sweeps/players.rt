@@ -60,22 +60,12 @@ impl Kind {
 type Items = ProgressBarIter<Range<u64>, OwnedBar<NoTracker, Behind, StepClock>>;
 
 /// Makes the calls of a script.
+#[derive(Drop)]
 pub enum Player<R: Runs> {
     Board(Box<OnBoard>),
     Bar(Box<OnBar>),
     Shared(OnShared<R>),
     Loop(Box<Items>),
-}
-
-impl<R: Runs> Drop for Player<R> {
-    fn drop(self) {
-        match self {
-            Player::Board(_) => (),
-            Player::Bar(_) => (),
-            Player::Shared(_) => (),
-            Player::Loop(_) => (),
-        }
-    }
 }
 
 impl<R: Runs> Player<R> {

@@ -57,11 +57,8 @@ impl Ran {
     /// Whether it printed a prefix of the other's output, all before the byte that failed, reported that its output failed, and wrote no
     /// more.
     fn is_beginning_of(&self, whole: &Ran, plan: Plan) -> bool {
-        let has_all_before = match plan {
-            Plan::Byte(byte) => self.printed.len() == byte,
-            _ => true,
-        };
-        has_all_before
+        let is_short = matches!(plan, Plan::Byte(byte) if byte != self.printed.len());
+        !is_short
             && self.status == 2
             && self.point.failures == 1
             && self.said.as_slice() == b"bars: output failed\n".as_slice()
@@ -100,10 +97,8 @@ fn sweep_all<R: Runs>(rt: R, size: Size, tally: &mut Tally<Case>) {
 
 /// Where memory was refused in a run whose output has room for everything: it prints that, or names the line, or reports that it was none.
 pub fn refused(alloc: Global) -> Result<Where, Fault> {
-    let ran = match Ran::new(alloc, Case::unbroken(WIDE)) {
-        Ok(ran) => ran,
-        Err(_) => Ran::new(alloc, Case::unbroken(WIDE))?,
-    };
+    let case = Case::unbroken(WIDE);
+    let ran = Ran::new(alloc, case).or_else(|_| Ran::new(alloc, case))?;
     match ran.status {
         0 if ran.is_whole() && ran.printed.as_slice() == PRINTED => Ok(Where::Nowhere),
         1 if ran.printed.is_empty() => named(&ran.said),

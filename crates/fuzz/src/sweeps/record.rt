@@ -3,8 +3,7 @@ use indicatif_term::target::Term;
 use indicatif_text::columns::Refusal;
 use std::alloc::Global;
 use std::cell::{Cell, RefCell};
-use std::io;
-use std::io::{Error, ErrorKind, Write};
+use std::io::{self, Error, ErrorKind, Write};
 use std::rc::Rc;
 
 /// When the writer fails, with `BrokenPipe`. Its calls are counted from 1, including flushes.

@@ -9,6 +9,9 @@ use crate::sweeps::script::Step;
 use crate::sweeps::sweep::{Case, Runs};
 use indicatif_text::columns::Refusal;
 
+/// Calls that aren't the script's, and before which of its calls they are made.
+type Others<'a> = (usize, &'a [Step]);
+
 /// The initial room of the terminal's writer, in bytes, if it takes no memory.
 pub const ROOM: usize = 4096;
 
@@ -81,12 +84,7 @@ impl Play {
 
     /// Whether a new player gives the same answers and rows from this call on, and has the same order at the end. It makes the calls that
     /// weren't refused, and others before one of them.
-    fn is_like<R: Runs>(
-        &self,
-        rt: R,
-        from: usize,
-        others: (usize, &[Step]),
-    ) -> Result<bool, Fault> {
+    fn is_like<R: Runs>(&self, rt: R, from: usize, others: Others) -> Result<bool, Fault> {
         let fresh = self.fresh(rt, others, Plan::Never)?;
         Ok(self.order == fresh.order && self.seen(from)? == fresh.seen(from)?)
     }
@@ -94,29 +92,21 @@ impl Play {
     /// Whether a new player on a terminal that fails at the same call of its writer writes the same bytes, and answers the same except for
     /// the kind of the failure.
     fn follows_a_failure<R: Runs>(&self, rt: R, at: usize) -> Result<bool, Fault> {
-        let plan = match self.record.point().last {
-            Some((call, _)) => Plan::Call(call),
-            None => Plan::Never,
-        };
+        let last = self.record.point().last;
+        let plan = last.map_or(Plan::Never, |(call, _)| Plan::Call(call));
         let fresh = self.fresh(rt, (0, &[]), plan)?;
         let from = at.saturating_add(1);
         Ok(self.bytes()? == fresh.bytes()? && self.seen(from)? == fresh.seen(from)?)
     }
 
     /// The calls of a new player: those that weren't refused, and others before one of them.
-    fn fresh<R: Runs>(
-        &self,
-        rt: R,
-        (place, others): (usize, &[Step]),
-        plan: Plan,
-    ) -> Result<Play, Fault> {
+    fn fresh<R: Runs>(&self, rt: R, others: Others, plan: Plan) -> Result<Play, Fault> {
         let size = self.size;
-        let case = Case { size, plan };
-        let mut fresh = Play::new(self.alloc, self.kind, case, ROOM)?;
+        let mut fresh = Play::new(self.alloc, self.kind, Case { size, plan }, ROOM)?;
         let mut player = Player::new(rt, &fresh)?;
         for (at, note) in self.calls.iter().enumerate() {
-            if at == place {
-                take_others(&mut fresh, &mut player, others)?;
+            if at == others.0 {
+                take_others(&mut fresh, &mut player, others.1)?;
             }
             if note.said != Err(Refusal::Memory) {
                 fresh.takes(&mut player, (note.place, note.step))?;
@@ -166,10 +156,8 @@ pub fn found<R: Runs>(rt: R, played: Option<Kind>, playing: Playing) -> Result<W
 /// Plays a script, and judges it. What the test itself needs is asked for again if it was refused.
 fn found_in_script<R: Runs>(rt: R, kind: Kind, playing: Playing) -> Result<Where, Fault> {
     let case = Case::unbroken(playing.size);
-    let mut play = match Play::new(rt.alloc(), kind, case, playing.room) {
-        Ok(play) => play,
-        Err(_) => Play::new(rt.alloc(), kind, case, playing.room)?,
-    };
+    let new = || Play::new(rt.alloc(), kind, case, playing.room);
+    let mut play = new().or_else(|_| new())?;
     if !is_played(rt, &mut play)? {
         return Ok(Where::Unmade);
     }

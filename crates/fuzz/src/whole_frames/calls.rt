@@ -1,6 +1,6 @@
 //! Random frames, each like the last one, and calls.
 use crate::numbers::Numbers;
-use indicatif_term::target::{Keep, LineType, Segment};
+use indicatif_term::target::{Keep, LineType, MultiProgressAlignment, Segment};
 use indicatif_text::columns::Refusal;
 use std::alloc::Global;
 
@@ -17,11 +17,12 @@ pub enum Call {
 /// The answer of a call, with what became of the rows of a bar if it keeps them.
 pub type Answer = Result<Option<Keep>, Refusal>;
 
-/// The bars that are drawn.
+/// The bars that are drawn, and where.
 #[derive(Drop)]
 pub struct Frame {
     alloc: Global,
     pub bars: Vec<Segment>,
+    pub alignment: MultiProgressAlignment,
     /// The number of the next new bar.
     next: u64,
 }
@@ -31,6 +32,7 @@ impl Frame {
         Frame {
             alloc,
             bars: Vec::new(alloc),
+            alignment: MultiProgressAlignment::Top,
             next: 0,
         }
     }
@@ -42,10 +44,14 @@ impl Frame {
         match (change, self.bars.get_mut(at)) {
             (0 | 1, _) => self.add(at, numbers)?,
             (2, _) => self.take(at),
-            (3, Some(bar)) => lengthen(self.alloc, &mut bar.lines, numbers)?,
+            (3, Some(bar)) => lengthen(self.alloc, bar, numbers)?,
             (4 | 5, Some(bar)) => rewrite(self.alloc, &mut bar.lines, numbers)?,
             _ => (),
         }
+        self.alignment = match numbers.one_in(4) {
+            true => MultiProgressAlignment::Bottom,
+            false => MultiProgressAlignment::Top,
+        };
         Ok(())
     }
 
@@ -94,15 +100,11 @@ impl Frame {
     }
 }
 
-/// Adds a line.
-fn lengthen(
-    alloc: Global,
-    lines: &mut Vec<LineType>,
-    numbers: &mut Numbers,
-) -> Result<(), Refusal> {
+/// Adds a line to a bar.
+fn lengthen(alloc: Global, bar: &mut Segment, numbers: &mut Numbers) -> Result<(), Refusal> {
     let line = line(alloc, numbers)?;
-    let place = numbers.below(lines.len() + 1);
-    Ok(lines.insert(place.min(lines.len()), line)?)
+    let place = numbers.below(bar.lines.len() + 1);
+    Ok(bar.lines.insert(place.min(bar.lines.len()), line)?)
 }
 
 /// Sets another text of a line.

@@ -66,8 +66,7 @@ impl Coloured {
 
     fn take(&mut self, c: char) -> Result<(), Refusal> {
         if self.sequence.is_empty() && c != '\u{1b}' {
-            self.fed.push(shown(self.open, c))?;
-            return Ok(());
+            return Ok(self.fed.push(shown(self.open, c))?);
         }
         self.sequence.push(c)?;
         if c.is_ascii_alphabetic() {
@@ -79,11 +78,8 @@ impl Coloured {
     /// A colour sequence sets colours; the cells get any other.
     fn end_sequence(&mut self) -> Result<(), Refusal> {
         let sequence = self.sequence.as_str();
-        match sequence
-            .strip_prefix("\u{1b}[")
-            .unwrap_or("")
-            .strip_suffix('m')
-        {
+        let inner = sequence.strip_prefix("\u{1b}[").unwrap_or("");
+        match inner.strip_suffix('m') {
             Some(parameter) => self.open = told(self.open, parameter),
             None => self.fed.push_str(sequence)?,
         }
@@ -93,9 +89,7 @@ impl Coloured {
 
     /// Whether both show the same rows in the same colours, with the same cursor.
     pub fn is_as(&self, other: &Coloured) -> Result<bool, Refusal> {
-        Ok(
-            self.cells.cursor() == other.cells.cursor()
-                && self.cells.picture()? == other.cells.picture()?,
-        )
+        let (ours, theirs) = (&self.cells, &other.cells);
+        Ok(ours.cursor() == theirs.cursor() && ours.picture()? == theirs.picture()?)
     }
 }

@@ -1,6 +1,6 @@
 //! An engine that writes whole frames: it erases all rows, and writes all lines again.
 use crate::sweeps::record::Size;
-use crate::whole_frames::calls::{Answer, Call};
+use crate::whole_frames::calls::{Answer, Call, Frame};
 use indicatif_term::target::{Keep, MultiProgressAlignment, Segment};
 use indicatif_text::columns::{Refusal, wrapped};
 use std::alloc::Global;
@@ -41,22 +41,18 @@ impl WholeFrames {
 
     /// Makes a call: a draw writes a frame over the live rows, and keeps the rows of its first bars; a log writes a text above a frame, over
     /// all rows; a clear writes nothing over all rows.
-    pub fn make(
-        &mut self,
-        call: &Call,
-        frame: &[Segment],
-        alignment: MultiProgressAlignment,
-    ) -> Answer {
+    pub fn make(&mut self, call: &Call, frame: &Frame) -> Answer {
+        let (bars, alignment) = (&frame.bars, frame.alignment);
         let live = self.live.len();
         let all = self.kept.saturating_add(live);
         let above = match call {
-            Call::Draw(_) => self.replace(live, None, frame, alignment)?,
-            Call::Log(text) => self.replace(all, Some(text.as_str()), frame, alignment)?,
+            Call::Draw(_) => self.replace(live, None, bars, alignment)?,
+            Call::Log(text) => self.replace(all, Some(text.as_str()), bars, alignment)?,
             Call::Clear => self.replace(all, None, &[], alignment)?,
             Call::Keep(bar) => return Ok(Some(self.keep(*bar)?)),
         };
         match call {
-            Call::Draw(pass) => self.scroll(frame.get(..*pass).unwrap_or(frame))?,
+            Call::Draw(pass) => self.scroll(bars.get(..*pass).unwrap_or(bars))?,
             _ => {
                 self.kept = 0;
                 let reached = above.saturating_add(self.live.len());

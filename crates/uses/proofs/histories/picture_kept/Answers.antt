@@ -5,9 +5,9 @@ use Rattle.indicatif_board.specs.Multi.{terminal_of}
 use Rattle.uses.proofs.PictureLemmas.{state_told}
 use Rattle.uses.proofs.histories.picture_kept.Goals as goal
 
-pub returns-in_ok-texts-in-Some : goal.returns-in_ok-texts-in-Some
-returns-in_ok-texts-in-Some g c = λ v opening starts run unbroken plain.
+pub returns : goal.returns
+returns g c = λ v opening starts run unbroken plain.
     let read = c.what_a_history_says.ensures.read v c.args.history.now _ run unbroken plain opening starts in
-    let left = ap (option_map (λ t. t.now)) (sym c.in-Some.is) ∙ c.term.ensures ∙ ap terminal_of c.board.ensures in
-    let t = state_told c.in-Some.term.now read.0 read.2.0 (ap (option_map view_of) left ∙ read.1) read.2.1 in
-    (read.2.2, c.in_ok-texts-in-Some.ensures.picture ∙ ap (λ u. picture_text u.screen) t ∙ read.2.3)
+    let left = ap (option_map (λ t. t.now)) (sym c.in_ok-left.ensures.ok_part) ∙ c.term.ensures ∙ ap terminal_of c.board.ensures in
+    let t = state_told c.in_ok-left.left.now read.0 read.2.0 (ap (option_map view_of) left ∙ read.1) read.2.1 in
+    (read.2.2, c.in_ok-picture.ensures.picture ∙ ap (λ u. picture_text u.screen) t ∙ read.2.3)

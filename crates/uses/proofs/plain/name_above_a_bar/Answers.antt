@@ -18,9 +18,9 @@ use Rattle.uses.proofs.PlainLemmas.{first_name, new_memory}
 use Rattle.uses.proofs.ShownLemmas.{message_parts, message_read, message_bar, style_known, small_still, say, LoneLed, shown_read, say_plain, log_plain}
 use Rattle.uses.proofs.plain.name_above_a_bar.Goals as goal
 
-pub returns-in_ok-texts-in-Some : goal.returns-in_ok-texts-in-Some
+pub returns : goal.returns
 unfolding chars
-returns-in_ok-texts-in-Some c =
+returns c =
     let m = writes_nothing in
     let parts = c.template_or_refused.ensures.one_list (codes "{msg}") c.in_ok-style.style.parts message_parts c.in_ok-style.ensures.parts message_read in
     let style = style_known c.in_ok-style.style c.in_ok-style.ensures.style parts in
@@ -48,6 +48,6 @@ returns-in_ok-texts-in-Some c =
     ((λ w. say_plain m ticks), ((λ w. log_is), tt)) (blank_screen 4 10) (blank_terminal 4 10, refl, shows) in
     let names = shown_read m ticks one.0 c.in_ok-_said._said led other.0 c.in_ok-_logged._logged
     (subst (λ t. Leads (lone_bar m) t one.0 ((lone_bar m).deed t (Log first_name) 0 one.0) (Ok c.in_ok-_logged._logged) other.0) target_is other.2.leads) in
-    let left = sym c.in-Some.is ∙ c.into_term.ensures in
-    let t = state_told c.in-Some.term read.0 read.2.0 (ap (option_map view_of) left ∙ read.1) read.2.1 in
-    (read.2.2, c.in_ok-texts-in-Some.ensures.picture ∙ ap (λ u. picture_text u.screen) t ∙ read.2.3 ∙ ap (λ xs. xs ++ replicate read.2.2 []) names)
+    let left = sym c.in_ok-left.ensures.ok_part ∙ c.into_term.ensures in
+    let t = state_told c.in_ok-left.left read.0 read.2.0 (ap (option_map view_of) left ∙ read.1) read.2.1 in
+    (read.2.2, c.in_ok-picture.ensures.picture ∙ ap (λ u. picture_text u.screen) t ∙ read.2.3 ∙ ap (λ xs. xs ++ replicate read.2.2 []) names)

@@ -20,9 +20,9 @@ use Rattle.uses.proofs.PlainLemmas.{first_name, new_memory, machine}
 use Rattle.uses.proofs.ShownLemmas.{message_parts, message_read, message_bar, style_known, small_still, saying, add_bar, say_on, taken_first, say_on_plain, log_on_plain, board_shown_read}
 use Rattle.uses.proofs.plain.name_above_a_board.Goals as goal
 
-pub returns-in-Some : goal.returns-in-Some
+pub returns : goal.returns
 unfolding chars
-returns-in-Some c =
+returns c =
     let m = writes_nothing in
     let parts = c.template_or_refused.ensures.one_list (codes "{msg}") c.in_ok-style.style.parts message_parts c.in_ok-style.ensures.parts message_read in
     let style = style_known c.in_ok-style.style c.in_ok-style.ensures.style parts in
@@ -59,6 +59,6 @@ returns-in-Some c =
     let read = c.what_a_board_run_reads.ensures 0 calls answers (view_of new_memory) start three other.0 refl run refl
     ((λ w. absurd (false≢true w)), ((λ w. say_is), ((λ w. log_is), tt))) (blank_screen 4 10) (blank_terminal 4 10, refl, shows) in
     let names = board_shown_read m ticks taken.0 id first.leads told.0 c.in_ok-_said._said said other.0 c.in_ok-_logged._logged logged in
-    let left = ap (option_map (λ t. t.now)) (sym c.in-Some.is) ∙ c.term.ensures in
-    let t = state_told c.in-Some.left.now read.0 read.2.0 (ap (option_map view_of) left ∙ read.1) read.2.1 in
-    (read.2.2, c.in_ok-texts-in-Some.ensures.picture ∙ ap (λ u. picture_text u.screen) t ∙ read.2.3 ∙ ap (λ xs. xs ++ replicate read.2.2 []) names)
+    let left = ap (option_map (λ t. t.now)) (sym c.in_ok-left.ensures.ok_part) ∙ c.term.ensures in
+    let t = state_told c.in_ok-left.left.now read.0 read.2.0 (ap (option_map view_of) left ∙ read.1) read.2.1 in
+    (read.2.2, c.in_ok-picture.ensures.picture ∙ ap (λ u. picture_text u.screen) t ∙ read.2.3 ∙ ap (λ xs. xs ++ replicate read.2.2 []) names)

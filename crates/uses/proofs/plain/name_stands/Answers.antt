@@ -25,8 +25,8 @@ use Rattle.uses.proofs.PlainLemmas.{first_name, first_plain, new_memory}
 use Rattle.uses.proofs.StandingLemmas.{above_stays, first_row, first_read, headline_on, logged_sound, rows_of_first}
 use Rattle.uses.proofs.plain.name_stands.Goals as goal
 
-pub returns-in-Some : goal.returns-in-Some
-returns-in-Some g c = λ texts calls_plain.
+pub returns : goal.returns
+returns g c = λ texts calls_plain.
     let m = g.K.ProgressTracker.means in
     let bar = c.args.bar in
     let v = view_of new_memory in
@@ -78,8 +78,8 @@ returns-in-Some g c = λ texts calls_plain.
     let end = after there bytes in
     let told : w.told ≡ State there = painted.told_is refl in
     let told_then : run.0.told ≡ State end = run.2.told_is (rw told refl) ∙ ap (λ x. led_on x bytes) told in
-    let t = state_told c.in-Some.term run.0 end (ap (option_map view_of) (sym c.in-Some.is ∙ c.into_term.ensures) ∙ run.1) told_then in
+    let t = state_told c.in_ok-left.left run.0 end (ap (option_map view_of) (sym c.in_ok-left.ensures.ok_part ∙ c.into_term.ensures) ∙ run.1) told_then in
     let stay = above_stays w run.0 _ l _ run.2 there placed in
     let read = c.what_is_shown_is_read.ensures w.columns w.rows opening l there shown in
     let begins = first_read end.screen there.screen (rows_of_first 10) w.columns l read.0 front stay read.1 in
-    (begins.0, c.in_ok-texts-in-Some.ensures.picture ∙ ap (λ u. picture_text u.screen) t ∙ begins.1 ∙ ap (λ xs. xs ++ begins.0) first_row)
+    (begins.0, c.in_ok-picture.ensures.picture ∙ ap (λ u. picture_text u.screen) t ∙ begins.1 ∙ ap (λ xs. xs ++ begins.0) first_row)

@@ -18,8 +18,8 @@ use Rattle.uses.proofs.PlainLemmas.{first_name, machine, new_memory}
 use Rattle.uses.proofs.StandingLemmas.{above_stays, first_above, first_row, first_read, headline_on, rows_of_first}
 use Rattle.uses.proofs.plain.name_stands_on.Goals as goal
 
-pub returns-in-Some : goal.returns-in-Some
-returns-in-Some g c = λ calls_plain.
+pub returns : goal.returns
+returns g c = λ calls_plain.
     let m = g.K.ProgressTracker.means in
     let v = view_of new_memory in
     let old = Some v in
@@ -53,9 +53,9 @@ returns-in-Some g c = λ calls_plain.
     let end = after there bytes in
     let told : w.told ≡ State there = painted.told_is refl in
     let told_then : run.0.told ≡ State end = run.2.told_is (rw told refl) ∙ ap (λ x. led_on x bytes) told in
-    let left = ap (option_map (λ t. t.now)) (sym c.in-Some.is) ∙ c.term.ensures in
-    let t = state_told c.in-Some.term.now run.0 end (ap (option_map view_of) left ∙ run.1) told_then in
+    let left = ap (option_map (λ t. t.now)) (sym c.in_ok-left.ensures.ok_part) ∙ c.term.ensures in
+    let t = state_told c.in_ok-left.left.now run.0 end (ap (option_map view_of) left ∙ run.1) told_then in
     let stay = above_stays w run.0 _ l _ run.2 there placed in
     let read = c.what_is_shown_is_read.ensures w.columns w.rows opening l there shown in
     let begins = first_read end.screen there.screen (rows_of_first 10) w.columns l read.0 above.0 stay read.1 in
-    (begins.0, c.in_ok-texts-in-Some.ensures.picture ∙ ap (λ u. picture_text u.screen) t ∙ begins.1 ∙ ap (λ xs. xs ++ begins.0) first_row)
+    (begins.0, c.in_ok-picture.ensures.picture ∙ ap (λ u. picture_text u.screen) t ∙ begins.1 ∙ ap (λ xs. xs ++ begins.0) first_row)

@@ -19,8 +19,8 @@ use Rattle.uses.proofs.PlainLemmas.{first_name, small, new_memory, machine}
 use Rattle.uses.proofs.CutLemmas.{short_name, narrow, cut, cut_names_read, none_above, log_of, first_log_plain, short_log_plain}
 use Rattle.uses.proofs.plain.names_cut.Goals as goal
 
-pub returns-in-Some : goal.returns-in-Some
-returns-in-Some c =
+pub returns : goal.returns
+returns c =
     let start = opening_board None in
     let old = Some (view_of new_memory) in
     let made : c.in_ok-term.term ≡ new_memory = c.in_ok-term.ensures.blank in
@@ -59,10 +59,10 @@ returns-in-Some c =
     (subst (λ s. Leads (machine writes_nothing) narrow s ((machine writes_nothing).deed narrow (Log short_name) 0 s) (Drew c.in_ok-_other._other) other.0)
     (ap (λ t. cut writes_nothing t one.0) target_is)
     (subst (λ t. Leads (machine writes_nothing) t x ((machine writes_nothing).deed t (Log short_name) 0 x) (Drew c.in_ok-_other._other) other.0) narrow_is other.2.leads)) in
-    let left = ap (option_map (λ t. t.now)) (sym c.in-Some.is) ∙ c.term.ensures in
-    let t = state_told c.in-Some.term.now read.0 read.2.0 (ap (option_map view_of) left ∙ read.1) read.2.1 in (
+    let left = ap (option_map (λ t. t.now)) (sym c.in_ok-left.ensures.ok_part) ∙ c.term.ensures in
+    let t = state_told c.in_ok-left.left.now read.0 read.2.0 (ap (option_map view_of) left ∙ read.1) read.2.1 in (
       read.2.2,
-      c.in_ok-texts-in-Some.ensures.picture
+      c.in_ok-picture.ensures.picture
           ∙ ap (λ u. picture_text u.screen) t
           ∙ read.2.3
           ∙ ap (λ rows. map row_text (rows ++ all_rows read.0.columns other.0.lists) ++ replicate read.2.2 []) none_above

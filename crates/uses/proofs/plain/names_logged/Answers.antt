@@ -15,8 +15,8 @@ use Rattle.uses.proofs.PictureLemmas.{state_told}
 use Rattle.uses.proofs.PlainLemmas.{first_name, second_name, small, new_memory, machine, names_read, name_logs, logs_plain}
 use Rattle.uses.proofs.plain.names_logged.Goals as goal
 
-pub returns-in-Some : goal.returns-in-Some
-returns-in-Some c =
+pub returns : goal.returns
+returns c =
     let start = opening_board None in
     let old = Some (view_of new_memory) in
     let made : c.in_ok-term.term ≡ new_memory = c.in_ok-term.ensures.blank in
@@ -37,6 +37,6 @@ returns-in-Some c =
     let target_is : target_of (known view_of c.println.new.self) ≡ small = ap target_of first.writes.1 ∙ rw (counted.columns_stay, counted.rows_stay) refl in
     let names = names_read writes_nothing one.0 other.0 c.in_ok-_one._one c.in_ok-_other._other first.leads
     (subst (λ t. Leads (machine writes_nothing) t one.0 ((machine writes_nothing).deed t (Log second_name) 0 one.0) (Drew c.in_ok-_other._other) other.0) target_is other.2.leads) in
-    let left = ap (option_map (λ t. t.now)) (sym c.in-Some.is) ∙ c.term.ensures in
-    let t = state_told c.in-Some.term.now read.0 read.2.0 (ap (option_map view_of) left ∙ read.1) read.2.1 in
-    (read.2.2, c.in_ok-texts-in-Some.ensures.picture ∙ ap (λ u. picture_text u.screen) t ∙ read.2.3 ∙ ap (λ xs. xs ++ replicate read.2.2 []) names)
+    let left = ap (option_map (λ t. t.now)) (sym c.in_ok-left.ensures.ok_part) ∙ c.term.ensures in
+    let t = state_told c.in_ok-left.left.now read.0 read.2.0 (ap (option_map view_of) left ∙ read.1) read.2.1 in
+    (read.2.2, c.in_ok-picture.ensures.picture ∙ ap (λ u. picture_text u.screen) t ∙ read.2.3 ∙ ap (λ xs. xs ++ replicate read.2.2 []) names)

@@ -16,8 +16,8 @@ use Rattle.indicatif_board.specs.Multi.{IsIn, known}
 use Rattle.uses.proofs.PictureLemmas.{state_told, any_mapped}
 use Rattle.uses.proofs.runs.board_picture_after.Goals as goal
 
-pub returns-in-Some : goal.returns-in-Some
-returns-in-Some g c = λ opening starts.
+pub returns : goal.returns
+returns g c = λ opening starts.
     let machine = board (board_bars g.K.ProgressTracker.means) 0 in
     let old = Some (view_of c.args.term) in
     let start = opening_board None in
@@ -38,8 +38,8 @@ returns-in-Some g c = λ opening starts.
           let read = c.what_a_board_run_reads.ensures 0 (map timed c.args.calls.items) answers (view_of c.args.term) start after made.0 refl run unbroken plain opening
           (subst (λ t. Starts (record { told = State t; columns = t.screen.columns; rows = t.screen.height; faults = c.args.term.faults; kind = OutOfMemory }) opening opening_lists) (sym starts.0)
           (resting opening, refl, shows)) in
-          let left = ap (option_map (λ t. t.now)) (sym c.in-Some.is) ∙ c.term.ensures in
-          let t = state_told c.in-Some.term.now read.0 read.2.0 (ap (option_map view_of) left ∙ read.1) read.2.1 in
+          let left = ap (option_map (λ t. t.now)) (sym c.in_ok-left.ensures.ok_part) ∙ c.term.ensures in
+          let t = state_told c.in_ok-left.left.now read.0 read.2.0 (ap (option_map view_of) left ∙ read.1) read.2.1 in
           let columns = ap (λ u. map row_text (take opening.row opening.rows ++ all_rows u.screen.columns made.0.lists) ++ replicate read.2.2 []) starts.0 in
-          (read.2.2, c.in_ok-texts-in-Some.ensures.picture ∙ ap (λ u. picture_text u.screen) t ∙ read.2.3 ∙ columns),
+          (read.2.2, c.in_ok-picture.ensures.picture ∙ ap (λ u. picture_text u.screen) t ∙ read.2.3 ∙ columns),
     )

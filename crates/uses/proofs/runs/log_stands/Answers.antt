@@ -21,8 +21,8 @@ use Rattle.uses.proofs.PictureLemmas.{state_told}
 use Rattle.uses.proofs.LogLemmas.{Front, logged_front, log_written, texts_begin, above_grows, front_kept}
 use Rattle.uses.proofs.runs.log_stands.Goals as goal
 
-pub returns-in-Some : goal.returns-in-Some
-returns-in-Some g c = λ opening starts.
+pub returns : goal.returns
+returns g c = λ opening starts.
     let machine = lone_bar g.K.ProgressTracker.means in
     let v = view_of c.args.term in
     let old = Some v in
@@ -52,10 +52,10 @@ returns-in-Some g c = λ opening starts.
           let read = c.what_a_lone_run_reads.ensures ((Log c.args.line.now, 0) ∷ calls) (Ok drawn ∷ answers) v start after later.0 refl (between, log.0, made, later.2) unbroken plain opening
           (subst (λ t. Starts (record { told = State t; columns = t.screen.columns; rows = t.screen.height; faults = c.args.term.faults; kind = OutOfMemory }) opening opening_lists) (sym starts.0)
           (resting opening, refl, shows)) in
-          let t = state_told c.in-Some.term read.0 read.2.0 (ap (option_map view_of) (sym c.in-Some.is ∙ c.into_term.ensures) ∙ read.1) read.2.1 in
+          let t = state_told c.in_ok-left.left read.0 read.2.0 (ap (option_map view_of) (sym c.in_ok-left.ensures.ok_part ∙ c.into_term.ensures) ∙ read.1) read.2.1 in
           let columns = ap (λ u. map row_text (take opening.row opening.rows ++ all_rows u.screen.columns later.0.lists) ++ replicate read.2.2 []) starts.0 in
           let grows = above_grows machine calls answers made.writes.0 between log.0 after later.0 later.2 made.writes.1 later.3 unbroken plain.1 in
           let stands = subst (λ u. Front (flat_map (rows_of u.screen.columns) text) later.0.lists.above) starts.0 (front_kept _ _ _ first grows) in
           texts_begin (take opening.row opening.rows) (flat_map (rows_of opening.columns) text) opening.columns later.0.lists read.2.2 _ stands
-          (c.in_ok-texts-in-Some.ensures.picture ∙ ap (λ u. picture_text u.screen) t ∙ read.2.3 ∙ columns),
+          (c.in_ok-picture.ensures.picture ∙ ap (λ u. picture_text u.screen) t ∙ read.2.3 ∙ columns),
     )

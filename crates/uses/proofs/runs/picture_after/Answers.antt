@@ -15,8 +15,8 @@ use Rattle.indicatif_bar.specs.LoneBars.{LoneIsIn, lone_bar, lone_timed, lone_kn
 use Rattle.uses.proofs.PictureLemmas.{state_told}
 use Rattle.uses.proofs.runs.picture_after.Goals as goal
 
-pub returns-in-Some : goal.returns-in-Some
-returns-in-Some g c = λ opening starts.
+pub returns : goal.returns
+returns g c = λ opening starts.
     let old = Some (view_of c.args.term) in
     let start = opening_state c.args.bar None in
     let known_is : lone_known view_of c.new-bar.result ≡ old = ap (option_map view_of) (c.new-bar.ensures.terminal ∙ ap term_of c.term_like.ensures) in
@@ -34,7 +34,7 @@ returns-in-Some g c = λ opening starts.
           let read = c.what_a_lone_run_reads.ensures (map lone_timed c.args.calls.items) c.in_ok-answers.answers.items (view_of c.args.term) start after made.0 refl run unbroken plain opening
           (subst (λ t. Starts (record { told = State t; columns = t.screen.columns; rows = t.screen.height; faults = c.args.term.faults; kind = OutOfMemory }) opening opening_lists) (sym starts.0)
           (resting opening, refl, shows)) in
-          let t = state_told c.in-Some.term read.0 read.2.0 (ap (option_map view_of) (sym c.in-Some.is ∙ c.into_term.ensures) ∙ read.1) read.2.1 in
+          let t = state_told c.in_ok-left.left read.0 read.2.0 (ap (option_map view_of) (sym c.in_ok-left.ensures.ok_part ∙ c.into_term.ensures) ∙ read.1) read.2.1 in
           let columns = ap (λ u. map row_text (take opening.row opening.rows ++ all_rows u.screen.columns made.0.lists) ++ replicate read.2.2 []) starts.0 in
-          (read.2.2, c.in_ok-texts-in-Some.ensures.picture ∙ ap (λ u. picture_text u.screen) t ∙ read.2.3 ∙ columns),
+          (read.2.2, c.in_ok-picture.ensures.picture ∙ ap (λ u. picture_text u.screen) t ∙ read.2.3 ∙ columns),
     )

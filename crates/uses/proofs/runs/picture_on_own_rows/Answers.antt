@@ -16,8 +16,8 @@ use Rattle.indicatif_term.specs.OwnRows.{own_view}
 use Rattle.uses.proofs.PictureLemmas.{rows_told}
 use Rattle.uses.proofs.runs.picture_on_own_rows.Goals as goal
 
-pub returns-in-Some : goal.returns-in-Some
-returns-in-Some g c = λ opening starts.
+pub returns : goal.returns
+returns g c = λ opening starts.
     let old = Some (view_of c.args.term) in
     let start = opening_state c.args.bar None in
     let view = own_view view_of in
@@ -37,8 +37,8 @@ returns-in-Some g c = λ opening starts.
           let read = c.what_a_lone_run_reads.ensures (map lone_timed c.args.calls.items) c.in_ok-answers.answers.items (view_of c.args.term) start after made.0 refl run unbroken plain opening
           (subst (λ t. Starts (record { told = State t; columns = t.screen.columns; rows = t.screen.height; faults = c.args.term.faults; kind = OutOfMemory }) opening opening_lists) (sym starts.0)
           (resting opening, refl, shows)) in
-          let t = rows_told c.in-Some.own read.0 read.2.0 (c.what_own_rows_tell.ensures.told view_of c.in-Some.own)
-          (ap (option_map view) (sym c.in-Some.is ∙ c.into_term.ensures) ∙ read.1) read.2.1 in
+          let t = rows_told c.in_ok-left.left read.0 read.2.0 (c.what_own_rows_tell.ensures.told view_of c.in_ok-left.left)
+          (ap (option_map view) (sym c.in_ok-left.ensures.ok_part ∙ c.into_term.ensures) ∙ read.1) read.2.1 in
           let columns = ap (λ u. map row_text (take opening.row opening.rows ++ all_rows u.screen.columns made.0.lists) ++ replicate read.2.2 []) starts.0 in
-          (read.2.2, c.in_ok-texts-in-Some.ensures.picture ∙ ap (λ m. picture_text m.terminal.screen) c.term.ensures ∙ ap (λ u. picture_text u.screen) t ∙ read.2.3 ∙ columns),
+          (read.2.2, c.in_ok-picture.ensures.picture ∙ ap (λ m. picture_text m.terminal.screen) c.term.ensures ∙ ap (λ u. picture_text u.screen) t ∙ read.2.3 ∙ columns),
     )

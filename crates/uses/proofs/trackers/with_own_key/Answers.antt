@@ -10,7 +10,7 @@ returns g c = λ plain texts.
     let style = c.args.style in
     let teller = c.args.teller in
     let told : IsPlainTracker m teller = c.plain_tellers_are_plain_trackers.ensures g.F.TellsText.told_text teller texts in
-    let is = c.in_ok-keyed.ensures.style ∙ ap (λ k. record style { keys = (c.args.name.now, k) ∷ style.keys }) c.in_ok-tracker.ensures.teller in
+    let is = c.in_ok-with_key.ensures.style ∙ ap (λ k. record style { keys = (c.args.name.now, k) ∷ style.keys }) c.in_ok-tracker.ensures.teller in
     subst (IsPlainStyle m) (sym is) (record {
       literals = plain.literals;
       ticks = plain.ticks;
