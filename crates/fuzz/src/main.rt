@@ -8,9 +8,13 @@
 //! `fuzz sweeps ..` and `fuzz whole_frames ..` do what the modules with these names say. `fuzz SEED TEMPLATES ..`, with numbers only, plays
 //! random input, then the sweeps, and compares the engines last.
 //!
-//! - `numbers`: random numbers. `faults`: what may be wrong. `templates`: templates and their lines.
-//! - `threads`: a shared board that keeps its history. `player`: the calls of a thread.
-//! - `sweeps`: terminals that fail, at each possible place. `whole_frames`: engines beside one that writes whole frames.
+//! - `numbers`: random numbers.
+//! - `faults`: what may be wrong.
+//! - `templates`: templates and their lines.
+//! - `threads`: a shared board that keeps its history.
+//! - `player`: the calls of a thread.
+//! - `sweeps`: terminals that fail, at each possible place.
+//! - `whole_frames`: engines beside one that writes whole frames.
 #![tactic(auto)]
 
 mod faults;
