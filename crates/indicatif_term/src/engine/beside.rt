@@ -173,7 +173,7 @@ pub fn below_blanks(spare: &mut Spare, laid: &mut Laid, blanks: usize) -> Result
     for _ in 0..blanks {
         laid.more.push(StandingLine {
             bar: 0,
-            text: spare.take_text(),
+            text: spare.no_text(),
             before: spare.no_text(),
             rows: 1,
             last: 0,

@@ -58,25 +58,13 @@ impl Spare {
         laid.more.clear();
     }
 
-    /// Takes spare room for a text.
-    pub fn take_text(&mut self) -> String
-        ensures { string_bytes result ≡ [] }
-    {
-        match self.texts.pop() {
-            Some(mut text) => {
-                text.clear();
-                text
-            }
-            None => String::new(self.alloc),
-        }
-    }
-
     /// A text in spare room. Refused: `Memory`.
     pub fn copied(&mut self, text: &str) -> Result<String, Refusal>
         ensures text { IfOk result (λ own. string_bytes own ≡ text.now) }
         ensures memory { IfErr result (λ e. e ≡ Refusal.Memory) }
     {
-        let mut own = self.take_text();
+        let mut own = self.texts.pop().unwrap_or(self.no_text());
+        own.clear();
         own.push_str(text)?;
         Ok(own)
     }
@@ -115,9 +103,11 @@ impl Spare {
         }
     }
 
-    /// Keeps as spare the room of a text that is no more, if there is room for that.
+    /// Keeps as spare the room of a text that is no more, if it has any and there is room for that.
     pub fn store_text(&mut self, text: String) {
-        let _ = self.texts.push(text);
+        if text.capacity() > 0 {
+            let _ = self.texts.push(text);
+        }
     }
 
     /// Keeps as spare the room of both texts of a line.
@@ -131,9 +121,7 @@ impl Spare {
             narrow: _,
             step: _,
         } = line;
-        if before.capacity() > 0 {
-            self.store_text(before);
-        }
+        self.store_text(before);
         self.store_text(text);
     }
 
