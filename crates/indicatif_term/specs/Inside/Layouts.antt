@@ -19,7 +19,6 @@ use Rattle.indicatif_term.specs.Standing.{placed, texts, standing_rows, AreLines
 use Rattle.indicatif_term.specs.declared.engine.comparing.Turn.{Turn}
 use Rattle.indicatif_term.specs.declared.engine.layout.Laid.{Laid}
 use Rattle.indicatif_term.specs.declared.engine.layout.OwnLine.{OwnLine}
-use Rattle.indicatif_term.specs.declared.engine.layout.Planned.{Planned}
 use Rattle.indicatif_term.specs.declared.target.lines.Segment.{Segment}
 use Rattle.indicatif_term.specs.declared.engine.comparing.Step.TheVariants.{Whole}
 use Rattle.indicatif_term.specs.declared.engine.remembered.Remembered.{Remembered}
@@ -116,15 +115,6 @@ pub record IsNoneLaid (l : Laid) : Type 0 where
   pub none_changed : l.changed.items ≡ []
   pub none_more : l.more.items ≡ []
 
--- the first i members of a frame, which stand as they are: all lines of these keep their rows
-pub record IsFrontLaid (w h pass i : ℕ) (on : List StandingLine) (frame : List Segment) (l : Laid) : Type 0 where
-  pub within : i ≤ length frame
-  pub summed : IsSummed h l.plan
-  pub narrow : some_wide w (all_lines (map bar_lines (take i frame))) ≡ false
-  pub passing : l.plan.passing ≡ passing_of w h pass i frame
-  pub none_passes : (l.plan.passing ≡ 0) × (l.plan.passing_rows ≡ 0)
-  pub laid : IsLaid w h on (frame_lines (take i frame)) (lines_of w (map bar_lines (take i frame))) l
-
 -- the blank lines of a drawing in the place of so many rows
 pub record AreBlanksFor (bottom : Bool) (free : ℕ) (l : Laid) : Type 0 where
   pub are : (taken text : ℕ) → free ≡ taken - text → l.blanks ≡ blanks_for bottom taken text l.plan.rows
@@ -132,23 +122,15 @@ pub record AreBlanksFor (bottom : Bool) (free : ℕ) (l : Laid) : Type 0 where
 
 -- ---- a drawing
 
--- what is written is measured for a terminal's window, beside the remembered live lines, and none of its lines is too wide
-pub record IsPlannedFor (v : TermView) (pass : ℕ) (bottom : Bool) (text : List (List ℕ)) (frame : List Segment) (taken : ℕ) (r : Remembered) (l : Laid) (p : Planned) : Type 0 where
-  pub columns_are : p.window.columns ≡ v.columns
-  pub rows_are : p.window.rows ≡ v.rows
-  pub narrow_text : IsFalse (some_wide v.columns (text_lines text))
-  pub height_is : p.text.height ≡ min (text_height v.columns (text_lines text)) (2 ^ 64 - 1)
-  pub text_ends : p.text.last_line_width ≡ line_end v.columns (last_or_none text)
-  pub frame_is : IsFrameLaid v.columns v.rows pass (live_lines r) frame l
-  pub blanks_are : l.blanks ≡ blanks_for bottom taken p.text.height l.plan.rows
-  pub blank_room : l.blanks + l.plan.rows ≤ max (taken - p.text.height) l.plan.rows
-  pub known : 0 < l.at → r.width ≡ v.columns
-  pub below_text : 0 < length text → l.at ≡ 0
+-- a frame is laid out for a window of w columns and h rows, beside the remembered live lines, in the place of so many rows, and none of its lines is too wide
+pub record IsPlannedFor (w h pass : ℕ) (bottom : Bool) (frame : List Segment) (free : ℕ) (r : Remembered) (l : Laid) : Type 0 where
+  pub frame_is : IsFrameLaid w h pass (live_lines r) frame l
+  pub blanks_are : AreBlanksFor bottom free l
+  pub known : 0 < l.at → r.width ≡ w
 
--- what is written is measured for a terminal's window, or nothing is written for this reason
-abbrev pub PlannedFor : TermView → ℕ → Bool → List (List ℕ) → List Segment → ℕ → Remembered → Laid → Result Planned Refusal → Type 0
-PlannedFor v pass bottom text frame taken r l result =
-    MatchResult result (λ p. IsPlannedFor v pass bottom text frame taken r l p) (λ e. IsWithheld v.columns (text_lines text ++ all_lines (map bar_lines frame)) e)
+-- that, or nothing is written for this reason
+abbrev pub PlannedFor : ℕ → ℕ → ℕ → Bool → List Segment → ℕ → Remembered → Laid → Result Unit Refusal → Type 0
+PlannedFor w h pass bottom frame free r l result = MatchResult result (λ _. IsPlannedFor w h pass bottom frame free r l) (λ e. IsWithheld w (all_lines (map bar_lines frame)) e)
 
 -- ---- the lines of a drawing, as they stand afterwards
 

@@ -17,13 +17,11 @@ use crate::engine::spare::Spare;
 use indicatif_text::columns::Refusal;
 use std::mem::replace;
 
-/// The lines that stand where a frame is to be drawn: the first `blanks` are blank ones, and so many members from the front stand there as
-/// they are.
+/// The lines that stand where a frame is to be drawn, of which the first `blanks` are blank ones.
 #[derive(Clone, Copy)]
 pub struct Beside<'a> {
     pub lines: &'a [StandingLine],
     pub blanks: usize,
-    pub members: usize,
     /// The lines that are remembered there, also where none keeps its rows.
     pub known: &'a [StandingLine],
 }
@@ -32,44 +30,36 @@ impl<'a> Beside<'a> {
     /// No line stands there.
     pub fn nothing() -> Beside<'a>
         ensures lines { result.lines.now ≡ [] }
-        ensures none { (result.blanks ≡ 0) × (result.members ≡ 0) }
+        ensures none { result.blanks ≡ 0 }
         ensures known { result.known.now ≡ [] }
     {
         Beside {
             lines: &[],
             blanks: 0,
-            members: 0,
             known: &[],
         }
     }
 
-    /// None of the lines keeps its rows.
-    pub fn whole(self) -> Beside<'a>
-        ensures lines { result.lines.now ≡ [] }
-        ensures none { (result.blanks ≡ 0) × (result.members ≡ 0) }
-        ensures known { result.known.now ≡ self.entry.known.now }
-    {
-        Beside {
-            known: self.known,
-            ..Beside::nothing()
-        }
-    }
-
-    /// These lines, if the first `blanks` are blank ones; else nothing.
-    pub fn of(lines: &'a [StandingLine], blanks: usize) -> Beside<'a>
+    /// These lines, if the first `blanks` are blank ones; else nothing. None keeps its rows in a drawing that writes each line as a whole.
+    pub fn of(lines: &'a [StandingLine], blanks: usize, whole: bool) -> Beside<'a>
         ensures lines { (result.lines.now ≡ []) ⊎ (result.lines.now ≡ lines.entry.now) }
         ensures blank { AreBlank result.blanks result.lines.now }
         ensures known { (result.known.now ≡ []) ⊎ (result.known.now ≡ lines.entry.now) }
+        ensures whole { IsTrue whole → result.lines.now ≡ [] }
     {
-        if are_blank(lines, blanks) {
-            Beside {
-                lines,
-                blanks,
-                members: 0,
+        if whole {
+            return Beside {
                 known: lines,
-            }
-        } else {
-            Beside::nothing()
+                ..Beside::nothing()
+            };
+        }
+        if !are_blank(lines, blanks) {
+            return Beside::nothing();
+        }
+        Beside {
+            lines,
+            blanks,
+            known: lines,
         }
     }
 }

@@ -7,7 +7,7 @@ use crate::engine::remembered::{Span, StandingLine};
 use indicatif_text::columns::Refusal;
 use std::alloc::Global;
 use std::marker::Model;
-use std::mem::swap;
+use std::mem::{replace, swap};
 
 /// Room for the next lines and texts, so that a drawing takes none anew. Contracts see nothing of it.
 pub struct Spare {
@@ -47,15 +47,20 @@ impl Spare {
         }
     }
 
-    /// Lends the spare room for lines that there is to a frame that has none.
-    pub fn lend(&mut self, laid: &mut Laid)
-        ensures same { laid.new ≡ record laid.old { changed = laid.new.changed; more = laid.new.more } }
-        ensures none { (laid.new.changed.items ≡ []) × (laid.new.more.items ≡ []) }
+    /// Lends the spare room for lines that there is to a frame of which nothing is laid out yet.
+    pub fn lend(&mut self) -> Laid
+        ensures { IsNoneLaid result }
     {
-        swap(&mut self.changed, &mut laid.changed);
-        swap(&mut self.lines, &mut laid.more);
+        let mut laid = Laid {
+            plan: Plan::none(),
+            blanks: 0,
+            at: 0,
+            changed: replace(&mut self.changed, Vec::new(self.alloc)),
+            more: replace(&mut self.lines, Vec::new(self.alloc)),
+        };
         laid.changed.clear();
         laid.more.clear();
+        laid
     }
 
     /// A text in spare room. Refused: `Memory`.
