@@ -7,12 +7,12 @@ use Rattle.std.proofs.Math.ListN.{get_or-append}
 use Rattle.std.proofs.Math.Seq.{take-append-add}
 use Rattle.indicatif_text.specs.Columns.{Cell, has_wide, rows_of}
 use Rattle.indicatif_term.specs.Shows.{looks_of}
-use Rattle.indicatif_term.specs.Lists.{Lists, BarLines, BarRows, fitting, lines_of, live_rows, segments_height, blanks_for}
+use Rattle.indicatif_term.specs.Lists.{Lists, BarLines, BarRows, fitting, lines_of, live_rows, blanks_for}
 use Rattle.indicatif_term.specs.Counts.{row_count, line_count, line_counts}
 use Rattle.indicatif_term.specs.Standing.{placed_of, placed, texts, standing_rows, IsLine, AreLines}
 use Rattle.indicatif_term.specs.Inside.Owned.{run_length, through, blank_count, no_plan, kept_below}
 use Rattle.indicatif_term.proofs.GroupLemmas.{through_at}
-use Rattle.indicatif_term.proofs.ShownRowLemmas.{frame_step, line_segments}
+use Rattle.indicatif_term.proofs.ShownRowLemmas.{line_segments}
 use Rattle.indicatif_term.specs.Inside.Parting.{IsReady}
 use Rattle.indicatif_term.specs.Inside.Plans.{IsPlan, IsSummed, IsLaidOut, IsWithheld, frame_lines}
 use Rattle.indicatif_term.specs.Lines.{bar_lines, all_lines, line_text}
@@ -34,11 +34,11 @@ use Rattle.indicatif_term.specs.declared.engine.remembered.Span.{Span}
 use Rattle.indicatif_term.specs.declared.engine.remembered.StandingLine.{StandingLine}
 use Rattle.indicatif_term.proofs.OwnedLemmas.{count_more, rows_by, height_counted, counts_height, blank_height, ones_of, passing_within}
 use Rattle.indicatif_term.proofs.RememberedLemmas.{lines_taken, live_right}
-use Rattle.indicatif_term.proofs.BesideLemmas.{all_at, line_texts_step, all_append, replicate_push}
-use Rattle.indicatif_term.proofs.LayoutLemmas.{nothing_laid, one_more, still_laid, no_bars, nothing_passes, lines_step, narrow_step, passing_same, passing_all, planned, string_at, line_bars, member_bars}
+use Rattle.indicatif_term.proofs.BesideLemmas.{line_texts_step, all_append, replicate_push}
+use Rattle.indicatif_term.proofs.LayoutLemmas.{nothing_laid, one_more, still_laid, passing_same, string_at, line_bars, member_bars}
 use Rattle.indicatif_term.proofs.EditWalkLemmas.{sitting_both}
 use Rattle.indicatif_term.proofs.TerminalStepLemmas.{rows_some}
-use Rattle.indicatif_term.proofs.RenewedLemmas.{same_texts, fits_more, none_fit, fits_taken, renewed_taken, place_right, over_ready, place_sits, whole_sits, whole_ready}
+use Rattle.indicatif_term.proofs.RenewedLemmas.{none_fit, fits_taken, renewed_taken, place_right, over_ready, place_sits, whole_sits, whole_ready}
 
 abbrev bytes : StandingLine → List ℕ
 bytes = λ (l : StandingLine). string_bytes l.text

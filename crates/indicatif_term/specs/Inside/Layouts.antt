@@ -1,19 +1,17 @@
 -- A frame laid out beside the lines that stand.
-use Rattle.std.specs.Prelude.{◌≡◌, ℕ, ◌+◌, ◌-◌, ◌<◌, ◌≤◌, ◌^◌, min, max, false, Bool, IsTrue, IsFalse, List, [], ◌∷◌, ◌++◌, chars, map, length, take, drop, get_or, replicate, Result, MatchResult}
+use Rattle.std.specs.Prelude.{◌≡◌, ℕ, ◌+◌, ◌-◌, ◌<◌, ◌≤◌, max, false, Bool, IsTrue, IsFalse, List, [], ◌∷◌, ◌++◌, chars, map, length, take, drop, get_or, replicate, Result, MatchResult}
 use Rattle.std.specs.List.{AllByRecursion}
 use Rattle.indicatif_text.specs.Columns.{Cell, has_wide, rows_of, last_columns}
 use Rattle.indicatif_text.specs.declared.refusal.Refusal.{Refusal}
 use Rattle.indicatif_term.specs.Lists.{BarRows, lines_of, blanks_for}
-use Rattle.indicatif_term.specs.Calls.{TermView}
 use Rattle.indicatif_term.specs.Shows.{looks_of}
 use Rattle.indicatif_term.specs.Counts.{RowCount, line_counts}
-use Rattle.indicatif_term.specs.Lines.{bar_lines, all_lines, text_lines, some_wide}
+use Rattle.indicatif_term.specs.Lines.{bar_lines, all_lines, some_wide}
 use Rattle.indicatif_term.specs.Remembered.{live_lines}
 use Rattle.indicatif_term.specs.Inside.Inks.{IsRead}
 use Rattle.indicatif_term.specs.Inside.Owned.{blank_count, no_plan}
-use Rattle.indicatif_term.specs.Inside.Fills.{line_end, last_or_none}
 use Rattle.indicatif_term.specs.Inside.Changing.{AreSitting}
-use Rattle.indicatif_term.specs.Inside.Plans.{passing_of, IsPlan, IsSummed, IsLaidOut, IsWithheld, frame_lines, text_height}
+use Rattle.indicatif_term.specs.Inside.Plans.{IsPlan, IsSummed, IsLaidOut, IsWithheld, frame_lines}
 use Rattle.indicatif_term.specs.Inside.Renewed.{AreFitting, renewed}
 use Rattle.indicatif_term.specs.Standing.{placed, texts, standing_rows, AreLines, AreReady}
 use Rattle.indicatif_term.specs.declared.engine.comparing.Turn.{Turn}

@@ -1,8 +1,8 @@
 //! The lines that stand, as a drawing finds them: beside its own, above them, and the room that they leave; and new lines in their place.
-ghost use Rattle.std.specs.Prelude.{Err, IfErr, IfOk, IfSome, IsTrue, List, [], get_or, length, min, option_map, replicate, string_bytes, ℕ, ◌++◌, ◌+◌, ◌-◌, ◌<◌, ◌^◌, ◌∷◌, ◌≡◌, ◌⊎◌};
+ghost use Rattle.std.specs.Prelude.{IfErr, IfOk, IfSome, IsTrue, List, [], get_or, length, min, option_map, string_bytes, ℕ, ◌+◌, ◌-◌, ◌<◌, ◌^◌, ◌∷◌, ◌≡◌, ◌⊎◌};
 ghost use Rattle.indicatif_term.specs.Counts.{line_count, line_counts};
 ghost use Rattle.indicatif_term.specs.Inside.Owned.{blank_count};
-ghost use Rattle.indicatif_term.specs.Inside.Layouts.{AreBlank, AreWhole, IsFrameLaid};
+ghost use Rattle.indicatif_term.specs.Inside.Layouts.{AreBlank, IsFrameLaid};
 ghost use Rattle.indicatif_term.specs.Inside.Changing.{PlacedLine, placed_height};
 ghost use Rattle.indicatif_term.specs.Inside.Fills.{last_of};
 ghost use Rattle.indicatif_term.specs.Inside.Places.{IsWithin};

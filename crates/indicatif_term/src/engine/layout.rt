@@ -1,12 +1,11 @@
 //! A frame laid out beside the lines that stand: which of these stay, which new ones come in their place, and which are written below them.
-ghost use Rattle.std.specs.Prelude.{◌≡◌, ◌≢◌, ◌⊎◌, IsTrue, Err, ◌==◌, ◌<◌, ◌≤◌, ◌+◌, ◌-◌, ◌^◌, ◌++◌, ◌∷◌, [], ℕ, min, map, length, take, drop, chars, get_or, string_bytes, List, IfOk, IfErr, IfSome, IsFalse, MatchResult, false, if◌then◌else◌};
-ghost use Rattle.indicatif_text.specs.Columns.{has_wide, rows_of};
-ghost use Rattle.indicatif_term.specs.Lists.{BarRows, lines_of, blanks_for};
-ghost use Rattle.indicatif_term.specs.Lines.{bar_lines, line_text, all_lines, some_wide, logged_lines, text_lines};
-ghost use Rattle.indicatif_term.specs.Standing.{placed, IsLine, AreLines};
+ghost use Rattle.std.specs.Prelude.{◌≡◌, ◌≢◌, IsTrue, Err, ◌==◌, ◌<◌, ◌≤◌, ◌+◌, ◌-◌, ◌^◌, ◌∷◌, [], min, map, length, take, chars, get_or, List, IfOk, IfSome, MatchResult, false, if◌then◌else◌};
+ghost use Rattle.indicatif_term.specs.Lists.{lines_of};
+ghost use Rattle.indicatif_term.specs.Lines.{bar_lines, line_text, all_lines, logged_lines};
+ghost use Rattle.indicatif_term.specs.Standing.{placed, AreLines};
 ghost use Rattle.indicatif_term.specs.Inside.Changing.{placed_height};
 ghost use Rattle.indicatif_term.specs.Inside.Plans.{IsSummed, IsWithheld, MeasuredLine, MeasuredText};
-ghost use Rattle.indicatif_term.specs.Inside.Layouts.{IsSized, IsBeside, AreBlank, AreBlanksFor, own_lines, LaidOn, IsLaidOn, LineLaidOn, IsNoneLaid, IsFrameLaid, FrameLaid, PlannedFor};
+ghost use Rattle.indicatif_term.specs.Inside.Layouts.{IsSized, IsBeside, AreBlank, AreBlanksFor, own_lines, LaidOn, LineLaidOn, IsNoneLaid, IsFrameLaid, FrameLaid, PlannedFor};
 ghost use Rattle.indicatif_term.specs.Counts.{line_counts};
 ghost use Rattle.indicatif_term.specs.Inside.Owned.{run_length, through, kept_below, no_plan};
 
