@@ -7,12 +7,12 @@ use Rattle.std.proofs.Math.ListN.{get_or-append}
 use Rattle.std.proofs.Math.Seq.{take-append-add}
 use Rattle.indicatif_text.specs.Columns.{Cell, has_wide, rows_of}
 use Rattle.indicatif_term.specs.Shows.{looks_of}
-use Rattle.indicatif_term.specs.Lists.{Lists, BarLines, BarRows, fitting, lines_of, live_rows, segments_height, blanks_for}
+use Rattle.indicatif_term.specs.Lists.{Lists, BarLines, BarRows, fitting, lines_of, live_rows, blanks_for}
 use Rattle.indicatif_term.specs.Counts.{row_count, line_count, line_counts}
 use Rattle.indicatif_term.specs.Standing.{placed_of, placed, texts, standing_rows, IsLine, AreLines}
 use Rattle.indicatif_term.specs.Inside.Owned.{run_length, through, blank_count, no_plan, kept_below}
 use Rattle.indicatif_term.proofs.GroupLemmas.{through_at}
-use Rattle.indicatif_term.proofs.ShownRowLemmas.{frame_step, line_segments}
+use Rattle.indicatif_term.proofs.ShownRowLemmas.{line_segments}
 use Rattle.indicatif_term.specs.Inside.Parting.{IsReady}
 use Rattle.indicatif_term.specs.Inside.Plans.{IsPlan, IsSummed, IsLaidOut, IsWithheld, frame_lines}
 use Rattle.indicatif_term.specs.Lines.{bar_lines, all_lines, line_text}
@@ -20,7 +20,7 @@ use Rattle.indicatif_text.specs.declared.refusal.Refusal.{Refusal}
 use Rattle.indicatif_text.specs.declared.refusal.Refusal.TheVariants.{Memory}
 use Rattle.indicatif_term.specs.Inside.Changing.{placed_height, AreSitting}
 use Rattle.indicatif_term.specs.Inside.Renewed.{AreFitting, renewed, AreInPlace, AreOver}
-use Rattle.indicatif_term.specs.Inside.Layouts.{AreBlank, AreWhole, laid_lines, laid_texts, own_lines, IsBeside, IsLaid, IsLaidOn, IsNoneLaid, IsFrontLaid, IsFrameLaid, FrameLaid, AreBlanksFor, ArePut, CanPut}
+use Rattle.indicatif_term.specs.Inside.Layouts.{AreBlank, AreWhole, laid_lines, laid_texts, own_lines, IsBeside, IsLaid, IsLaidOn, IsFrameLaid, FrameLaid, AreBlanksFor, IsPlannedFor, ArePut, CanPut}
 use Rattle.std.proofs.lemmas.Bool.{or_parts}
 use Rattle.indicatif_term.proofs.MeasureLemmas.{narrow_more}
 use Rattle.indicatif_term.specs.declared.target.lines.LineType.{LineType}
@@ -34,11 +34,11 @@ use Rattle.indicatif_term.specs.declared.engine.remembered.Span.{Span}
 use Rattle.indicatif_term.specs.declared.engine.remembered.StandingLine.{StandingLine}
 use Rattle.indicatif_term.proofs.OwnedLemmas.{count_more, rows_by, height_counted, counts_height, blank_height, ones_of, passing_within}
 use Rattle.indicatif_term.proofs.RememberedLemmas.{lines_taken, live_right}
-use Rattle.indicatif_term.proofs.BesideLemmas.{all_at, line_texts_step, all_append, replicate_push}
-use Rattle.indicatif_term.proofs.LayoutLemmas.{nothing_laid, one_more, still_laid, no_bars, nothing_passes, lines_step, narrow_step, passing_same, passing_all, planned, string_at, line_bars, member_bars}
+use Rattle.indicatif_term.proofs.BesideLemmas.{line_texts_step, all_append, replicate_push}
+use Rattle.indicatif_term.proofs.LayoutLemmas.{nothing_laid, one_more, still_laid, passing_same, string_at, line_bars, member_bars}
 use Rattle.indicatif_term.proofs.EditWalkLemmas.{sitting_both}
 use Rattle.indicatif_term.proofs.TerminalStepLemmas.{rows_some}
-use Rattle.indicatif_term.proofs.RenewedLemmas.{same_texts, fits_more, none_fit, fits_taken, renewed_taken, place_right, over_ready, place_sits, whole_sits, whole_ready}
+use Rattle.indicatif_term.proofs.RenewedLemmas.{none_fit, fits_taken, renewed_taken, place_right, over_ready, place_sits, whole_sits, whole_ready}
 
 abbrev bytes : StandingLine → List ℕ
 bytes = λ (l : StandingLine). string_bytes l.text
@@ -247,82 +247,10 @@ frame_live w h pass on r frame l live f = elim live [
 ]
 
 -- on a terminal of the same size
-pub frame_on : (w v h k pass : ℕ) (on : List StandingLine) (frame : List Segment) (l : Laid) → w ≡ v → h ≡ k → IsFrameLaid w h pass on frame l → IsFrameLaid v k pass on frame l
-frame_on w v h k pass on frame l e d f = subst (λ n. IsFrameLaid n k pass on frame l) e (subst (λ n. IsFrameLaid w n pass on frame l) d f)
-
--- ---- the members that stand as they are
-
--- none yet
-pub front_none : (w h pass : ℕ) (on : List StandingLine) (frame : List Segment) (l : Laid) → AreBlank l.blanks on → l.at ≡ l.blanks → l.plan ≡ no_plan → l.changed.items ≡ [] → l.more.items ≡ [] →
-    IsFrontLaid w h pass 0 on frame l
-front_none w h pass on frame l b a p c m = record {
-  within = omega arith;
-  summed = (nothing_laid h l.plan p).0;
-  narrow = refl;
-  passing = ap (λ (q : Plan). q.passing) p ∙ nothing_passes w h pass frame;
-  none_passes = (ap (λ (q : Plan). q.passing) p, ap (λ (q : Plan). q.passing_rows) p);
-  laid = laid_as w h on [] [] [] _ _ refl (sym (no_bars w)) (laid_none w h on l b a p c m);
-}
-
-pub front_anew : (w h pass i : ℕ) (on : List StandingLine) (frame : List Segment) (l : Laid) → IsNoneLaid l → i ≡ 0 → IsFrontLaid w h pass i on frame l
-front_anew w h pass i on frame l n e =
-    let b : AreBlank 0 on = record { in_lines = omega arith; empty = refl; counts = refl } in
-    subst (λ k. IsFrontLaid w h pass k on frame l) (sym e)
-    (front_none w h pass on frame l (subst (λ k. AreBlank k on) (sym n.blanks_are) b) (n.at_is ∙ sym n.blanks_are) n.plan_is n.none_changed n.none_more)
-
--- one more
-pub front_more : (w h i : ℕ) (on : List StandingLine) (frame : List Segment) (s : Segment) (l l' : Laid) → i < length frame → get_or frame i s ≡ s → IsFrontLaid w h 0 i on frame l →
-    IsLaidOn w h on (map line_text s.lines.items) (bar_lines s).lines (lines_of w (bar_lines s ∷ [])) l l' → l'.plan.passing_rows ≡ l.plan.passing_rows → IsFrontLaid w h 0 (i + 1) on frame l'
-front_more w h i on frame s l l' within at f o rows = record {
-  within = omega (arith, within);
-  summed = o.summed;
-  narrow = narrow_step w frame i s within at f.narrow o.narrow;
-  passing = passing_same w h 0 i _ frame (omega arith) (o.passing_same ∙ f.passing);
-  none_passes = (o.passing_same ∙ f.none_passes.0, rows ∙ f.none_passes.1);
-  laid = laid_as w h on _ _ _ _ l' (sym (frame_step frame i s within at)) (lines_step w frame i s within at) (o.laid _ _ f.laid);
-}
-
--- all
-pub front_whole : (w h pass i : ℕ) (on : List StandingLine) (frame : List Segment) (l : Laid) → i ≡ length frame → IsFrontLaid w h pass i on frame l → IsFrameLaid w h pass on frame l
-front_whole w h pass i on frame l e f =
-    let all : take i frame ≡ frame = take_all i frame (omega (arith, e)) in
-    let laid : IsLaid w h on (frame_lines frame) (lines_of w (map bar_lines frame)) l = rw all at f.laid in
-    let parts = fitting h (lines_of w (map bar_lines frame)) in
-    let z = f.none_passes in
-    record {
-      narrow = rw all at f.narrow;
-      plan_is = planned w h pass (map bar_lines frame) l.plan laid.counts laid.laid
-          (z.0 ∙ ap (λ k. through k (map row_count parts)) (sym z.0 ∙ passing_all w h pass i _ frame (omega (arith, e)) f.passing))
-          (z.1 ∙ ap (λ k. segments_height (take k parts)) (sym z.0));
-      is_summed = f.summed;
-      is_laid = laid;
-    }
-
--- in room that was lent
-pub front_lent : (w h pass i : ℕ) (on : List StandingLine) (frame : List Segment) (l l' : Laid) → l' ≡ record l { changed = l'.changed; more = l'.more } → l'.changed.items ≡ l.changed.items →
-    l'.more.items ≡ l.more.items → IsFrontLaid w h pass i on frame l → IsFrontLaid w h pass i on frame l'
-front_lent w h pass i on frame l l' e c m f =
-    let o = f.laid in
-    subst (IsFrontLaid w h pass i on frame) (sym e) (record {
-      within = f.within;
-      summed = f.summed;
-      narrow = f.narrow;
-      passing = f.passing;
-      none_passes = f.none_passes;
-      laid = record {
-        at_in = o.at_in;
-        blanks_in = omega (arith, o.blanks_in, ap length m);
-        fit = subst (AreFitting w on l.at) (sym c) o.fit;
-        lines_in = o.lines_in;
-        all_in = o.all_in;
-        texts_are = ap (λ ns. take l.at (renewed (texts on) ns) ++ texts l'.more.items) c ∙ ap (λ ls. take l.at (renewed (texts on) l.changed.items) ++ texts ls) m ∙ o.texts_are;
-        counts = o.counts;
-        counts_are = ap (λ ls. line_counts (take l.at on ++ ls)) m ∙ o.counts_are;
-        laid = o.laid;
-        measured = subst (AreLines w) (sym m) o.measured;
-        whole = subst AreWhole (sym m) o.whole;
-      };
-    })
+pub planned_on : (w v h k pass free : ℕ) (bottom : Bool) (frame : List Segment) (r : Remembered) (l : Laid) → w ≡ v → h ≡ k → IsPlannedFor w h pass bottom frame free r l →
+    IsPlannedFor v k pass bottom frame free r l
+planned_on w v h k pass free bottom frame r l e d p =
+    subst (λ n. IsPlannedFor n k pass bottom frame free r l) e (subst (λ n. IsPlannedFor w n pass bottom frame free r l) d p)
 
 -- below blank lines
 pub laid_blanks : (w h pass : ℕ) (on : List StandingLine) (frame : List Segment) (l l' : Laid) → l.blanks ≡ 0 → IsFrameLaid w h pass [] frame l → l'.plan ≡ l.plan → l'.at ≡ l.at →
@@ -506,29 +434,6 @@ member_whole w h on s i l m k old =
       narrow = rw (take_all i (bar_lines s).lines all) at old.narrow;
       laid = λ before bars o. laid_as w h on _ _ _ _ m (ap (λ xs. before ++ map line_text xs) (take_all i s.lines.items k)) (member_bars w i s all bars) (old.laid before bars o);
     }
-
--- so many lines further, on these rows
-abbrev pub moved : Laid → ℕ → ℕ → Laid
-moved l rows n = record l { plan = record l.plan { rows = rows; lines = l.plan.lines + n }; at = l.at + n }
-
-pub member_begun : (w h : ℕ) (on : List StandingLine) (l : Laid) → IsSummed h l.plan → IsLaidOn w h on [] [] [] l (moved l l.plan.rows 0)
-member_begun w h on l s =
-    let lines : l.plan.lines + 0 ≡ l.plan.lines = omega arith in
-    let at : l.at + 0 ≡ l.at = omega arith in
-    rw (lines, at) (member_none w h on l s)
-
--- one more line that stands as it is
-pub stays_on : (w h bar rows n : ℕ) (on : List StandingLine) (text : List ℕ) (x : StandingLine) (l : Laid) → AreLines w on → IsSummed h (moved l rows n).plan → l.more.items ≡ [] →
-    l.plan.full ≡ false → l.at + n < length on → get_or on (l.at + n) x ≡ x → x.bar ≡ bar → x.rows ≤ h - rows → string_bytes x.text ≡ text →
-    IsLaidOn w h on (text ∷ []) (chars text ∷ []) (record { bar = bar; rows = rows_of w (chars text) } ∷ []) (moved l rows n) (moved l (rows + x.rows) (n + 1))
-stays_on w h bar rows n on text x l all s none full within here own fits t =
-    let line = all_at (IsLine w) on (l.at + n) x within here all in
-    let m = moved l rows n in
-    let lines : l.plan.lines + (n + 1) ≡ l.plan.lines + n + 1 = omega arith in
-    let at : l.at + (n + 1) ≡ l.at + n + 1 = omega arith in
-    kept_on w h bar x.rows on text x m m (moved l (rows + x.rows) (n + 1)) s (record { none_below = none; not_full = full; within = within; line_is = here; bar_is = own; fits = fits })
-    (line.rows_are ∙ ap (λ y. length (rows_of w (chars y))) t) refl (ap (λ y. has_wide w (chars y)) (sym t) ∙ line.narrow) refl refl refl refl (rw (lines, at) refl)
-    (λ fit. (fits_more w on 0 m.at (m.at + 1) m.changed.items (omega arith) fit, same_texts w on m.at x text m.changed.items within here fit t))
 
 pub own_length : (on : List StandingLine) (l : Laid) → l.at ≤ length on → length (own_lines on l) ≡ l.at + length l.more.items - l.blanks
 own_length on l h = length-drop l.blanks (laid_lines on l) ∙ ap (λ n. n - l.blanks) (length-append (take l.at on) l.more.items ∙ ap (λ n. n + length l.more.items) (length-take-le l.at on h))

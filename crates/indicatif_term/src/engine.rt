@@ -58,7 +58,7 @@ use crate::engine::beside::{Room, height_of, last_column, lines_within};
 use crate::engine::changing::{are_even, fill_behind};
 use crate::engine::counts::{Counts, Fresh, Keep};
 use crate::engine::inks::leaves_open;
-use crate::engine::layout::{Asked, Laid, plan_drawing, run_of};
+use crate::engine::layout::{Asked, Laid, metrics_of_text, plan_drawing, run_of};
 use crate::engine::recutting::{CutLines, Widths};
 use crate::engine::remembered::{Remembered, Span, StandingLine};
 use crate::engine::spare::Spare;
@@ -259,20 +259,19 @@ impl<T: TermLike + Drop> Engine<T> {
             Paints s (T.view (engine_term self.new)) (is_failure result) l (lists_after result l
             (drawn s.columns s.rows (is_bottom alignment) pass (map bar_lines frame.now) l)) }
     {
+        let window = Window::of(&self.term)?;
+        let width = window.columns;
         let old = self.counts;
         let asked = Asked {
             frame,
             pass,
             bottom: alignment.is_bottom(),
             whole: self.drawings >= MOST_DRAWINGS,
-            shown: &self.shown,
             blanks: old.blanks,
             taken: old.live,
         };
-        let mut laid = Laid::none(self.alloc);
-        let planned = plan_drawing(&self.term, &mut self.spare, &mut laid, None, asked)?;
-        let window = planned.window;
-        let width = window.columns;
+        let mut laid = self.spare.lend();
+        plan_drawing(&self.shown, &mut self.spare, &mut laid, &asked, window)?;
         let rows = laid.blanks + laid.plan.rows;
         let before = Before {
             counts: old,
@@ -285,7 +284,7 @@ impl<T: TermLike + Drop> Engine<T> {
         let next = old.drawn(laid.plan, laid.blanks, window.rows);
         let above = self.shown.above(width, old.kept);
         if before.stands(&next, above, &laid, self.shown.live()) {
-            return self.rest(next);
+            return self.rest(next, &mut laid);
         }
         let from = self.store(next, above, &mut laid, width)?;
         let writing = before.writing(fresh, &next, self.shown.behind(from), width);
@@ -323,6 +322,8 @@ impl<T: TermLike + Drop> Engine<T> {
             (logged s.columns s.rows (is_bottom alignment)
             (text_lines (logged_lines text.now)) (map bar_lines frame.now) l)) }
     {
+        let window = Window::of(&self.term)?;
+        let metrics = metrics_of_text(text, window)?;
         let old = self.counts;
         let anew = self.failed;
         let taken = old.kept + old.live;
@@ -331,14 +332,11 @@ impl<T: TermLike + Drop> Engine<T> {
             pass: 0,
             bottom: alignment.is_bottom(),
             whole: true,
-            shown: &self.shown,
             blanks: 0,
-            taken,
+            taken: taken.saturating_sub(metrics.height),
         };
-        let mut laid = Laid::none(self.alloc);
-        let planned = plan_drawing(&self.term, &mut self.spare, &mut laid, Some(text), asked)?;
-        let window = planned.window;
-        let metrics = planned.text;
+        let mut laid = self.spare.lend();
+        plan_drawing(&self.shown, &mut self.spare, &mut laid, &asked, window)?;
         let end = metrics.height.saturating_add(laid.blanks + laid.plan.rows);
         let fresh = old.fresh(end, window.rows);
         let next = old.logged(metrics.height, laid.plan, laid.blanks, window.rows);
@@ -446,13 +444,14 @@ impl<T: TermLike + Drop> Engine<T> {
     }
 
     /// Remembers the next counts, where all lines stay as they stand, and writes nothing.
-    fn rest(&mut self, next: Counts) -> Result<(), Refusal>
+    fn rest(&mut self, next: Counts, laid: &mut Laid) -> Result<(), Refusal>
         requires sound { self.old.failed ≡ false }
         requires suits { ∥ ((l : Lists) × Suits next false self.old.shown l) ∥₁ }
         ensures draws { Draws [] (T.view (engine_term self.old)) (T.view (engine_term self.new)) result }
         ensures remembers { Remembers next self.old.shown result self.new }
         ensures moves { engine_moves self.new ≡ engine_moves self.old }
     {
+        self.spare.store_laid(laid);
         self.counts = next;
         let written = self.term.flush();
         self.ended(written)
@@ -751,13 +750,10 @@ impl Before {
 }
 
 /// How many drawings have changed lines since all were written as a whole, behind one that this frame is laid out for. Where a line leaves
-/// colours open, they are those of the lines below it, too, so the next drawing is whole.
+/// colours open, which it does only in a whole drawing, they are those of the lines below it, too, so the next drawing is whole.
 fn drawings_behind(drawings: usize, laid: &Laid) -> usize {
-    if laid.leaves_open() {
-        return MOST_DRAWINGS;
-    }
     if laid.at == 0 {
-        return 0;
+        return if laid.leaves_open() { MOST_DRAWINGS } else { 0 };
     }
     if laid.changed.is_empty() && laid.more.is_empty() {
         return drawings;

@@ -1,25 +1,22 @@
 -- A frame laid out beside the lines that stand.
-use Rattle.std.specs.Prelude.{◌≡◌, ℕ, ◌+◌, ◌-◌, ◌<◌, ◌≤◌, ◌^◌, min, max, false, Bool, IsTrue, IsFalse, List, [], ◌∷◌, ◌++◌, chars, map, length, take, drop, get_or, replicate, Result, MatchResult}
+use Rattle.std.specs.Prelude.{◌≡◌, ℕ, ◌+◌, ◌-◌, ◌<◌, ◌≤◌, max, false, Bool, IsTrue, IsFalse, List, [], ◌∷◌, ◌++◌, chars, map, length, take, drop, get_or, replicate, Result, MatchResult}
 use Rattle.std.specs.List.{AllByRecursion}
 use Rattle.indicatif_text.specs.Columns.{Cell, has_wide, rows_of, last_columns}
 use Rattle.indicatif_text.specs.declared.refusal.Refusal.{Refusal}
 use Rattle.indicatif_term.specs.Lists.{BarRows, lines_of, blanks_for}
-use Rattle.indicatif_term.specs.Calls.{TermView}
 use Rattle.indicatif_term.specs.Shows.{looks_of}
 use Rattle.indicatif_term.specs.Counts.{RowCount, line_counts}
-use Rattle.indicatif_term.specs.Lines.{bar_lines, all_lines, text_lines, some_wide}
+use Rattle.indicatif_term.specs.Lines.{bar_lines, all_lines, some_wide}
 use Rattle.indicatif_term.specs.Remembered.{live_lines}
 use Rattle.indicatif_term.specs.Inside.Inks.{IsRead}
 use Rattle.indicatif_term.specs.Inside.Owned.{blank_count, no_plan}
-use Rattle.indicatif_term.specs.Inside.Fills.{line_end, last_or_none}
 use Rattle.indicatif_term.specs.Inside.Changing.{AreSitting}
-use Rattle.indicatif_term.specs.Inside.Plans.{passing_of, IsPlan, IsSummed, IsLaidOut, IsWithheld, frame_lines, text_height}
+use Rattle.indicatif_term.specs.Inside.Plans.{IsPlan, IsSummed, IsLaidOut, IsWithheld, frame_lines}
 use Rattle.indicatif_term.specs.Inside.Renewed.{AreFitting, renewed}
 use Rattle.indicatif_term.specs.Standing.{placed, texts, standing_rows, AreLines, AreReady}
 use Rattle.indicatif_term.specs.declared.engine.comparing.Turn.{Turn}
 use Rattle.indicatif_term.specs.declared.engine.layout.Laid.{Laid}
 use Rattle.indicatif_term.specs.declared.engine.layout.OwnLine.{OwnLine}
-use Rattle.indicatif_term.specs.declared.engine.layout.Planned.{Planned}
 use Rattle.indicatif_term.specs.declared.target.lines.Segment.{Segment}
 use Rattle.indicatif_term.specs.declared.engine.comparing.Step.TheVariants.{Whole}
 use Rattle.indicatif_term.specs.declared.engine.remembered.Remembered.{Remembered}
@@ -116,15 +113,6 @@ pub record IsNoneLaid (l : Laid) : Type 0 where
   pub none_changed : l.changed.items ≡ []
   pub none_more : l.more.items ≡ []
 
--- the first i members of a frame, which stand as they are: all lines of these keep their rows
-pub record IsFrontLaid (w h pass i : ℕ) (on : List StandingLine) (frame : List Segment) (l : Laid) : Type 0 where
-  pub within : i ≤ length frame
-  pub summed : IsSummed h l.plan
-  pub narrow : some_wide w (all_lines (map bar_lines (take i frame))) ≡ false
-  pub passing : l.plan.passing ≡ passing_of w h pass i frame
-  pub none_passes : (l.plan.passing ≡ 0) × (l.plan.passing_rows ≡ 0)
-  pub laid : IsLaid w h on (frame_lines (take i frame)) (lines_of w (map bar_lines (take i frame))) l
-
 -- the blank lines of a drawing in the place of so many rows
 pub record AreBlanksFor (bottom : Bool) (free : ℕ) (l : Laid) : Type 0 where
   pub are : (taken text : ℕ) → free ≡ taken - text → l.blanks ≡ blanks_for bottom taken text l.plan.rows
@@ -132,23 +120,15 @@ pub record AreBlanksFor (bottom : Bool) (free : ℕ) (l : Laid) : Type 0 where
 
 -- ---- a drawing
 
--- what is written is measured for a terminal's window, beside the remembered live lines, and none of its lines is too wide
-pub record IsPlannedFor (v : TermView) (pass : ℕ) (bottom : Bool) (text : List (List ℕ)) (frame : List Segment) (taken : ℕ) (r : Remembered) (l : Laid) (p : Planned) : Type 0 where
-  pub columns_are : p.window.columns ≡ v.columns
-  pub rows_are : p.window.rows ≡ v.rows
-  pub narrow_text : IsFalse (some_wide v.columns (text_lines text))
-  pub height_is : p.text.height ≡ min (text_height v.columns (text_lines text)) (2 ^ 64 - 1)
-  pub text_ends : p.text.last_line_width ≡ line_end v.columns (last_or_none text)
-  pub frame_is : IsFrameLaid v.columns v.rows pass (live_lines r) frame l
-  pub blanks_are : l.blanks ≡ blanks_for bottom taken p.text.height l.plan.rows
-  pub blank_room : l.blanks + l.plan.rows ≤ max (taken - p.text.height) l.plan.rows
-  pub known : 0 < l.at → r.width ≡ v.columns
-  pub below_text : 0 < length text → l.at ≡ 0
+-- a frame is laid out for a window of w columns and h rows, beside the remembered live lines, in the place of so many rows, and none of its lines is too wide
+pub record IsPlannedFor (w h pass : ℕ) (bottom : Bool) (frame : List Segment) (free : ℕ) (r : Remembered) (l : Laid) : Type 0 where
+  pub frame_is : IsFrameLaid w h pass (live_lines r) frame l
+  pub blanks_are : AreBlanksFor bottom free l
+  pub known : 0 < l.at → r.width ≡ w
 
--- what is written is measured for a terminal's window, or nothing is written for this reason
-abbrev pub PlannedFor : TermView → ℕ → Bool → List (List ℕ) → List Segment → ℕ → Remembered → Laid → Result Planned Refusal → Type 0
-PlannedFor v pass bottom text frame taken r l result =
-    MatchResult result (λ p. IsPlannedFor v pass bottom text frame taken r l p) (λ e. IsWithheld v.columns (text_lines text ++ all_lines (map bar_lines frame)) e)
+-- that, or nothing is written for this reason
+abbrev pub PlannedFor : ℕ → ℕ → ℕ → Bool → List Segment → ℕ → Remembered → Laid → Result Unit Refusal → Type 0
+PlannedFor w h pass bottom frame free r l result = MatchResult result (λ _. IsPlannedFor w h pass bottom frame free r l) (λ e. IsWithheld w (all_lines (map bar_lines frame)) e)
 
 -- ---- the lines of a drawing, as they stand afterwards
 

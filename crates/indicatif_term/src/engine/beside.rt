@@ -1,8 +1,8 @@
 //! The lines that stand, as a drawing finds them: beside its own, above them, and the room that they leave; and new lines in their place.
-ghost use Rattle.std.specs.Prelude.{Err, IfErr, IfOk, IfSome, IsTrue, List, [], get_or, length, min, option_map, replicate, string_bytes, ℕ, ◌++◌, ◌+◌, ◌-◌, ◌<◌, ◌^◌, ◌∷◌, ◌≡◌, ◌⊎◌};
+ghost use Rattle.std.specs.Prelude.{IfErr, IfOk, IfSome, IsTrue, List, [], get_or, length, min, option_map, string_bytes, ℕ, ◌+◌, ◌-◌, ◌<◌, ◌^◌, ◌∷◌, ◌≡◌, ◌⊎◌};
 ghost use Rattle.indicatif_term.specs.Counts.{line_count, line_counts};
 ghost use Rattle.indicatif_term.specs.Inside.Owned.{blank_count};
-ghost use Rattle.indicatif_term.specs.Inside.Layouts.{AreBlank, AreWhole, IsFrameLaid};
+ghost use Rattle.indicatif_term.specs.Inside.Layouts.{AreBlank, IsFrameLaid};
 ghost use Rattle.indicatif_term.specs.Inside.Changing.{PlacedLine, placed_height};
 ghost use Rattle.indicatif_term.specs.Inside.Fills.{last_of};
 ghost use Rattle.indicatif_term.specs.Inside.Places.{IsWithin};
@@ -17,13 +17,11 @@ use crate::engine::spare::Spare;
 use indicatif_text::columns::Refusal;
 use std::mem::replace;
 
-/// The lines that stand where a frame is to be drawn: the first `blanks` are blank ones, and so many members from the front stand there as
-/// they are.
+/// The lines that stand where a frame is to be drawn, of which the first `blanks` are blank ones.
 #[derive(Clone, Copy)]
 pub struct Beside<'a> {
     pub lines: &'a [StandingLine],
     pub blanks: usize,
-    pub members: usize,
     /// The lines that are remembered there, also where none keeps its rows.
     pub known: &'a [StandingLine],
 }
@@ -32,44 +30,36 @@ impl<'a> Beside<'a> {
     /// No line stands there.
     pub fn nothing() -> Beside<'a>
         ensures lines { result.lines.now ≡ [] }
-        ensures none { (result.blanks ≡ 0) × (result.members ≡ 0) }
+        ensures none { result.blanks ≡ 0 }
         ensures known { result.known.now ≡ [] }
     {
         Beside {
             lines: &[],
             blanks: 0,
-            members: 0,
             known: &[],
         }
     }
 
-    /// None of the lines keeps its rows.
-    pub fn whole(self) -> Beside<'a>
-        ensures lines { result.lines.now ≡ [] }
-        ensures none { (result.blanks ≡ 0) × (result.members ≡ 0) }
-        ensures known { result.known.now ≡ self.entry.known.now }
-    {
-        Beside {
-            known: self.known,
-            ..Beside::nothing()
-        }
-    }
-
-    /// These lines, if the first `blanks` are blank ones; else nothing.
-    pub fn of(lines: &'a [StandingLine], blanks: usize) -> Beside<'a>
+    /// These lines, if the first `blanks` are blank ones; else nothing. None keeps its rows in a drawing that writes each line as a whole.
+    pub fn of(lines: &'a [StandingLine], blanks: usize, whole: bool) -> Beside<'a>
         ensures lines { (result.lines.now ≡ []) ⊎ (result.lines.now ≡ lines.entry.now) }
         ensures blank { AreBlank result.blanks result.lines.now }
         ensures known { (result.known.now ≡ []) ⊎ (result.known.now ≡ lines.entry.now) }
+        ensures whole { IsTrue whole → result.lines.now ≡ [] }
     {
-        if are_blank(lines, blanks) {
-            Beside {
-                lines,
-                blanks,
-                members: 0,
+        if whole {
+            return Beside {
                 known: lines,
-            }
-        } else {
-            Beside::nothing()
+                ..Beside::nothing()
+            };
+        }
+        if !are_blank(lines, blanks) {
+            return Beside::nothing();
+        }
+        Beside {
+            lines,
+            blanks,
+            known: lines,
         }
     }
 }
@@ -173,7 +163,7 @@ pub fn below_blanks(spare: &mut Spare, laid: &mut Laid, blanks: usize) -> Result
     for _ in 0..blanks {
         laid.more.push(StandingLine {
             bar: 0,
-            text: spare.take_text(),
+            text: spare.no_text(),
             before: spare.no_text(),
             rows: 1,
             last: 0,

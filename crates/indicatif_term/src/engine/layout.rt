@@ -1,13 +1,11 @@
 //! A frame laid out beside the lines that stand: which of these stay, which new ones come in their place, and which are written below them.
-ghost use Rattle.std.specs.Prelude.{◌≡◌, ◌≢◌, ◌⊎◌, IsTrue, Err, ◌==◌, ◌<◌, ◌≤◌, ◌+◌, ◌-◌, ◌^◌, ◌++◌, ◌∷◌, [], ℕ, min, map, length, take, drop, chars, get_or, string_bytes, List, IfOk, IfErr, IfSome, IsFalse, MatchResult, false, if◌then◌else◌};
-ghost use Rattle.indicatif_text.specs.Columns.{has_wide, rows_of};
-ghost use Rattle.indicatif_term.specs.Lists.{BarRows, lines_of, blanks_for};
-ghost use Rattle.indicatif_term.specs.Lines.{bar_lines, line_text, all_lines, some_wide, logged_lines, text_lines};
-ghost use Rattle.indicatif_term.specs.Standing.{placed, IsLine, AreLines};
+ghost use Rattle.std.specs.Prelude.{◌≡◌, ◌≢◌, IsTrue, Err, ◌==◌, ◌<◌, ◌≤◌, ◌+◌, ◌-◌, ◌^◌, ◌∷◌, [], min, map, length, take, chars, get_or, List, IfOk, IfSome, MatchResult, false, if◌then◌else◌};
+ghost use Rattle.indicatif_term.specs.Lists.{lines_of};
+ghost use Rattle.indicatif_term.specs.Lines.{bar_lines, line_text, all_lines, logged_lines};
+ghost use Rattle.indicatif_term.specs.Standing.{placed, AreLines};
 ghost use Rattle.indicatif_term.specs.Inside.Changing.{placed_height};
-ghost use Rattle.indicatif_term.specs.Inside.Plans.{IsSummed, IsWithheld, MeasuredLine, MeasuredText, text_above};
-ghost use Rattle.indicatif_term.specs.Inside.Layouts.{IsSized, IsBeside, AreBlank, AreBlanksFor, own_lines, LaidOn, IsLaidOn, LineLaidOn, IsNoneLaid, IsFrontLaid, IsFrameLaid, FrameLaid, PlannedFor};
-ghost use Rattle.indicatif_term.specs.Remembered.{live_lines};
+ghost use Rattle.indicatif_term.specs.Inside.Plans.{IsSummed, IsWithheld, MeasuredLine, MeasuredText};
+ghost use Rattle.indicatif_term.specs.Inside.Layouts.{IsSized, IsBeside, AreBlank, AreBlanksFor, own_lines, LaidOn, LineLaidOn, IsNoneLaid, IsFrameLaid, FrameLaid, PlannedFor};
 ghost use Rattle.indicatif_term.specs.Counts.{line_counts};
 ghost use Rattle.indicatif_term.specs.Inside.Owned.{run_length, through, kept_below, no_plan};
 
@@ -18,10 +16,8 @@ use crate::engine::inks::leaves_open;
 use crate::engine::remembered::{Remembered, StandingLine};
 use crate::engine::spare::Spare;
 use crate::target::lines::Segment;
-use crate::target::term_like::TermLike;
 use crate::target::window::Window;
 use indicatif_text::columns::{Metrics, Refusal, wrapped};
-use std::alloc::Global;
 use std::convert::AsStr;
 
 /// What a frame shows: how many lines and rows of which bars.
@@ -76,19 +72,6 @@ pub struct Laid {
 }
 
 impl Laid {
-    /// Nothing yet. It takes no memory.
-    pub fn none(alloc: Global) -> Laid
-        ensures { IsNoneLaid result }
-    {
-        Laid {
-            plan: Plan::none(),
-            blanks: 0,
-            at: 0,
-            changed: Vec::new(alloc),
-            more: Vec::new(alloc),
-        }
-    }
-
     /// Whether a new line leaves colours open.
     pub fn leaves_open(&self) -> bool {
         for line in &self.changed {
@@ -119,69 +102,37 @@ pub struct Asked<'a> {
     pub bottom: bool,
     /// Whether each line is written as a whole, also where it stands already.
     pub whole: bool,
-    /// The lines that are remembered of the terminal, how many blank ones are the first live ones, and how many rows are taken back.
-    pub shown: &'a Remembered,
+    /// How many blank lines are the first live ones, and how many rows are taken back for the bars.
     pub blanks: usize,
     pub taken: usize,
 }
 
-/// A terminal's window, and a text measured for it: its rows, and how many columns its last line takes of its last row; both 0 where there
-/// is no text.
-#[derive(Clone, Copy, Drop)]
-pub struct Planned {
-    pub window: Window,
-    pub text: Metrics,
-}
-
-/// Measures what is to be written on a terminal: a text that is logged, if any is, and a frame, beside the lines that are remembered of the
-/// terminal, unless the text comes above it. New texts stand in spare room; none is taken where the frame stands as it is.
-#[inline(always)]
-pub fn plan_drawing<T: TermLike>(
-    term: &T,
+/// Lays a frame out for a terminal's window, beside the lines that are remembered of the terminal. New lines stand in spare room, which is kept
+/// where they are refused.
+pub fn plan_drawing(
+    shown: &Remembered,
     spare: &mut Spare,
     laid: &mut Laid,
-    text: Option<&str>,
-    asked: Asked<'_>,
-) -> Result<Planned, Refusal>
+    asked: &Asked<'_>,
+    window: Window,
+) -> Result<(), Refusal>
     requires { IsNoneLaid laid.old }
-    ensures planned { PlannedFor (T.view term.now) asked.entry.pass asked.entry.bottom (text_above text.entry) asked.entry.frame.now asked.entry.taken asked.entry.shown.now laid.new result }
-    ensures memory { result ≡ Err Refusal.Memory →
-        (0 < (T.view term.now).columns) × (0 < length (all_lines (map bar_lines asked.entry.frame.now))) }
+    ensures planned { PlannedFor window.columns window.rows asked.now.pass asked.now.bottom asked.now.frame.now asked.now.taken shown.now laid.new result }
+    ensures whole { IfOk result (λ _. IsTrue asked.now.whole → laid.new.at ≡ 0) }
+    ensures memory { result ≡ Err Refusal.Memory → 0 < length (all_lines (map bar_lines asked.now.frame.now)) }
 {
-    let window = Window::of(term)?;
-    let metrics = metrics_above(text, window)?;
-    let beside = beside_of(text, asked, window);
-    let free = Asked {
-        taken: asked.taken.saturating_sub(metrics.height),
-        ..asked
-    };
-    lay_out(spare, laid, &beside, &free, window)?;
-    Ok(Planned {
-        window,
-        text: metrics,
-    })
-}
-
-/// What stands beside a frame; nothing where a text comes above it, or each line is written as a whole.
-fn beside_of<'a>(text: Option<&str>, asked: Asked<'a>, window: Window) -> Beside<'a>
-    ensures right { AreLines window.columns result.lines.now }
-    ensures blank { AreBlank result.blanks result.lines.now }
-    ensures live { (result.lines.now ≡ []) ⊎ ((asked.entry.shown.now.width ≡ window.columns) × (result.lines.now ≡ live_lines asked.entry.shown.now)) }
-    ensures nothing { 0 < length (text_above text.entry) → result.lines.now ≡ [] }
-    ensures known { AreLines window.columns result.known.now }
-{
-    let beside = asked.shown.beside(window.columns, asked.blanks);
-    if asked.whole {
-        return beside.whole();
-    }
-    match text {
-        Some(_) => beside.whole(),
-        None => beside,
+    let beside = shown.beside(window.columns, asked.blanks, asked.whole);
+    match lay_out(spare, laid, &beside, asked, window) {
+        Ok(()) => Ok(()),
+        Err(e) => {
+            spare.store_laid(laid);
+            Err(e)
+        }
     }
 }
 
-/// Lays a frame out beside some lines, below blank ones. All is done at once where each member stands as it is.
-#[inline(always)]
+/// Lays a frame out beside some lines, below blank ones. Where other blank lines stand then, or a new line leaves colours open, which go on in
+/// the lines below it, it is laid out anew, with nothing beside it.
 fn lay_out(
     spare: &mut Spare,
     laid: &mut Laid,
@@ -193,119 +144,6 @@ fn lay_out(
     requires standing { AreLines window.columns beside.now.lines.now }
     requires known { AreLines window.columns beside.now.known.now }
     requires blank { AreBlank beside.now.blanks beside.now.lines.now }
-    ensures laid { FrameLaid window.columns window.rows asked.now.pass beside.now.lines.now asked.now.frame.now laid.new result }
-    ensures blanks { IfOk result (λ _. AreBlanksFor asked.now.bottom asked.now.taken laid.new) }
-    ensures memory { result ≡ Err Refusal.Memory → 0 < length (all_lines (map bar_lines asked.now.frame.now)) }
-{
-    let members = pass_front(laid, beside, asked, window);
-    if members == asked.frame.len()
-        && laid.blanks == blanks_of(asked.bottom, asked.taken, laid.plan.rows)
-    {
-        return Ok(());
-    }
-    let mut rest = *beside;
-    rest.members = members;
-    lay_rest(spare, laid, &rest, asked, window)
-}
-
-/// Passes those members from the front that stand as they are, below blank ones, and says how many they are. None is, if some are dropped.
-#[inline(never)]
-fn pass_front(laid: &mut Laid, beside: &Beside<'_>, asked: &Asked<'_>, window: Window) -> usize
-    requires none { IsNoneLaid laid.old }
-    requires standing { AreLines window.columns beside.now.lines.now }
-    requires blank { AreBlank beside.now.blanks beside.now.lines.now }
-    ensures front { IsFrontLaid window.columns window.rows asked.now.pass result beside.now.lines.now asked.now.frame.now laid.new }
-    ensures none { (laid.new.changed.items ≡ []) × (laid.new.more.items ≡ []) }
-{
-    laid.blanks = beside.blanks;
-    laid.at = beside.blanks;
-    if asked.pass > 0 {
-        return 0;
-    }
-    for at in 0..asked.frame.len() {
-        if !pass_member(laid, beside.lines, &asked.frame[at], window) {
-            return at;
-        }
-    }
-    asked.frame.len()
-}
-
-/// Passes one member, if all its lines stand as they are; and says whether they do.
-fn pass_member(laid: &mut Laid, standing: &[StandingLine], member: &Segment, window: Window) -> bool
-    requires summed { IsSummed window.rows laid.old.plan }
-    requires standing { AreLines window.columns standing.now }
-    requires beside { (laid.old.at ≤ length standing.now) × (laid.old.more.items ≡ []) × (laid.old.plan.full ≡ false) }
-    ensures passed { IsTrue result → IsLaidOn window.columns window.rows standing.now (map line_text member.now.lines.items) (bar_lines member.now).lines
-        (lines_of window.columns (bar_lines member.now ∷ [])) laid.old laid.new }
-    ensures new { laid.new ≡ record laid.old { plan = record laid.old.plan { rows = laid.new.plan.rows; lines = laid.new.plan.lines }; at = laid.new.at } }
-    ensures left { IsFalse result → laid.new ≡ laid.old }
-{
-    let count = member.lines.len();
-    if standing.len() - laid.at < count {
-        return false;
-    }
-    let mut rows = laid.plan.rows;
-    for at in 0..count {
-        let line = &standing[laid.at + at];
-        let own = OwnLine {
-            bar: member.bar,
-            text: member.lines[at].as_str(),
-        };
-        if !stands_as(line, own, window.rows - rows) {
-            return false;
-        }
-        rows += line.rows;
-    }
-    laid.plan.rows = rows;
-    laid.plan.lines += count;
-    laid.at += count;
-    true
-}
-
-/// Whether a line stands as this one of a bar, in so many rows at most.
-fn stands_as(line: &StandingLine, own: OwnLine<'_>, rows: usize) -> bool
-    ensures { IsTrue result → (line.now.bar ≡ own.entry.bar) × (line.now.rows ≤ rows) × (string_bytes line.now.text ≡ own.entry.text.now) }
-{
-    line.bar == own.bar && line.rows <= rows && line.text.as_str() == own.text
-}
-
-/// Lays out the members behind those that stand as they are, in spare room, which is kept where it is refused.
-#[inline(never)]
-fn lay_rest(
-    spare: &mut Spare,
-    laid: &mut Laid,
-    beside: &Beside<'_>,
-    asked: &Asked<'_>,
-    window: Window,
-) -> Result<(), Refusal>
-    requires front { IsFrontLaid window.columns window.rows asked.now.pass beside.now.members beside.now.lines.now asked.now.frame.now laid.old }
-    requires standing { AreLines window.columns beside.now.lines.now }
-    requires known { AreLines window.columns beside.now.known.now }
-    requires none { (laid.old.changed.items ≡ []) × (laid.old.more.items ≡ []) }
-    ensures laid { FrameLaid window.columns window.rows asked.now.pass beside.now.lines.now asked.now.frame.now laid.new result }
-    ensures blanks { IfOk result (λ _. AreBlanksFor asked.now.bottom asked.now.taken laid.new) }
-    ensures memory { result ≡ Err Refusal.Memory → 0 < length (all_lines (map bar_lines asked.now.frame.now)) }
-{
-    spare.lend(laid);
-    if let Err(e) = lay_below_blanks(spare, laid, beside, asked, window) {
-        spare.store_laid(laid);
-        return Err(e);
-    }
-    Ok(())
-}
-
-/// Lays out the members behind those that stand as they are. Where other blank lines stand, or a new line leaves colours open, which go on in
-/// the lines below it, the frame is laid out anew, with nothing beside it.
-fn lay_below_blanks(
-    spare: &mut Spare,
-    laid: &mut Laid,
-    beside: &Beside<'_>,
-    asked: &Asked<'_>,
-    window: Window,
-) -> Result<(), Refusal>
-    requires front { IsFrontLaid window.columns window.rows asked.now.pass beside.now.members beside.now.lines.now asked.now.frame.now laid.old }
-    requires standing { AreLines window.columns beside.now.lines.now }
-    requires known { AreLines window.columns beside.now.known.now }
     ensures laid { FrameLaid window.columns window.rows asked.now.pass beside.now.lines.now asked.now.frame.now laid.new result }
     ensures blanks { IfOk result (λ _. AreBlanksFor asked.now.bottom asked.now.taken laid.new) }
     ensures memory { result ≡ Err Refusal.Memory → 0 < length (all_lines (map bar_lines asked.now.frame.now)) }
@@ -338,7 +176,7 @@ fn beside_nothing(
     lay_frame(spare, laid, &Beside::nothing(), asked, window)
 }
 
-/// Lays out the members of a frame behind those that stand as they are, in spare room.
+/// Lays out the members of a frame beside some lines, below as many blank ones as stand there.
 fn lay_frame(
     spare: &mut Spare,
     laid: &mut Laid,
@@ -346,15 +184,19 @@ fn lay_frame(
     asked: &Asked<'_>,
     window: Window,
 ) -> Result<(), Refusal>
-    requires front { IsFrontLaid window.columns window.rows asked.now.pass beside.now.members beside.now.lines.now asked.now.frame.now laid.old }
+    requires none { IsNoneLaid laid.old }
     requires standing { AreLines window.columns beside.now.lines.now }
     requires known { AreLines window.columns beside.now.known.now }
+    requires blank { AreBlank beside.now.blanks beside.now.lines.now }
     ensures laid { FrameLaid window.columns window.rows asked.now.pass beside.now.lines.now asked.now.frame.now laid.new result }
-    ensures blanks { IfOk result (λ _. laid.new.blanks ≡ laid.old.blanks) }
+    ensures blanks { IfOk result (λ _. laid.new.blanks ≡ beside.now.blanks) }
     ensures memory { result ≡ Err Refusal.Memory → 0 < length (all_lines (map bar_lines asked.now.frame.now)) }
 {
-    for at in beside.members..asked.frame.len() {
-        lay_member(laid, spare, beside, &asked.frame[at], window)?;
+    laid.blanks = beside.blanks;
+    laid.at = beside.blanks;
+    let frame = asked.frame;
+    for at in 0..frame.len() {
+        lay_member(laid, spare, beside, &frame[at], window)?;
         if at < asked.pass {
             laid.plan.passing = laid.plan.lines;
         }
@@ -397,8 +239,8 @@ pub struct OwnLine<'a> {
     pub text: &'a str,
 }
 
-/// Lays out one more line of a bar: where it stands already; or as a new one, in the place of the one that stands there, if it has as many
-/// rows, else below.
+/// Lays out one more line of a bar: where it stands already, or as a new one.
+#[inline(always)]
 fn lay_line(
     laid: &mut Laid,
     spare: &mut Spare,
@@ -412,14 +254,32 @@ fn lay_line(
     ensures laid { LineLaidOn window.columns window.rows beside.now.lines.now own.entry laid.old laid.new result }
 {
     let Some(line) = next_beside(laid, beside.lines, own.bar, window) else {
-        let turn = measure_beside(beside.known, laid.plan.lines, own.text, window)?;
-        return lay_below(laid, spare, own, turn, window);
+        return lay_new(laid, spare, beside.known, own, window);
     };
     if line.text.as_str() == own.text {
         go_on(laid, line.rows);
         return Ok(());
     }
-    let waits = laid.at + 1 == beside.lines.len();
+    lay_changed(laid, spare, beside.lines, own, window)
+}
+
+/// Lays out one more line in the place of the one that stands there, if it has as many rows, else below.
+#[inline(never)]
+fn lay_changed(
+    laid: &mut Laid,
+    spare: &mut Spare,
+    standing: &[StandingLine],
+    own: OwnLine<'_>,
+    window: Window,
+) -> Result<(), Refusal>
+    requires summed { IsSummed window.rows laid.old.plan }
+    requires standing { AreLines window.columns standing.now }
+    requires within { laid.old.at < length standing.now }
+    requires beside { (x : StandingLine) × IsBeside window.rows standing.now laid.old own.bar x }
+    ensures laid { LineLaidOn window.columns window.rows standing.now own.entry laid.old laid.new result }
+{
+    let line = &standing[laid.at];
+    let waits = laid.at + 1 == standing.len();
     let turn = compare(line, own.text, window, waits)?;
     if turn.rows != line.rows {
         return lay_below(laid, spare, own, turn, window);
@@ -433,6 +293,23 @@ fn lay_line(
     laid.changed.push(new)?;
     go_on(laid, turn.rows);
     Ok(())
+}
+
+/// Lays out one more line that is written as a whole, below those that keep their rows.
+#[inline(never)]
+fn lay_new(
+    laid: &mut Laid,
+    spare: &mut Spare,
+    known: &[StandingLine],
+    own: OwnLine<'_>,
+    window: Window,
+) -> Result<(), Refusal>
+    requires summed { IsSummed window.rows laid.old.plan }
+    requires known { AreLines window.columns known.now }
+    ensures laid { (on : List StandingLine) → LineLaidOn window.columns window.rows on own.entry laid.old laid.new result }
+{
+    let turn = measure_beside(known, laid.plan.lines, own.text, window)?;
+    lay_below(laid, spare, own, turn, window)
 }
 
 /// What becomes of the rows of a line that is written as a whole. It isn't measured where the line that is remembered at its place has its text.
@@ -594,24 +471,8 @@ pub fn metrics_of(line: &str, window: Window) -> Result<Metrics, Refusal>
     wrapped(line, window.columns)
 }
 
-/// The rows of a logged text, and how many columns its last line takes of its last row; 0 of each without a text.
-#[inline(always)]
-fn metrics_above(text: Option<&str>, window: Window) -> Result<Metrics, Refusal>
-    ensures measured { MeasuredText window.columns (text_above text.entry) result }
-    ensures no_memory { result ≢ Err Refusal.Memory }
-{
-    match text {
-        Some(text) => metrics_of_text(text, window),
-        None => Ok(Metrics {
-            height: 0,
-            last_line_width: 0,
-        }),
-    }
-}
-
 /// The rows of the lines of a logged text, or 2^64 - 1 if there are more, and how many columns the last line takes of its last row.
-#[inline(never)]
-fn metrics_of_text(text: &str, window: Window) -> Result<Metrics, Refusal>
+pub fn metrics_of_text(text: &str, window: Window) -> Result<Metrics, Refusal>
     ensures measured { MeasuredText window.columns (logged_lines text.now) result }
     ensures no_memory { result ≢ Err Refusal.Memory }
 {

@@ -1,5 +1,5 @@
 //! The lines that an engine remembers, so that it writes only those that change.
-ghost use Rattle.std.specs.Prelude.{◌≡◌, ◌⊎◌, ◌+◌, ◌-◌, ◌^◌, ◌<◌, ◌≤◌, ◌==◌, ◌++◌, [], ℕ, List, take, drop, length, if◌then◌else◌, IfOk, IfErr};
+ghost use Rattle.std.specs.Prelude.{◌≡◌, ◌⊎◌, ◌+◌, ◌-◌, ◌^◌, ◌<◌, ◌≤◌, ◌==◌, ◌++◌, [], ℕ, List, take, drop, length, if◌then◌else◌, IsTrue, IfOk, IfErr};
 ghost use Rattle.indicatif_term.specs.Standing.{AreLines};
 
 use crate::engine::beside::{Beside, put_new};
@@ -185,15 +185,16 @@ impl Remembered {
     }
 
     /// The remembered lines of the live rows of a terminal of `width` columns, of which the first `blanks` are blank; none if they aren't
-    /// known.
-    pub fn beside(&self, width: usize, blanks: usize) -> Beside<'_>
+    /// known. None keeps its rows in a drawing that writes each line as a whole.
+    pub fn beside(&self, width: usize, blanks: usize, whole: bool) -> Beside<'_>
         ensures right { 0 < width → AreLines width result.lines.now }
         ensures blank { AreBlank result.blanks result.lines.now }
         ensures live { (result.lines.now ≡ []) ⊎ ((self.now.width ≡ width) × (result.lines.now ≡ live_lines self.now)) }
         ensures known { 0 < width → AreLines width result.known.now }
+        ensures whole { IsTrue whole → result.lines.now ≡ [] }
     {
         if self.width == width {
-            Beside::of(self.live(), blanks)
+            Beside::of(self.live(), blanks, whole)
         } else {
             Beside::nothing()
         }

@@ -7,7 +7,7 @@ use crate::engine::remembered::{Span, StandingLine};
 use indicatif_text::columns::Refusal;
 use std::alloc::Global;
 use std::marker::Model;
-use std::mem::swap;
+use std::mem::{replace, swap};
 
 /// Room for the next lines and texts, so that a drawing takes none anew. Contracts see nothing of it.
 pub struct Spare {
@@ -47,28 +47,20 @@ impl Spare {
         }
     }
 
-    /// Lends the spare room for lines that there is to a frame that has none.
-    pub fn lend(&mut self, laid: &mut Laid)
-        ensures same { laid.new ≡ record laid.old { changed = laid.new.changed; more = laid.new.more } }
-        ensures none { (laid.new.changed.items ≡ []) × (laid.new.more.items ≡ []) }
+    /// Lends the spare room for lines that there is to a frame of which nothing is laid out yet.
+    pub fn lend(&mut self) -> Laid
+        ensures { IsNoneLaid result }
     {
-        swap(&mut self.changed, &mut laid.changed);
-        swap(&mut self.lines, &mut laid.more);
+        let mut laid = Laid {
+            plan: Plan::none(),
+            blanks: 0,
+            at: 0,
+            changed: replace(&mut self.changed, Vec::new(self.alloc)),
+            more: replace(&mut self.lines, Vec::new(self.alloc)),
+        };
         laid.changed.clear();
         laid.more.clear();
-    }
-
-    /// Takes spare room for a text.
-    pub fn take_text(&mut self) -> String
-        ensures { string_bytes result ≡ [] }
-    {
-        match self.texts.pop() {
-            Some(mut text) => {
-                text.clear();
-                text
-            }
-            None => String::new(self.alloc),
-        }
+        laid
     }
 
     /// A text in spare room. Refused: `Memory`.
@@ -76,7 +68,8 @@ impl Spare {
         ensures text { IfOk result (λ own. string_bytes own ≡ text.now) }
         ensures memory { IfErr result (λ e. e ≡ Refusal.Memory) }
     {
-        let mut own = self.take_text();
+        let mut own = self.texts.pop().unwrap_or(self.no_text());
+        own.clear();
         own.push_str(text)?;
         Ok(own)
     }
@@ -115,9 +108,11 @@ impl Spare {
         }
     }
 
-    /// Keeps as spare the room of a text that is no more, if there is room for that.
+    /// Keeps as spare the room of a text that is no more, if it has any and there is room for that.
     pub fn store_text(&mut self, text: String) {
-        let _ = self.texts.push(text);
+        if text.capacity() > 0 {
+            let _ = self.texts.push(text);
+        }
     }
 
     /// Keeps as spare the room of both texts of a line.
@@ -131,9 +126,7 @@ impl Spare {
             narrow: _,
             step: _,
         } = line;
-        if before.capacity() > 0 {
-            self.store_text(before);
-        }
+        self.store_text(before);
         self.store_text(text);
     }
 

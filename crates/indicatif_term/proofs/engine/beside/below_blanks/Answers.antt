@@ -16,10 +16,10 @@ loop-init c = record { blanks = []; are = no_blanks_yet; more = sym (append-nil 
 pub loop-preserved : goal.loop-preserved
 loop-preserved c =
     let i = c.loop.invariant in
-    let x : StandingLine = record { bar = 0; text = c.take_text.result; before = c.no_text.result; rows = 1; last = 0; narrow = true; step = Whole } in
+    let x : StandingLine = record { bar = 0; text = c.no_text.result; before = c.no_text-in-loop.result; rows = 1; last = 0; narrow = true; step = Whole } in
     record {
       blanks = i.blanks ++ x ∷ [];
-      are = one_blank_more c.loop.counter i.blanks x i.are c.take_text.ensures refl refl refl refl;
+      are = one_blank_more c.loop.counter i.blanks x i.are c.no_text.ensures refl refl refl refl;
       more = c.in_ok-push.ensures.items ∙ ap (λ ys. ys ++ x ∷ []) i.more ∙ append_assoc c.args.laid.now.more.items i.blanks (x ∷ []);
       plan = i.plan;
       at = i.at;

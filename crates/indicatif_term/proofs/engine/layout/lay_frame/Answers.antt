@@ -1,4 +1,4 @@
-use Rattle.std.proofs.Common.{arith, ◌+◌, ◌≡◌, ◌∙◌, refl, sym, ap, Err, map, take, length}
+use Rattle.std.proofs.Common.{arith, ◌+◌, ◌≡◌, ◌∙◌, [], refl, sym, ap, Err, map, take, length}
 use Rattle.std.proofs.lemmas.Result.{err_from_is_err_and}
 use Rattle.std.proofs.lemmas.List.{take_all}
 use Rattle.indicatif_text.specs.declared.refusal.Refusal.TheVariants.{Memory}
@@ -13,13 +13,26 @@ use Rattle.indicatif_term.specs.Inside.Layouts.{own_lines, IsLaid}
 use Rattle.indicatif_term.specs.declared.engine.layout.Plan.{Plan}
 use Rattle.indicatif_term.proofs.OwnedLemmas.{first_within}
 use Rattle.indicatif_term.proofs.ShownRowLemmas.{frame_step}
-use Rattle.indicatif_term.proofs.LayoutLemmas.{still_summed, lines_step, narrow_step, frame_refused, some_line, passing_now, passing_same, passing_all, passing_height, planned, still_laid}
-use Rattle.indicatif_term.proofs.LaidLemmas.{laid_as, laid_still, own_laid, own_count}
+use Rattle.indicatif_term.proofs.LayoutLemmas.{nothing_laid, nothing_passes, no_bars, still_summed, lines_step, narrow_step, frame_refused, some_line, passing_now, passing_same, passing_all, passing_height, planned, still_laid}
+use Rattle.indicatif_term.proofs.LaidLemmas.{laid_none, laid_as, laid_still, own_laid, own_count}
 use Rattle.indicatif_term.proofs.engine.layout.lay_frame.Goals as goal
 use Rattle.indicatif_term.proofs.engine.layout.lay_frame.Goals.{then-at-asked, else-at-asked}
 
 pub loop-at-init : goal.loop-at-init
-loop-at-init c = let f = c.requires.front in record { within = f.within; summed = f.summed; blanks_are = refl; narrow = f.narrow; passing = f.passing; laid = f.laid }
+loop-at-init c =
+    let w = c.args.window.columns in
+    let h = c.args.window.rows in
+    let frame = c.args.asked.now.frame.now in
+    let n = c.requires.none in
+    record {
+      within = omega arith;
+      summed = (nothing_laid h c.args.laid.now.plan n.plan_is).0;
+      blanks_are = refl;
+      narrow = refl;
+      passing = ap (λ (q : Plan). q.passing) n.plan_is ∙ nothing_passes w h c.args.asked.now.pass frame;
+      laid = laid_as w h c.args.beside.now.lines.now [] [] [] _ _ refl (sym (no_bars w))
+          (laid_none w h c.args.beside.now.lines.now _ c.requires.blank refl n.plan_is n.none_changed n.none_more);
+    }
 
 pub lay_member-requires-clause-summed : goal.lay_member-requires-clause-summed
 lay_member-requires-clause-summed c = c.loop-at.invariant.summed
@@ -27,14 +40,14 @@ lay_member-requires-clause-summed c = c.loop-at.invariant.summed
 pub returns-in_err-lay_member-clause-laid : goal.returns-in_err-lay_member-clause-laid
 returns-in_err-lay_member-clause-laid c =
     let x = err_from_is_err_and c.from_residual.result c.from_residual.ensures.1 in
-    rw (x.1 ∙ ap Err x.2) (frame_refused c.args.window.columns c.args.asked.now.frame.now c.loop-at.at c.index-asked-at.result (omega arith)
-    (sym c.index-asked-at.is) c.in_err-lay_member.field-0.0 (rw (← c.index-asked-at.is) at c.in_err-lay_member.ensures.laid))
+    rw (x.1 ∙ ap Err x.2) (frame_refused c.args.window.columns c.args.asked.now.frame.now c.loop-at.at c.index-frame-at.result (omega arith)
+    (sym c.index-frame-at.is) c.in_err-lay_member.field-0.0 c.in_err-lay_member.ensures.laid)
 
 pub returns-in_err-lay_member-clause-memory : goal.returns-in_err-lay_member-clause-memory
 returns-in_err-lay_member-clause-memory c = λ e.
     let x = err_from_is_err_and c.from_residual.result c.from_residual.ensures.1 in
     let same : c.in_err-lay_member.field-0.0 ≡ Memory = cc (sym (x.1 ∙ ap Err x.2) ∙ e) in
-    some_line c.args.asked.now.frame.now c.loop-at.at c.index-asked-at.result (omega arith) (sym c.index-asked-at.is) (rw (← c.index-asked-at.is) at (c.in_err-lay_member.ensures.memory (ap Err same)))
+    some_line c.args.asked.now.frame.now c.loop-at.at c.index-frame-at.result (omega arith) (sym c.index-frame-at.is) (c.in_err-lay_member.ensures.memory (ap Err same))
 
 pub loop-at-preserved : goal.loop-at-preserved
 loop-at-preserved c =
@@ -42,15 +55,15 @@ loop-at-preserved c =
     let h = c.args.window.rows in
     let frame = c.args.asked.now.frame.now in
     let i = c.loop-at.at in
-    let s = c.index-asked-at.result in
+    let s = c.index-frame-at.result in
     let l = c.lay_member.new.laid in
     let p = l.plan in
     let on = c.args.beside.now.lines.now in
     let old = c.loop-at.invariant in
-    let one = rw (← c.index-asked-at.is) at c.in_ok-lay_member.ensures.laid in
-    let narrow = narrow_step w frame i s (omega arith) (sym c.index-asked-at.is) old.narrow one.narrow in
+    let one = c.in_ok-lay_member.ensures.laid in
+    let narrow = narrow_step w frame i s (omega arith) (sym c.index-frame-at.is) old.narrow one.narrow in
     let laid : IsLaid w h on (frame_lines (take (i + 1) frame)) (lines_of w (map bar_lines (take (i + 1) frame))) l =
-    laid_as w h on _ _ _ _ l (sym (frame_step frame i s (omega arith) (sym c.index-asked-at.is))) (lines_step w frame i s (omega arith) (sym c.index-asked-at.is)) (one.laid _ _ old.laid) in
+    laid_as w h on _ _ _ _ l (sym (frame_step frame i s (omega arith) (sym c.index-frame-at.is))) (lines_step w frame i s (omega arith) (sym c.index-frame-at.is)) (one.laid _ _ old.laid) in
     let blanks = one.blanks_same ∙ old.blanks_are in
     elim c.if-at-asked.branch [
       | then-at-asked q ↦ rw q.laid-is (record {

@@ -9,7 +9,7 @@ abbrev pub invariant-loop-at : goal.invariant-loop-at
 invariant-loop-at l = record {
   within : l.at ≤ length l.asked.frame.now;
   summed : IsSummed l.window.rows l.laid.plan;
-  blanks_are : l.laid.blanks ≡ l.fn.laid.blanks;
+  blanks_are : l.laid.blanks ≡ l.beside.blanks;
   narrow : some_wide l.window.columns (all_lines (map bar_lines (take l.at l.asked.frame.now))) ≡ false;
   passing : l.laid.plan.passing ≡ passing_of l.window.columns l.window.rows l.asked.pass l.at l.asked.frame.now;
   laid : IsLaid l.window.columns l.window.rows l.beside.lines.now (frame_lines (take l.at l.asked.frame.now))
