@@ -1,5 +1,5 @@
 -- What a style is made of at first, and what its builders refuse.
-use Rattle.std.proofs.Common.{map, ◌≡◌, ◌≢◌, ◌⊎◌, inl, inr, ℕ, ◌≤◌, ◌<◌, List, refl, ◌∙◌, ap, length, arith}
+use Rattle.std.proofs.Common.{map, ◌≡◌, ◌≢◌, ◌⊎◌, inl, inr, ℕ, ◌≤◌, ◌<◌, List, refl, ◌∙◌, sym, ap, length, arith}
 use Rattle.std.specs.Str.{chars}
 use Rattle.indicatif_text.specs.Columns.{visible}
 use Rattle.unicode_width.proofs.Computing.{unicode_width}
@@ -44,5 +44,8 @@ many_ticks = omega (arith, thirty)
 pub many_clusters : 2 ≤ length (map (λ text. text.now) CLUSTERS)
 many_clusters = omega (arith, ap length clusters_are)
 
+pub first_columns : 1 ≡ text_columns (cluster (map (λ text. text.now) CLUSTERS) 0)
+first_columns = sym (ap (λ ts. text_columns (cluster ts 0)) clusters_are ∙ one_column)
+
 pub wide_cluster : 0 < text_columns (cluster (map (λ text. text.now) CLUSTERS) 0)
-wide_cluster = omega (arith, ap (λ ts. text_columns (cluster ts 0)) clusters_are ∙ one_column)
+wide_cluster = omega (arith, first_columns)

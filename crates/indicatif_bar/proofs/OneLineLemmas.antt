@@ -1,5 +1,5 @@
--- One line with fillers: the columns that it leaves free, and what stands there with a bar in the place of each filler.
-use Rattle.std.proofs.Common.{◌≡◌, ℕ, ◌-◌, Bool, true, false, List, [], ◌∷◌, ◌++◌, ◌∙◌, ap, arith, drop, Some, None, if◌then◌else◌}
+-- One line with fillers: its columns, and what stands there with a bar in the place of each filler.
+use Rattle.std.proofs.Common.{◌≡◌, ℕ, Bool, true, false, List, [], ◌∷◌, ◌++◌, ◌∙◌, ap, arith, drop, Some, None, if◌then◌else◌}
 use Rattle.std.specs.Prelude.{◌==◌, find, unwrap_or}
 use Rattle.std.specs.Option.{option_map_or}
 use Rattle.std.specs.List.{list_any, slice_get, slice_split, AllByRecursion}
@@ -17,11 +17,12 @@ use Rattle.indicatif_bar.proofs.ScanLemmas.{whole}
 use Rattle.indicatif_bar.proofs.BarWidthLemmas.{takes_bar}
 use Rattle.indicatif_bar.proofs.WideBarLemmas.{filler_columns, takes_without, strange_newline}
 
--- the columns that one line with a filler leaves free
-pub left_of_line : (columns : ℕ) (line : List ℕ) → list_any is_newline line ≡ false → list_any is_filler line ≡ true → columns_left columns line ≡ columns - text_columns line
-left_of_line columns line one has =
-    ap (λ ls. columns - option_map_or text_columns (find (list_any is_filler) ls) 0) (whole 0x0A line one)
-    ∙ ap (λ b. columns - option_map_or text_columns (if b then Some line else None) 0) has
+-- the columns of one line with a filler
+pub columns_of_line : (line : List ℕ) → list_any is_newline line ≡ false → list_any is_filler line ≡ true
+    → option_map_or text_columns (find (list_any is_filler) (slice_split is_newline line)) 0 ≡ text_columns line
+columns_of_line line one has =
+    ap (λ ls. option_map_or text_columns (find (list_any is_filler) ls) 0) (whole 0x0A line one)
+    ∙ ap (λ b. option_map_or text_columns (if b then Some line else None) 0) has
 
 -- a filler at the front of a text
 abbrev begins_with_filler : List ℕ → Bool

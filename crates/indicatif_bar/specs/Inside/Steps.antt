@@ -67,8 +67,8 @@ wide_source layout _ = None
 
 -- the wide placeholder of a value
 abbrev pub wide_found : WideKey → Wide
-wide_found (wide_key.Bar placeholder) = WideBarOf (placeholder_layout placeholder)
-wide_found (wide_key.Message placeholder) = WideMessageOf (placeholder_layout placeholder)
+wide_found (wide_key.Bar placeholder) = WideBarOf (placeholder_layout placeholder.now)
+wide_found (wide_key.Message placeholder) = WideMessageOf (placeholder_layout placeholder.now)
 
 module _ {K : Type 0} (m : Tracking K) (style : BarStyle K) (p : Progress) (now : ℕ) where
   -- the text from a source

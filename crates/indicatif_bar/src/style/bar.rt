@@ -1,36 +1,19 @@
 //! A bar of clusters.
-ghost use Rattle.std.specs.Prelude.{◌≡◌, ◌<◌, ◌≤◌, ◌++◌, ◌*◌, ◌/◌, ◌%◌, nat_lt, string_bytes, length, OnOk, IfOk, IfErr, IfSome, [], MatchOption};
-ghost use Rattle.indicatif_text.specs.StyleWords.{numbers_of, opening_of};
-ghost use Rattle.indicatif_bar.specs.Layout.{text_columns, cluster, bar_text};
+ghost use Rattle.std.specs.Prelude.{◌≡◌, ◌<◌, ◌≤◌, ◌++◌, ◌*◌, ◌/◌, ◌%◌, string_bytes, length, OnOk, IfOk, IfErr, IfSome, [], unwrap_or};
+ghost use Rattle.indicatif_bar.specs.Progress.{fraction};
+ghost use Rattle.indicatif_bar.specs.Layout.{bar_text};
 ghost use Rattle.indicatif_bar.specs.Inside.Bars.{shade_of, begun_text, cells_left};
+ghost use Rattle.indicatif_bar.specs.Inside.Steps.{placeholder_layout};
 ghost use Rattle.indicatif_bar.specs.Inside.Texts.{texts_in};
 
 use crate::measures::Fraction;
+use crate::progress::ProgressState;
+use crate::style::ProgressStyle;
 use crate::style::padding::push_times;
+use crate::style::steps::{Placeholder, open_style};
 use crate::style::texts::Texts;
-use indicatif_text::columns::{Refusal, Style, columns};
-
-/// How the rest of a bar is styled, if colours are on.
-#[derive(Clone, Copy, Drop)]
-pub(crate) struct RestLook {
-    pub(crate) colours: bool,
-    pub(crate) style: Style,
-}
-
-impl RestLook {
-    /// Appends the sequences that stand before the rest, and returns whether there are any. The style isn't used if colours are off.
-    #[inline(always)]
-    fn open(self, out: &mut String) -> Result<bool, Refusal>
-        ensures bytes { OnOk result (string_bytes out.new ≡ string_bytes out.old ++ opening_of self.colours (numbers_of self.style)) }
-        ensures some { IfOk result (λ some. some ≡ nat_lt 0 (length (opening_of self.colours (numbers_of self.style)))) }
-        ensures memory { IfErr result (λ e. e ≡ Refusal.Memory) }
-    {
-        if !self.colours {
-            return Ok(false);
-        }
-        self.style.open(self.colours, out)
-    }
-}
+use crate::tracker::Tracks;
+use indicatif_text::columns::Refusal;
 
 /// How many of the cells are filled, and the remainder for the next one.
 fn filled(done: Fraction, cells: u64) -> (u64, u64)
@@ -88,29 +71,31 @@ fn push_begun(
     }
 }
 
-/// Appends the cells of a bar of `width` columns.
-pub(crate) fn push_bar(
-    clusters: &Texts,
-    rest: RestLook,
-    done: Fraction,
-    width: u64,
-    out: &mut String,
-) -> Result<(), Refusal>
-    requires clusters { 2 ≤ length (texts_in clusters.now) }
-    requires wide { 0 < text_columns (cluster (texts_in clusters.now) 0) }
-    requires some { 0 < done.den }
-    requires whole { done.num ≤ done.den }
-    ensures text { OnOk result (string_bytes out.new ≡ string_bytes out.old
-        ++ bar_text (texts_in clusters.now) rest.colours (numbers_of rest.style) done width) }
-    ensures memory { IfErr result (λ e. e ≡ Refusal.Memory) }
-{
-    let cells = width / columns(clusters.at(0)) as u64;
-    let left = push_begun(clusters, done, cells, out)?;
-    let some = rest.open(out)?;
-    push_times(clusters.at(clusters.len() - 1), left as usize, out)?;
-    if some {
-        out.push_str("\x1b[0m")?;
-        return Ok(());
+impl<K: Tracks> ProgressStyle<K> {
+    /// Appends a bar of `width` columns in the layout of its placeholder.
+    pub(crate) fn push_bar(
+        &self,
+        placeholder: &Placeholder,
+        state: &ProgressState,
+        width: u64,
+        out: &mut String,
+    ) -> Result<(), Refusal>
+        ensures text { OnOk result (string_bytes out.new ≡ string_bytes out.old
+            ++ bar_text self.now.clusters self.now.colours (unwrap_or (placeholder_layout placeholder.now).alternative []) (fraction state.now) width) }
+        ensures memory { IfErr result (λ e. e ≡ Refusal.Memory) }
+    {
+        let cells = width / self.cell_columns as u64;
+        let left = push_begun(&self.clusters, state.fraction(), cells, out)?;
+        let some = open_style(&placeholder.alternative, self.colours, out)?;
+        push_times(
+            self.clusters.at(self.clusters.len() - 1),
+            left as usize,
+            out,
+        )?;
+        if some {
+            out.push_str("\x1b[0m")?;
+            return Ok(());
+        }
+        Ok(())
     }
-    Ok(())
 }

@@ -16,7 +16,7 @@ use crate::style::texts::Texts;
 use crate::style::{ProgressStyle, clusters};
 use crate::tracker::Tracks;
 use indicatif_term::target::LineType;
-use indicatif_text::columns::{Moment, Refusal};
+use indicatif_text::columns::{Moment, Refusal, columns};
 use indicatif_text::template::Template;
 use std::alloc::Global;
 use std::sync::Arc;
@@ -90,6 +90,7 @@ impl<K: Tracks> ProgressStyle<K> {
             template: Arc::new(alloc, template)?,
             steps,
             clusters: Texts::Fixed(&CLUSTERS),
+            cell_columns: 1,
             tick_strings: Texts::Fixed(&TICK_STRINGS),
             keys,
             colours: false,
@@ -165,6 +166,7 @@ impl<K: Tracks> ProgressStyle<K> {
         if let Some(refusal) = clusters::progress_fault(clusters.as_slice()) {
             return Err(refusal);
         }
+        self.cell_columns = columns(clusters[0].as_str());
         self.clusters = Texts::Own(clusters);
         Ok(self)
     }
@@ -182,6 +184,7 @@ impl<K: Tracks> ProgressStyle<K> {
             template,
             steps: _,
             clusters,
+            cell_columns,
             tick_strings,
             mut keys,
             colours,
@@ -195,6 +198,7 @@ impl<K: Tracks> ProgressStyle<K> {
             template,
             steps,
             clusters,
+            cell_columns,
             tick_strings,
             keys,
             colours,
@@ -225,6 +229,7 @@ impl<K: Tracks> ProgressStyle<K> {
             template: Arc::try_clone(&self.template)?,
             steps,
             clusters: self.clusters.try_clone(self.alloc)?,
+            cell_columns: self.cell_columns,
             tick_strings: self.tick_strings.try_clone(self.alloc)?,
             keys,
             colours: self.colours,

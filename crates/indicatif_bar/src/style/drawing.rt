@@ -6,20 +6,19 @@ ghost use Rattle.indicatif_bar.specs.Bars.{is_bar_line};
 ghost use Rattle.std.specs.Str.{trim_end};
 ghost use Rattle.indicatif_term.specs.Lines.{line_text};
 ghost use Rattle.indicatif_bar.specs.Tabs.{expanded};
-ghost use Rattle.indicatif_bar.specs.Progress.{fraction, shown_message};
-ghost use Rattle.indicatif_bar.specs.Layout.{bar_text, padded};
-ghost use Rattle.indicatif_bar.specs.Styles.{key_text, wide_text, with_fillers_as, lines_with, lines, columns_left, ends_in_filler, is_newline, is_filler, is_empty_style};
+ghost use Rattle.indicatif_bar.specs.Progress.{shown_message};
+ghost use Rattle.indicatif_bar.specs.Layout.{padded};
+ghost use Rattle.indicatif_bar.specs.Styles.{key_text, wide_text, with_fillers_as, lines_with, lines, columns_left, ends_in_filler, is_filler, is_empty_style};
 ghost use Rattle.indicatif_bar.specs.Inside.Steps.{PutsSource, placeholder_layout, source_text, effect_text, wide_found};
 
 use crate::progress::ProgressState;
 use crate::scan::cut_at;
 use crate::spare::SpareLines;
 use crate::style::ProgressStyle;
-use crate::style::bar::{RestLook, push_bar};
-use crate::style::filling::{Gap, has_break, has_filler, push_line, push_lines};
+use crate::style::filling::{Gap, has_filler, push_line, push_lines};
 use crate::style::keys::Key;
 use crate::style::padding::{AtWidth, push_padded};
-use crate::style::steps::{Placeholder, Source, Step, WideKey, literal_at};
+use crate::style::steps::{Placeholder, Source, Step, WideKey, literal_at, open_style};
 use crate::tabs::push_expanded;
 use crate::tracker::Tracks;
 use indicatif_term::target::LineType;
@@ -28,25 +27,6 @@ use indicatif_text::template::{Alignment, Template};
 use std::mem::replace;
 
 impl<K: Tracks> ProgressStyle<K> {
-    /// Appends a bar of `width` columns in the layout of its placeholder.
-    fn push_bar(
-        &self,
-        placeholder: &Placeholder,
-        state: &ProgressState,
-        columns: u64,
-        out: &mut String,
-    ) -> Result<(), Refusal>
-        ensures text { OnOk result (string_bytes out.new ≡ string_bytes out.old
-            ++ bar_text self.now.clusters self.now.colours (unwrap_or (placeholder_layout placeholder.now).alternative []) (fraction state.now) columns) }
-        ensures memory { IfErr result (λ e. e ≡ Refusal.Memory) }
-    {
-        let rest = RestLook {
-            colours: self.colours,
-            style: placeholder.alternative_style(),
-        };
-        push_bar(&self.clusters, rest, state.fraction(), columns, out)
-    }
-
     /// Appends the text of a key in this state.
     fn push_key(
         &self,
@@ -126,11 +106,10 @@ impl<K: Tracks> ProgressStyle<K> {
         ensures memory { IfErr result (λ e. e ≡ Refusal.Memory) }
     {
         match placeholder.source {
-            Source::Tracker(place) => self.push_tracked(place, state, now, spare, out)?,
-            Source::Known(key) => self.push_key(key, placeholder, state, now, out)?,
-            Source::Nothing => {}
+            Source::Tracker(place) => self.push_tracked(place, state, now, spare, out),
+            Source::Known(key) => self.push_key(key, placeholder, state, now, out),
+            Source::Nothing => Ok(()),
         }
-        Ok(())
     }
 
     /// Appends the text of a placeholder at its width, if it has one.
@@ -176,7 +155,7 @@ impl<K: Tracks> ProgressStyle<K> {
             ++ effect_text K.means self.now state.now now (PutsSource placeholder.now.source (placeholder_layout placeholder.now))) }
         ensures memory { IfErr result (λ e. e ≡ Refusal.Memory) }
     {
-        let some = placeholder.open(self.colours, out)?;
+        let some = open_style(&placeholder.style, self.colours, out)?;
         self.push_sized(placeholder, state, now, spare, out)?;
         if some {
             out.push_str("\x1b[0m")?;
@@ -188,7 +167,7 @@ impl<K: Tracks> ProgressStyle<K> {
     /// Appends what replaces each filler of a text with this gap.
     fn push_wide(
         &self,
-        wide: WideKey,
+        wide: WideKey<'_>,
         gap: Gap,
         state: &ProgressState,
         spare: &mut SpareLines,
@@ -196,12 +175,12 @@ impl<K: Tracks> ProgressStyle<K> {
     ) -> Result<(), Refusal>
         ensures text { (columns : ℕ) (text : List ℕ) → gap.columns ≡ columns_left columns text → gap.is_last ≡ ends_in_filler text →
             OnOk result (string_bytes out.new ≡ string_bytes out.old
-            ++ wide_text self.now state.now columns text (wide_found wide)) }
+            ++ wide_text self.now state.now columns text (wide_found wide.entry)) }
         ensures memory { IfErr result (λ e. e ≡ Refusal.Memory) }
     {
         match wide {
             WideKey::Bar(placeholder) => self.push_bar(
-                &placeholder,
+                placeholder,
                 state,
                 gap.columns as u64,
                 out,
@@ -221,7 +200,7 @@ impl<K: Tracks> ProgressStyle<K> {
     fn push_filled(
         &self,
         text: &str,
-        wide: WideKey,
+        wide: WideKey<'_>,
         gap: Gap,
         state: &ProgressState,
         spare: &mut SpareLines,
@@ -229,7 +208,7 @@ impl<K: Tracks> ProgressStyle<K> {
     ) -> Result<(), Refusal>
         ensures text { (columns : ℕ) → gap.columns ≡ columns_left columns text.now → gap.is_last ≡ ends_in_filler text.now →
             OnOk result (string_bytes out.new ≡ string_bytes out.old
-            ++ with_fillers_as (wide_text self.now state.now columns text.now (wide_found wide)) text.now) }
+            ++ with_fillers_as (wide_text self.now state.now columns text.now (wide_found wide.entry)) text.now) }
         ensures memory { IfErr result (λ e. e ≡ Refusal.Memory) }
     {
         let mut rest = text;
@@ -245,14 +224,14 @@ impl<K: Tracks> ProgressStyle<K> {
     /// Appends the lines of a text, by the latest wide key.
     fn push_lines(
         &self,
-        line: Line,
+        line: Line<'_>,
         state: &ProgressState,
         width: u16,
         spare: &mut SpareLines,
         lines: &mut Vec<LineType>,
     ) -> Result<(), Refusal>
         ensures lines { OnOk result (map line_text lines.new.items ≡ map line_text lines.old.items
-            ++ lines_with self.now state.now width (option_map wide_found line.wide) (string_bytes line.text)) }
+            ++ lines_with self.now state.now width (option_map wide_found line.entry.wide) (string_bytes line.entry.text)) }
         ensures kind { IsTrue (list_all is_bar_line lines.old.items) → IsTrue (list_all is_bar_line lines.new.items) }
         ensures memory { IfErr result (λ e. e ≡ Refusal.Memory) }
     {
@@ -265,62 +244,34 @@ impl<K: Tracks> ProgressStyle<K> {
             push_lines(text, spare, lines)?;
             return Ok(());
         }
-        if has_break(text.as_str()) {
-            self.push_all_filled(text.as_str(), wide, state, width, spare, lines)?;
-            spare.store_text(text);
-            return Ok(());
-        }
-        self.push_line_filled(text.as_str(), wide, state, width, spare, lines)?;
+        self.push_all_filled(text.as_str(), wide, state, width, spare, lines)?;
         spare.store_text(text);
         Ok(())
     }
 
-    /// Appends the lines of a text with its fillers replaced.
+    /// Appends the lines of a text with its fillers replaced. Bars in their place leave one line one line.
     fn push_all_filled(
         &self,
         text: &str,
-        wide: WideKey,
+        wide: WideKey<'_>,
         state: &ProgressState,
         width: u16,
         spare: &mut SpareLines,
         lines: &mut Vec<LineType>,
     ) -> Result<(), Refusal>
+        requires has_filler { IsTrue (list_any is_filler text.now) }
         ensures lines { OnOk result (map line_text lines.new.items ≡ map line_text lines.old.items
-            ++ lines_with self.now state.now width (Some (wide_found wide)) text.now) }
+            ++ lines_with self.now state.now width (Some (wide_found wide.entry)) text.now) }
         ensures kind { IsTrue (list_all is_bar_line lines.old.items) → IsTrue (list_all is_bar_line lines.new.items) }
         ensures memory { IfErr result (λ e. e ≡ Refusal.Memory) }
     {
         let gap = Gap::of(text, width);
         let mut filled = spare.text();
         self.push_filled(text, wide, gap, state, spare, &mut filled)?;
-        push_lines(filled, spare, lines)?;
-        Ok(())
-    }
-
-    /// Appends one line with its filler replaced. A bar in its place leaves it one line.
-    fn push_line_filled(
-        &self,
-        text: &str,
-        wide: WideKey,
-        state: &ProgressState,
-        width: u16,
-        spare: &mut SpareLines,
-        lines: &mut Vec<LineType>,
-    ) -> Result<(), Refusal>
-        requires one_line { IsFalse (list_any is_newline text.now) }
-        requires has_filler { IsTrue (list_any is_filler text.now) }
-        ensures lines { OnOk result (map line_text lines.new.items ≡ map line_text lines.old.items
-            ++ lines_with self.now state.now width (Some (wide_found wide)) text.now) }
-        ensures kind { IsTrue (list_all is_bar_line lines.old.items) → IsTrue (list_all is_bar_line lines.new.items) }
-        ensures memory { IfErr result (λ e. e ≡ Refusal.Memory) }
-    {
-        let gap = Gap::of_line(text, width);
-        let mut filled = spare.text();
-        self.push_filled(text, wide, gap, state, spare, &mut filled)?;
         let _read = self.tab;
         match wide {
-            WideKey::Bar(_) => push_line(filled, lines)?,
-            WideKey::Message(_) => push_lines(filled, spare, lines)?,
+            WideKey::Bar(_) if !gap.has_break => push_line(filled, lines)?,
+            WideKey::Bar(_) | WideKey::Message(_) => push_lines(filled, spare, lines)?,
         }
         Ok(())
     }
@@ -338,10 +289,11 @@ impl<K: Tracks> ProgressStyle<K> {
         ensures kind { IfOk result (λ v. IsTrue (list_all is_bar_line v.items)) }
         ensures memory { IfErr result (λ e. (e ≡ Refusal.Memory) × IsFalse (is_empty_style self.now state.now)) }
     {
-        if self.is_empty(state) {
+        let laid = self.laid_out(spare, state, now, width);
+        if laid.is_err() && self.is_empty(state) {
             return Ok(spare.lines());
         }
-        self.laid_out(spare, state, now, width)
+        laid
     }
 
     /// The style's lines, laid out step by step.
@@ -388,15 +340,15 @@ impl<K: Tracks> ProgressStyle<K> {
 
 /// The current line: its text, and the latest wide key.
 #[derive(Drop)]
-struct Line {
+struct Line<'a> {
     text: String,
-    wide: Option<WideKey>,
+    wide: Option<WideKey<'a>>,
 }
 
-impl Line {
+impl<'a> Line<'a> {
     /// Takes the wide key of a placeholder, if it is one.
-    fn remember(&mut self, wide: Option<WideKey>)
-        ensures { self.new ≡ record self.old { wide = option_or wide self.old.wide } }
+    fn remember(&mut self, wide: Option<WideKey<'a>>)
+        ensures { self.new ≡ record self.old { wide = option_or wide.entry self.old.wide } }
     {
         if let Some(wide) = wide {
             self.wide = Some(wide);
@@ -404,7 +356,7 @@ impl Line {
     }
 
     /// The line that was laid out, finished; the next one begins in this memory.
-    fn end(&mut self, room: String) -> Line
+    fn end(&mut self, room: String) -> Line<'a>
         ensures ended { result ≡ self.old }
         ensures next { self.new ≡ record self.old { text = room } }
     {

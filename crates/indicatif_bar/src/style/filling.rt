@@ -1,5 +1,5 @@
 //! Lines of a text, and what replaces a wide key's fillers.
-ghost use Rattle.std.specs.Prelude.{◌≡◌, ◌++◌, ◌∷◌, [], false, find, map, string_bytes, OnOk, IfErr, IsTrue, IsFalse};
+ghost use Rattle.std.specs.Prelude.{◌≡◌, ◌++◌, ◌∷◌, [], false, find, map, string_bytes, OnOk, IfErr, IsTrue};
 ghost use Rattle.std.specs.Option.{option_map_or};
 ghost use Rattle.std.specs.List.{list_all, list_any, slice_get, slice_split};
 ghost use Rattle.indicatif_bar.specs.Bars.{is_bar_line};
@@ -26,35 +26,27 @@ pub(crate) fn has_break(text: &str) -> bool
     has_byte(b'\n', text)
 }
 
-/// Where a text's fillers stand: how many columns their line leaves free, and whether one ends the text.
+/// Where a text's fillers stand: how many columns their line leaves free, whether one ends the text, and whether it has a line break.
 #[derive(Clone, Copy, Drop)]
 pub(crate) struct Gap {
     pub(crate) columns: usize,
     pub(crate) is_last: bool,
+    pub(crate) has_break: bool,
 }
 
 impl Gap {
-    /// The gap of a text on a terminal of `width` columns.
+    /// The gap of a text that has a filler, on a terminal of `width` columns.
     pub(crate) fn of(text: &str, width: u16) -> Gap
+        requires has_filler { IsTrue (list_any is_filler text.now) }
         ensures columns { result.columns ≡ columns_left width text.now }
         ensures is_last { result.is_last ≡ ends_in_filler text.now }
+        ensures has_break { result.has_break ≡ list_any is_newline text.now }
     {
+        let has_break = has_break(text);
         Gap {
-            columns: columns_left(text, width),
+            columns: usize::from(width).saturating_sub(filler_line_columns(text, has_break)),
             is_last: ends_in_filler(text),
-        }
-    }
-
-    /// The gap of one line that has a filler.
-    pub(crate) fn of_line(line: &str, width: u16) -> Gap
-        requires one_line { IsFalse (list_any is_newline line.now) }
-        requires has_filler { IsTrue (list_any is_filler line.now) }
-        ensures columns { result.columns ≡ columns_left width line.now }
-        ensures is_last { result.is_last ≡ ends_in_filler line.now }
-    {
-        Gap {
-            columns: usize::from(width).saturating_sub(columns_behind_filler(line)),
-            is_last: ends_in_filler(line),
+            has_break,
         }
     }
 }
@@ -69,17 +61,15 @@ fn ends_in_filler(text: &str) -> bool
     }
 }
 
-/// The columns that the first line with a filler leaves free.
-fn columns_left(text: &str, width: u16) -> usize
-    ensures { result ≡ columns_left width text.now }
-{
-    usize::from(width).saturating_sub(filler_line_columns(text))
-}
-
-/// The columns of the first line with a filler, or 0.
-fn filler_line_columns(text: &str) -> usize
+/// The columns of the first line with a filler.
+fn filler_line_columns(text: &str, has_break: bool) -> usize
+    requires has_filler { IsTrue (list_any is_filler text.now) }
+    requires has_break { has_break ≡ list_any is_newline text.now }
     ensures { result ≡ option_map_or text_columns (find (list_any is_filler) (slice_split is_newline text.now)) 0 }
 {
+    if !has_break {
+        return columns_behind_filler(text);
+    }
     let mut rest = text;
     'lines: while let Some((line, behind)) = cut_at(b'\n', rest) {
         if has_filler(line) {

@@ -163,6 +163,7 @@ impl NumberKey {
 }
 
 /// Appends the decimal digits of a number.
+#[inline(always)]
 fn push_number(n: u64, out: &mut String) -> Result<(), Refusal>
     ensures text { OnOk result (string_bytes out.new ≡ string_bytes out.old ++ decimal n) }
     ensures memory { IfErr result (λ e. e ≡ Refusal.Memory) }
@@ -173,6 +174,7 @@ fn push_number(n: u64, out: &mut String) -> Result<(), Refusal>
 }
 
 /// Appends a count in its form.
+#[inline(always)]
 fn push_count(form: CountForm, n: u64, out: &mut String) -> Result<(), Refusal>
     ensures text { OnOk result (string_bytes out.new ≡ string_bytes out.old ++ count_text form n) }
     ensures memory { IfErr result (λ e. e ≡ Refusal.Memory) }

@@ -86,6 +86,7 @@ fn blanks_before(align: Alignment, blanks: usize) -> usize
 }
 
 /// Appends `text` `count` times, from a ready run or by repetition.
+#[inline(always)]
 pub(crate) fn push_times(text: &str, count: usize, out: &mut String) -> Result<(), Refusal>
     ensures text { OnOk result (string_bytes out.new ≡ string_bytes out.old ++ times count text.now) }
     ensures memory { IfErr result (λ e. e ≡ Refusal.Memory) }
@@ -99,12 +100,15 @@ pub(crate) fn push_times(text: &str, count: usize, out: &mut String) -> Result<(
 /// How often a ready run repeats its text.
 const READY: usize = 64;
 
-/// A text `READY` times, for the texts that most bars repeat: a blank, and the default cells of a bar.
+/// A text `READY` times, for the texts that most bars repeat: a blank, usual cells of ASCII, and the default cells.
 fn ready_run(text: &str) -> Option<&'static str>
     ensures run { IfSome result (λ run. run.now ≡ times 64 text.now) }
 {
     match text.as_bytes() {
         [b' '] => Some("                                                                "),
+        [b'#'] => Some("################################################################"),
+        [b'='] => Some("================================================================"),
+        [b'-'] => Some("----------------------------------------------------------------"),
         [0xE2, 0x96, 0x88] => Some(
             "████████████████████████████████████████████████████████████████",
         ),

@@ -36,52 +36,23 @@ pub(crate) struct Placeholder {
 
 /// The placeholder of a wide key.
 #[derive(Clone, Copy, Drop)]
-pub(crate) enum WideKey {
+pub(crate) enum WideKey<'a> {
     /// Of `{wide_bar}`.
-    Bar(Placeholder),
+    Bar(&'a Placeholder),
     /// Of `{wide_msg}`.
-    Message(Placeholder),
+    Message(&'a Placeholder),
 }
 
 impl Placeholder {
     /// The wide key of the placeholder, if it is one.
-    pub(crate) fn wide(&self) -> Option<WideKey>
+    pub(crate) fn wide(&self) -> Option<WideKey<'_>>
         ensures { option_map wide_found result ≡ wide_source (placeholder_layout self.now) self.now.source }
     {
         match self.source {
-            Source::Known(Key::WideBar) => Some(WideKey::Bar(*self)),
-            Source::Known(Key::WideMessage) => Some(WideKey::Message(*self)),
+            Source::Known(Key::WideBar) => Some(WideKey::Bar(self)),
+            Source::Known(Key::WideMessage) => Some(WideKey::Message(self)),
             _ => None,
         }
-    }
-
-    /// The placeholder's alternative style, that of a bar's rest.
-    pub(crate) fn alternative_style(&self) -> Style
-        ensures { numbers_of result ≡ unwrap_or (placeholder_layout self.now).alternative [] }
-    {
-        self.alternative.unwrap_or(Style::new())
-    }
-
-    /// The style of the placeholder's text.
-    fn text_style(&self) -> Style
-        ensures { numbers_of result ≡ unwrap_or (placeholder_layout self.now).style [] }
-    {
-        self.style.unwrap_or(Style::new())
-    }
-
-    /// Appends the sequences that stand before the placeholder's text, and returns whether there are any. The style isn't used if colours
-    /// are off.
-    #[inline(always)]
-    pub(crate) fn open(&self, colours: bool, out: &mut String) -> Result<bool, Refusal>
-        ensures bytes { OnOk result (string_bytes out.new ≡ string_bytes out.old
-            ++ opening_of colours (unwrap_or (placeholder_layout self.now).style [])) }
-        ensures some { IfOk result (λ some. some ≡ nat_lt 0 (length (opening_of colours (unwrap_or (placeholder_layout self.now).style [])))) }
-        ensures memory { IfErr result (λ e. e ≡ Refusal.Memory) }
-    {
-        if !colours {
-            return Ok(false);
-        }
-        self.text_style().open(colours, out)
     }
 
     /// Whether nothing is written around the placeholder's text, if that is empty.
@@ -96,6 +67,26 @@ impl Placeholder {
         ensures { result ≡ ((unwrap_or self.now.width 20 == 0) && not (colours && is_some (placeholder_layout self.now).alternative)) }
     {
         self.width.unwrap_or(20) == 0 && !(colours && self.alternative.is_some())
+    }
+}
+
+/// Appends the sequences that stand before a text in a style, and returns whether there are any. The style isn't used if colours are off.
+#[inline(always)]
+pub(crate) fn open_style(
+    style: &Option<Style>,
+    colours: bool,
+    out: &mut String,
+) -> Result<bool, Refusal>
+    ensures bytes { OnOk result (string_bytes out.new ≡ string_bytes out.old ++ opening_of colours (unwrap_or (option_map numbers_of style.now) [])) }
+    ensures some { IfOk result (λ some. some ≡ nat_lt 0 (length (opening_of colours (unwrap_or (option_map numbers_of style.now) [])))) }
+    ensures memory { IfErr result (λ e. e ≡ Refusal.Memory) }
+{
+    if !colours {
+        return Ok(false);
+    }
+    match style {
+        Some(style) => style.open(colours, out),
+        None => Ok(false),
     }
 }
 

@@ -3,7 +3,7 @@ use Rattle.indicatif_bar.specs.Inside.Steps.{effect_of, effect_of_part, names_of
 use Rattle.indicatif_bar.specs.Trackers.{entries}
 use Rattle.indicatif_bar.specs.StyleLaws.{AreTaken}
 use Rattle.indicatif_bar.proofs.ClusterLemmas.{first_are_taken}
-use Rattle.indicatif_bar.proofs.BuilderLemmas.{many_clusters, many_ticks, wide_cluster, clusters_are, ticks_are}
+use Rattle.indicatif_bar.proofs.BuilderLemmas.{many_clusters, many_ticks, first_columns, wide_cluster, clusters_are, ticks_are}
 use Rattle.indicatif_bar.proofs.style.ProgressStyle.first.Goals as goal
 
 pub invariant_of-result : goal.invariant_of-result
@@ -15,6 +15,7 @@ invariant_of-result g c = (
   wide_cluster,
   many_ticks,
   subst AreTaken (sym clusters_are) first_are_taken,
+  first_columns,
 )
 
 pub returns-clause-style : goal.returns-clause-style

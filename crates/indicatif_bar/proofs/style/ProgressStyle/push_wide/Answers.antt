@@ -10,9 +10,9 @@ pub returns-in_ok-push_message-in-Message-clause-text : goal.returns-in_ok-push_
 unfolding trim_end padded
 returns-in_ok-push_message-in-Message-clause-text g c columns text at last =
     let old = string_bytes c.args.out.now in
-    let message = padded (shown_message c.args.state.now) (columns_left columns text) c.in-Message.placeholder.align true in
+    let message = padded (shown_message c.args.state.now) (columns_left columns text) c.in-Message.placeholder.now.align true in
     c.in_ok-push_message-in-Message.ensures.text
-    ∙ ap (λ k. old ++ (if c.args.gap.is_last then trim_end (padded (shown_message c.args.state.now) k c.in-Message.placeholder.align true) else padded
-    (shown_message c.args.state.now) k c.in-Message.placeholder.align true)) at
+    ∙ ap (λ k. old ++ (if c.args.gap.is_last then trim_end (padded (shown_message c.args.state.now) k c.in-Message.placeholder.now.align true) else padded
+    (shown_message c.args.state.now) k c.in-Message.placeholder.now.align true)) at
     ∙ ap (λ b. old ++ (if b then trim_end message else message)) last
     ∙ ap (λ w. old ++ wide_text c.args.self.now c.args.state.now columns text (wide_found w)) (sym c.in-Message.is)

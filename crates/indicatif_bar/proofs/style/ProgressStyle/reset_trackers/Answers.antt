@@ -6,5 +6,11 @@ use Rattle.indicatif_bar.proofs.style.ProgressStyle.reset_trackers.Goals as goal
 
 pub invariant_of-self : goal.invariant_of-self
 invariant_of-self g c =
-    let stay = keys_stay (λ k. g.K.Tracks.means.was_reset k c.args.state.now c.args.now) c.self.inside.keys.items c.reset_all.new.keys.items c.reset_all.ensures in
-    (c.self.invariant.0 ∙ ap (λ ns. map (effect_of_part ns c.self.inside.tab) (arc_value c.self.inside.template)) stay, c.self.invariant.1, c.self.invariant.2, c.self.invariant.3, c.self.invariant.4)
+    let stay = keys_stay (λ k. g.K.Tracks.means.was_reset k c.args.state.now c.args.now) c.self.inside.keys.items c.reset_all.new.keys.items c.reset_all.ensures in (
+      c.self.invariant.0 ∙ ap (λ ns. map (effect_of_part ns c.self.inside.tab) (arc_value c.self.inside.template)) stay,
+      c.self.invariant.1,
+      c.self.invariant.2,
+      c.self.invariant.3,
+      c.self.invariant.4,
+      c.self.invariant.5,
+    )
