@@ -1,7 +1,7 @@
 //! A bar with several owners.
 //!
 //! `ProgressBar` is here: the calls that change it (position, length, texts, style, times), finish it, draw it, log above it, set its
-//! target or tell its owners. The modules below are private. What a program calls:
+//! target or tell its owners; and what a wrapper calls of it (`Moves`). The modules below are private. What a program calls:
 //!
 //! - `constructors`: bars are made: in the style of a bar, of a spinner or another, on a target or hidden.
 //! - `builders`: `with_style`, `with_position` and the like set up a shared bar before it moves.
@@ -187,8 +187,8 @@ impl<T: TermLike + Drop, C: Clock + Drop, R: Wait + Clone + Drop, K: Tracks> Pro
         self.move_by(PositionChange::Up(delta))
     }
 
-    /// Subtracts `delta` from the position, modulo 2^64; otherwise as `inc`. So 12 taken from 0 give 2^64 - 12, which is shown so: a
-    /// program that may go below 0 looks at `position` first. A lower position restarts the rate.
+    /// Subtracts `delta` from the position, modulo 2^64; otherwise as `inc`. So 12 taken from 0 give 2^64 - 12, and the bar shows
+    /// that number: a program that may go below 0 looks at `position` first. A lower position restarts the rate.
     #[inline(always)]
     pub fn dec(&self, delta: u64) -> Result<Drawn, Refusal>
         ensures { CanAnswer K (Lone.Obey (Command.Dec delta)) result }

@@ -14,7 +14,8 @@
 //!   `Fresh`, the rows that are reached for the first time.
 //! - `remembered`: `Remembered`, the lines in those rows: the live ones, those of kept rows, and new ones in their place or below.
 //! - `spare`: `Spare`, room that was taken before, for lines and texts: it is taken, and kept again.
-//! - `recutting`: the remembered lines at another size (`CutLines`): each row's glyphs are cut into lines of one row; and the counts of those.
+//! - `recutting`: the remembered lines at another size (`CutLines`): each row's glyphs are cut into lines of one row, as texts that begin no colour
+//!   sequence; and the counts of those.
 //!
 //! What differs:
 //!
@@ -87,7 +88,7 @@ const MOST_DRAWINGS: usize = 24;
 /// are forgotten, and the next drawing begins on a new row, by `write_line("")` and `clear_line`, below whatever stands there,
 /// also where the terminal broke off within an escape sequence or a character. The rows above stand then, too, and from then on. As
 /// long as anything may stand below, each row that a drawing is the first to reach is emptied before it is written; frames that take
-/// other rows than those before are written whole.
+/// more rows than those before are written whole.
 ///
 /// ```
 /// let mut engine = Engine::new(alloc, InMemoryTerm::new(alloc, 4, 5)?);
@@ -230,8 +231,8 @@ impl<T: TermLike + Drop> Engine<T> {
     /// then become kept rows, with the blank rows above them.
     ///
     /// As many lines from the front are written as have at most the terminal's rows together, and none where the frame stands as it is.
-    /// One pass over the frame before the first byte, beside the lines that stand there; two where their blank rows are others then. Some over
-    /// the lines of the drawing, one of them while writing. Memory for new texts, where earlier drawings left no room for them, is taken before
+    /// It goes over the frame once before the first byte, and twice if other blank rows stand there or a new line leaves colours open; then over
+    /// the lines that it draws. Memory for new texts, where earlier drawings left no room for them, is taken before
     /// the first byte. The lines of kept rows and those that stay aren't copied; the room of the list that holds them grows with it.
     ///
     /// Refused: `NoColumns` where the terminal has no columns; `TooWide` where any line, also one past the terminal's
@@ -412,8 +413,8 @@ impl<T: TermLike + Drop> Engine<T> {
         Keep::Passed
     }
 
-    /// Remembers the next counts, and a frame that was laid out in the place of the live lines, which is about to be written, below some that
-    /// stand: from which on its lines stand. Refused: `Memory`, where there is a line below; all is unchanged then.
+    /// Remembers the next counts and a laid-out frame, which is about to be written, in place of the live lines and below some that stand.
+    /// Returns the index of its first line. Refused: `Memory`, where there is a line below; all is unchanged then.
     fn store(
         &mut self,
         next: Counts,

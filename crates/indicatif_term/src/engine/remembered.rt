@@ -21,7 +21,7 @@ pub struct StandingLine {
     /// Its rows, and how many columns it takes of the last one.
     pub rows: usize,
     pub last: usize,
-    /// Whether each visible character takes one column, in colours that are read right, as far as that was looked at.
+    /// Whether each visible character is known to take one column, in colours that can be edited.
     pub narrow: bool,
     /// What becomes of it in that drawing.
     pub step: Step,
