@@ -10,7 +10,7 @@ ghost use Rattle.indicatif_term.specs.Standing.{placed_of, placed, AreReady};
 
 use crate::engine::beside::height_of;
 use crate::engine::comparing::Step;
-use crate::engine::inks::{Colours, InkedText, first_cell};
+use crate::engine::inks::{InkedText, NO_COLOURS, next_cell};
 use crate::engine::remembered::StandingLine;
 use crate::engine::row_edits::{go_right, write_part};
 use crate::engine::writing::{empty_down, go_down, go_up, put_spaces};
@@ -232,12 +232,11 @@ fn columns_of_rows(line: &StandingLine, width: usize) -> Option<usize>
 fn joins(text: &str) -> bool
     ensures { result ≡ joins (visible (chars text.now)) }
 {
-    let ink = Colours {
-        base: "",
-        group: "",
+    let mut reading = InkedText {
+        text,
+        ink: NO_COLOURS,
     };
-    let (first, _) = first_cell(InkedText { text, ink });
-    width_of_char(first) == 0
+    width_of_char(next_cell(&mut reading)) == 0
 }
 
 /// Writes lines over rows, on the last of which the cursor rests, or from its own row on if there are no rows. It goes up to the first of

@@ -43,7 +43,7 @@ pub columns-preserved : goal.columns-preserved
 columns-preserved g c =
     let w = c.columns.invariant.written in
     let m = c.in_ok-write_next.ensures in
-    let k = c.skip-now.ensures in
+    let k = c.skip.ensures in
     let rest = ap (λ x. m.0 ++ x) (k.same c.args.part.waits) ∙ m.2 in
     record {
       written = (w.0 ++ m.0, reaches_then w.1 m.1, append_assoc w.0 m.0 _ ∙ ap (λ x. w.0 ++ x) rest ∙ w.2);
@@ -58,7 +58,7 @@ returns g c =
     let room : HasRoom now = c.columns.invariant.room in
     let none : now.left ≡ 0 = omega (arith, c.columns-test.false) in
     let rest : left_bytes ends now ≡ reset_bytes (colours_of (ink_of now.ink)) =
-    ap (λ n. rest_bytes ends (ink_of now.ink) now.gap n (cells now.old) (cells now.new)) none
-    ∙ none_left ends (ink_of now.ink) now.gap (cells now.old) (cells now.new) (omega (arith, room.olds, none)) (omega (arith, room.news, none)) in
+    ap (λ n. rest_bytes ends (ink_of now.ink) now.gap n (cells now.own) (cells now.other)) none
+    ∙ none_left ends (ink_of now.ink) now.gap (cells now.own) (cells now.other) (omega (arith, room.olds, none)) (omega (arith, room.news, none)) in
     subst (λ b. Writes b (g.T.TermLike.view c.args.term.now) (g.T.TermLike.view c.close.new.term) c.close.result) (ap (λ x. w.0 ++ x) (sym rest) ∙ w.2)
     (writes_then _ _ c.close.result w.1 c.close.ensures)
