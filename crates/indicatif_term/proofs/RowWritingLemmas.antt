@@ -1,15 +1,14 @@
 -- The bytes of the rest of a row, column by column.
 use Rattle.std.proofs.Common.{inl, inr, ◌≡◌, ℕ, zero, suc, ◌+◌, ◌-◌, ◌<◌, ◌≤◌, Bool, true, false, ◌&&◌, not, List, [], ◌∷◌, ◌++◌, length, replicate, Result, Ok, Err, refl, sym, ◌∙◌, ap, subst, arith, append_assoc, append-nil}
 use Rattle.std.specs.Prelude.{◌==◌, encode_utf8, IsErrAnd, MatchResult}
-use Rattle.std.specs.IoError.{error_kind}
-use Rattle.std.specs.declared.io.Error.{Error}
 use Rattle.std.specs.declared.io.ErrorKind.{ErrorKind}
 use Rattle.std.proofs.lemmas.Bool.Decides.{nat_tests}
 use Rattle.std.specs.Str.{bytes_eq}
 use Rattle.std.proofs.lemmas.Bool.{cases_Bool}
 use Rattle.std.proofs.lemmas.Slice.Eq.{bytes_eq-Decides}
-use Rattle.indicatif_term.specs.Calls.{RIGHT, move_bytes, TermView, LeadsOn, BreaksOff, Writes}
-use Rattle.indicatif_term.proofs.CallTurnLemmas.{breaks_then, breaks_early, writes_fail}
+use Rattle.indicatif_term.specs.Calls.{RIGHT, move_bytes, TermView, LeadsOn, BreaksOff}
+use Rattle.indicatif_term.specs.Inside.MoveBytes.{Sends}
+use Rattle.indicatif_term.proofs.CallTurnLemmas.{breaks_then, breaks_early, sends_fail}
 use Rattle.indicatif_term.specs.Inside.Inks.{RESET, Ink, NONE, colours_of, same_ink, Inked, in_ink, is_alike, padded}
 use Rattle.indicatif_term.specs.Inside.RowEdits.{Edit, Write, edit_bytes, closed, opened, recoloured, plan, rest_bytes, reset_bytes, ink_bytes}
 use Rattle.indicatif_term.specs.Inside.Rests.{HasRoom, ink_of, cells, left_bytes}
@@ -122,9 +121,9 @@ module _ (ends : Bool) (rest : Rest) (old new : InkedText) (stands c : ℕ) (som
   abbrev behind : Rest
   behind = record { own = old; other = new; left = rest.left - 1; gap = 0; ink = new.ink }
 
-  pub next_ends : (s u : TermView) → left_alike ≡ false → HasRoom behind → (r : Result Unit Error) → Writes next_bytes s u r → MatchResult r
+  pub next_ends : (s u : TermView) → left_alike ≡ false → HasRoom behind → (r : Result Unit ErrorKind) → Sends next_bytes s u r → MatchResult r
       (λ x. (done : List ℕ) × LeadsOn done s u × (done ++ left_bytes ends behind ≡ left_bytes ends rest) × (behind.left < rest.left) × HasRoom behind)
-      (λ e. BreaksOff (left_bytes ends rest) (error_kind e) s u)
+      (λ k. BreaksOff (left_bytes ends rest) k s u)
   next_ends s u e h (Ok x) w = (next_bytes, w, next_writes e, omega (arith, some), h)
   next_ends s u e h (Err x) w = next_fails e w
 
@@ -186,8 +185,8 @@ pub broken_in : {A E : Type 0} {e : E} (r : Result A E) (P : A → Type 0) (B : 
 broken_in (Ok x) P B h b = absurd h
 broken_in (Err x) P B h b = subst B (sym h) b
 
-pub rest_fails : (done rest all : List ℕ) (s t u : TermView) (e : Error) (r : Result Unit Error) → IsErrAnd r (λ x. x ≡ e) → LeadsOn done s t → BreaksOff rest (error_kind e) t u →
-    done ++ rest ≡ all → Writes all s u r
+pub rest_fails : (done rest all : List ℕ) (s t u : TermView) (e : ErrorKind) (r : Result Unit ErrorKind) → IsErrAnd r (λ x. x ≡ e) → LeadsOn done s t → BreaksOff rest e t u →
+    done ++ rest ≡ all → Sends all s u r
 rest_fails done rest all s t u e r h p q whole =
-    let b : BreaksOff all (error_kind e) s u = subst (λ x. BreaksOff x (error_kind e) s u) whole (breaks_then p q) in
-    subst (λ x. Writes x s u r) (append-nil all) (writes_fail [] e r h b)
+    let b : BreaksOff all e s u = subst (λ x. BreaksOff x e s u) whole (breaks_then p q) in
+    subst (λ x. Sends x s u r) (append-nil all) (sends_fail [] e r h b)

@@ -2,8 +2,9 @@
 //! so that the cursor only moves.
 ghost use Rattle.std.specs.Prelude.{length, ◌≡◌, ◌==◌, ◌&&◌, ◌+◌, ◌-◌, ◌*◌, ◌≤◌, ◌++◌, ◌∷◌, [], IsTrue, IfSome, chars, replicate, string_bytes};
 ghost use Rattle.indicatif_text.specs.Columns.{visible};
-ghost use Rattle.indicatif_term.specs.Calls.{Writes, DOWN, RIGHT, move_bytes};
+ghost use Rattle.indicatif_term.specs.Calls.{DOWN, RIGHT, move_bytes};
 ghost use Rattle.indicatif_term.specs.Inside.Changing.{placed_height, changed_bytes, filled_whole, last_bytes, all_stay, stays, free_behind, among_bytes, ends_plainly, last_byte, filled_bytes, moved_bytes, joins, IsEven, AreEven};
+ghost use Rattle.indicatif_term.specs.Inside.MoveBytes.{Sends};
 ghost use Rattle.indicatif_term.specs.Inside.Parting.{IsReady};
 ghost use Rattle.indicatif_term.specs.Inside.Fills.{last_of};
 ghost use Rattle.indicatif_term.specs.Standing.{placed_of, placed, AreReady};
@@ -13,10 +14,10 @@ use crate::engine::comparing::Step;
 use crate::engine::inks::{InkedText, NO_COLOURS, next_cell};
 use crate::engine::remembered::StandingLine;
 use crate::engine::row_edits::{go_right, write_part};
-use crate::engine::writing::{empty_down, go_down, go_up, put_spaces};
+use crate::engine::writing::{empty_down, go_down, go_up, put_spaces, put_str};
 use crate::target::term_like::TermLike;
 use indicatif_text::columns::{columns, width as width_of_char};
-use std::io;
+use std::io::ErrorKind;
 
 /// Writes lines in the place of others, from the first down: those that stay are skipped. Below their rows `taken` ones were taken back, and the
 /// cursor is on the first of these; if there are none, it is at the end of the lines' last row. It comes to the end of that, and
@@ -26,10 +27,10 @@ pub fn put_among<T: TermLike>(
     lines: &[StandingLine],
     taken: usize,
     width: usize,
-) -> io::Result<()>
+) -> Result<(), ErrorKind>
     requires small { placed_height (placed lines.now) ≤ 65535 }
     requires ready { AreReady lines.now }
-    ensures { Writes (among_bytes width taken (placed lines.now)) (T.view term.old) (T.view term.new) result }
+    ensures { Sends (among_bytes width taken (placed lines.now)) (T.view term.old) (T.view term.new) result }
 {
     if lines.is_empty() {
         return Ok(());
@@ -99,14 +100,14 @@ fn is_left(line: &StandingLine) -> bool
 }
 
 /// Goes `down` rows down, empties the rows of a line, and writes it as a whole.
-fn write_changed<T: TermLike>(term: &mut T, down: usize, line: &StandingLine) -> io::Result<()>
-    ensures { Writes (changed_bytes down line.now.rows (placed_of line.now).line) (T.view term.old) (T.view term.new) result }
+fn write_changed<T: TermLike>(term: &mut T, down: usize, line: &StandingLine) -> Result<(), ErrorKind>
+    ensures { Sends (changed_bytes down line.now.rows (placed_of line.now).line) (T.view term.old) (T.view term.new) result }
 {
     go_down(term, down)?;
     let more = line.rows.saturating_sub(1);
     empty_down(term, more)?;
     go_up(term, more)?;
-    term.write_str(&line.text)
+    put_str(term, &line.text)
 }
 
 /// Passes the last line, from `down` rows above it; the cursor is behind the end of its row then.
@@ -115,10 +116,10 @@ fn write_last<T: TermLike>(
     down: usize,
     line: &StandingLine,
     width: usize,
-) -> io::Result<()>
+) -> Result<(), ErrorKind>
     requires small { down + line.now.rows ≤ 65536 }
     requires ready { IsReady line.now.step (string_bytes line.now.before) (string_bytes line.now.text) }
-    ensures { Writes (last_bytes width down (placed_of line.now)) (T.view term.old) (T.view term.new) result }
+    ensures { Sends (last_bytes width down (placed_of line.now)) (T.view term.old) (T.view term.new) result }
 {
     match line.step {
         Step::Leave => write_left(term, down, line, width),
@@ -139,8 +140,8 @@ fn write_filled<T: TermLike>(
     down: usize,
     line: &StandingLine,
     width: usize,
-) -> io::Result<()>
-    ensures { Writes (changed_bytes down line.now.rows (filled_whole width (placed_of line.now)).line) (T.view term.old) (T.view term.new) result }
+) -> Result<(), ErrorKind>
+    ensures { Sends (changed_bytes down line.now.rows (filled_whole width (placed_of line.now)).line) (T.view term.old) (T.view term.new) result }
 {
     write_changed(term, down, line)?;
     put_spaces(term, width.saturating_sub(line.last))
@@ -152,10 +153,10 @@ fn write_left<T: TermLike>(
     down: usize,
     line: &StandingLine,
     width: usize,
-) -> io::Result<()>
+) -> Result<(), ErrorKind>
     requires small { down + line.now.rows ≤ 65536 }
     requires stays { line.now.step ≡ Step.Leave }
-    ensures { Writes (last_bytes width down (placed_of line.now)) (T.view term.old) (T.view term.new) result }
+    ensures { Sends (last_bytes width down (placed_of line.now)) (T.view term.old) (T.view term.new) result }
 {
     let far = down + line.rows;
     if line.last < width {
@@ -168,13 +169,13 @@ fn write_left<T: TermLike>(
 }
 
 /// Goes `down` rows down, and writes a character into the last column.
-fn write_end<T: TermLike>(term: &mut T, down: usize, text: &str, width: usize) -> io::Result<()>
-    ensures { Writes (move_bytes DOWN down ++ ((0x0D ∷ []) ++ (move_bytes RIGHT (width - 1) ++ text.now))) (T.view term.old) (T.view term.new) result }
+fn write_end<T: TermLike>(term: &mut T, down: usize, text: &str, width: usize) -> Result<(), ErrorKind>
+    ensures { Sends (move_bytes DOWN down ++ ((0x0D ∷ []) ++ (move_bytes RIGHT (width - 1) ++ text.now))) (T.view term.old) (T.view term.new) result }
 {
     go_down(term, down)?;
-    term.write_str("\r")?;
+    put_str(term, "\r")?;
     go_right(term, width.saturating_sub(1))?;
-    term.write_str(text)
+    put_str(term, text)
 }
 
 /// Whether a line has no escape character, so no colours, and ends with printable ASCII, which no joiner joins.
@@ -246,11 +247,11 @@ pub fn put_over<T: TermLike>(
     taken: usize,
     lines: &[StandingLine],
     width: usize,
-) -> io::Result<()>
-    ensures { Writes (moved_bytes width taken (placed lines.now)) (T.view term.old) (T.view term.new) result }
+) -> Result<(), ErrorKind>
+    ensures { Sends (moved_bytes width taken (placed lines.now)) (T.view term.old) (T.view term.new) result }
 {
     go_up(term, taken.saturating_sub(1))?;
-    term.write_str("\r")?;
+    put_str(term, "\r")?;
     for line in lines {
         put_filled(term, line, width)?;
     }
@@ -258,19 +259,19 @@ pub fn put_over<T: TermLike>(
 }
 
 /// Writes one line over rows, and the spaces that fill its last one.
-fn put_filled<T: TermLike>(term: &mut T, line: &StandingLine, width: usize) -> io::Result<()>
-    ensures { Writes (filled_bytes width (placed_of line.now)) (T.view term.old) (T.view term.new) result }
+fn put_filled<T: TermLike>(term: &mut T, line: &StandingLine, width: usize) -> Result<(), ErrorKind>
+    ensures { Sends (filled_bytes width (placed_of line.now)) (T.view term.old) (T.view term.new) result }
 {
-    term.write_str(&line.text)?;
+    put_str(term, &line.text)?;
     put_fill(term, width.saturating_sub(line.last))
 }
 
 /// Writes the spaces that fill a line's last row; an empty text if there are none.
-fn put_fill<T: TermLike>(term: &mut T, count: usize) -> io::Result<()>
-    ensures { Writes (replicate count 0x20) (T.view term.old) (T.view term.new) result }
+fn put_fill<T: TermLike>(term: &mut T, count: usize) -> Result<(), ErrorKind>
+    ensures { Sends (replicate count 0x20) (T.view term.old) (T.view term.new) result }
 {
     if count == 0 {
-        return term.write_str("");
+        return put_str(term, "");
     }
     put_spaces(term, count)
 }

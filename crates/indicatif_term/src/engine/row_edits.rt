@@ -1,18 +1,18 @@
 //! A part of a row written again, character by character, among cells that stay.
 ghost use Rattle.std.specs.Prelude.{◌≡◌, ◌+◌, ◌-◌, ◌≤◌, ◌<◌, ◌++◌, ◌==◌, ◌&&◌, not, ℕ, Bool, List, MatchResult, string_bytes};
-ghost use Rattle.std.specs.IoError.{error_kind};
-ghost use Rattle.indicatif_term.specs.Calls.{Writes, LeadsOn, BreaksOff, DOWN, RIGHT, move_bytes};
+ghost use Rattle.indicatif_term.specs.Calls.{LeadsOn, BreaksOff, DOWN, RIGHT, move_bytes};
 ghost use Rattle.indicatif_term.specs.Inside.Inks.{colours_of, in_ink, is_alike};
 ghost use Rattle.indicatif_term.specs.Inside.RowEdits.{edit_bytes, row_bytes, reset_bytes, ink_bytes};
+ghost use Rattle.indicatif_term.specs.Inside.MoveBytes.{Sends};
 ghost use Rattle.indicatif_term.specs.Inside.Parting.{HasPart, part_edits};
 ghost use Rattle.indicatif_term.specs.Inside.Rests.{HasRoom, ink_of, left_bytes};
 
 use crate::engine::comparing::Stretch;
 use crate::engine::inks::{Colours, InkedText, NO_COLOURS, RESET, are_same, char_count, next_cell, split};
 use crate::engine::remembered::StandingLine;
-use crate::engine::writing::go_down;
+use crate::engine::writing::{go_down, put_str, told};
 use crate::target::term_like::TermLike;
-use std::io;
+use std::io::ErrorKind;
 
 /// What is left of a row: the text that stands there and the other one, which is to, how many columns they are to have, how many columns
 /// the cursor is behind, and which colour sequences are open.
@@ -31,15 +31,15 @@ pub fn write_part<T: TermLike>(
     down: usize,
     line: &StandingLine,
     part: Stretch,
-) -> io::Result<()>
+) -> Result<(), ErrorKind>
     requires small { down + line.now.rows ≤ 65536 }
     requires part { HasPart part (string_bytes line.now.before) (string_bytes line.now.text) }
-    ensures { Writes (move_bytes DOWN (down + line.now.rows - 1) ++ row_bytes part.gap (part_edits part (string_bytes line.now.before) (string_bytes line.now.text)))
+    ensures { Sends (move_bytes DOWN (down + line.now.rows - 1) ++ row_bytes part.gap (part_edits part (string_bytes line.now.before) (string_bytes line.now.text)))
         (T.view term.old) (T.view term.new) result }
 {
     let far = down + line.rows;
     go_down(term, far.saturating_sub(1))?;
-    term.write_str("\r")?;
+    put_str(term, "\r")?;
     let mut now = all_of(line, part);
     'columns: while now.left > 0 {
         write_next(term, &mut now, part.waits)?;
@@ -70,13 +70,13 @@ fn all_of(line: &StandingLine, part: Stretch) -> Rest<'_>
 }
 
 /// Goes over one column of the row, which stays or gets its character in its colours.
-fn write_next<T: TermLike>(term: &mut T, rest: &mut Rest<'_>, ends: bool) -> io::Result<()>
+fn write_next<T: TermLike>(term: &mut T, rest: &mut Rest<'_>, ends: bool) -> Result<(), ErrorKind>
     requires some { 0 < rest.old.left }
     requires room { HasRoom rest.old }
     ensures { MatchResult result
         (λ _. (done : List ℕ) × LeadsOn done (T.view term.old) (T.view term.new) × (done ++ left_bytes ends rest.new ≡ left_bytes ends rest.old)
         × (rest.new.left < rest.old.left) × HasRoom rest.new)
-        (λ e. BreaksOff (left_bytes ends rest.old) (error_kind e) (T.view term.old) (T.view term.new)) }
+        (λ k. BreaksOff (left_bytes ends rest.old) k (T.view term.old) (T.view term.new)) }
 {
     let stands = next_cell(&mut rest.own);
     let c = next_cell(&mut rest.other);
@@ -90,7 +90,7 @@ fn write_next<T: TermLike>(term: &mut T, rest: &mut Rest<'_>, ends: bool) -> io:
     rest.gap = 0;
     rest.ink = rest.other.ink;
     let mut bytes = [0u8; 4];
-    term.write_str(c.encode_utf8(&mut bytes))
+    put_str(term, c.encode_utf8(&mut bytes))
 }
 
 /// Whether a cell stays, in front of what is left, where its character is to be that one: it isn't the last one, if that is to be
@@ -105,8 +105,8 @@ fn stays(stands: char, c: char, next: &Rest<'_>, ends: bool) -> bool
 }
 
 /// Writes what changes the colours that are open to others.
-fn recolour<T: TermLike>(term: &mut T, ink: &Colours<'_>, to: &Colours<'_>) -> io::Result<()>
-    ensures { Writes (ink_bytes (ink_of ink.now) (ink_of to.now)) (T.view term.old) (T.view term.new) result }
+fn recolour<T: TermLike>(term: &mut T, ink: &Colours<'_>, to: &Colours<'_>) -> Result<(), ErrorKind>
+    ensures { Sends (ink_bytes (ink_of ink.now) (ink_of to.now)) (T.view term.old) (T.view term.new) result }
 {
     if are_same(ink, to) {
         return Ok(());
@@ -117,23 +117,23 @@ fn recolour<T: TermLike>(term: &mut T, ink: &Colours<'_>, to: &Colours<'_>) -> i
 }
 
 /// Writes colour sequences within the row; none is no call.
-fn put<T: TermLike>(term: &mut T, sequences: &str) -> io::Result<()>
-    ensures { Writes sequences.now (T.view term.old) (T.view term.new) result }
+fn put<T: TermLike>(term: &mut T, sequences: &str) -> Result<(), ErrorKind>
+    ensures { Sends sequences.now (T.view term.old) (T.view term.new) result }
 {
     if sequences.is_empty() {
         return Ok(());
     }
-    term.write_str(sequences)
+    put_str(term, sequences)
 }
 
 /// Closes all colours that an edit of the row left open, if any are.
-fn close<T: TermLike>(term: &mut T, ink: &Colours<'_>) -> io::Result<()>
-    ensures { Writes (reset_bytes (colours_of (ink_of ink.now))) (T.view term.old) (T.view term.new) result }
+fn close<T: TermLike>(term: &mut T, ink: &Colours<'_>) -> Result<(), ErrorKind>
+    ensures { Sends (reset_bytes (colours_of (ink_of ink.now))) (T.view term.old) (T.view term.new) result }
 {
     if ink.base.is_empty() && ink.group.is_empty() {
         return Ok(());
     }
-    term.write_str(RESET)
+    put_str(term, RESET)
 }
 
 /// Skips the columns that both texts begin with alike, up to the last one of the row; where both end, all but that one, since they are free.
@@ -160,11 +160,11 @@ fn skip(rest: &mut Rest<'_>)
 }
 
 /// Goes right over columns of the row that stay; none is no call.
-pub fn go_right<T: TermLike>(term: &mut T, columns: usize) -> io::Result<()>
-    ensures { Writes (move_bytes RIGHT columns) (T.view term.old) (T.view term.new) result }
+pub fn go_right<T: TermLike>(term: &mut T, columns: usize) -> Result<(), ErrorKind>
+    ensures { Sends (move_bytes RIGHT columns) (T.view term.old) (T.view term.new) result }
 {
     if columns == 0 {
         return Ok(());
     }
-    term.move_cursor_right(columns)
+    told(term.move_cursor_right(columns))
 }

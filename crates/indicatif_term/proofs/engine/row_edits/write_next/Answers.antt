@@ -1,7 +1,7 @@
 use Rattle.std.proofs.Common.{◌+◌, ◌++◌, [], ◌∙◌, sym, arith}
 use Rattle.std.specs.Prelude.{encode_utf8}
 use Rattle.indicatif_term.specs.Calls.{RIGHT, move_bytes}
-use Rattle.indicatif_term.proofs.CallTurnLemmas.{reaches_none, reaches_then, breaks_then, breaks_early, writes_then}
+use Rattle.indicatif_term.proofs.CallTurnLemmas.{reaches_none, reaches_then, breaks_then, breaks_early, sends_then}
 use Rattle.indicatif_term.proofs.RowWritingLemmas.{next_stays, next_writes, next_fails, next_room, next_ends, broken_in}
 use Rattle.indicatif_term.proofs.engine.row_edits.write_next.Goals as goal
 
@@ -37,5 +37,5 @@ returns g c =
     c.next_cell-stands.ensures.first c.next_cell-stands.ensures.rest c.next_cell-c.ensures.first c.next_cell-c.ensures.rest 0 (omega arith) in
     next_ends c.args.ends r c.next_cell-stands.new.reading c.next_cell-c.new.reading c.next_cell-stands.result c.next_cell-c.result c.requires.some c.requires.room
     c.next_cell-stands.ensures.first c.next_cell-stands.ensures.rest c.next_cell-c.ensures.first c.next_cell-c.ensures.rest _ _ (sym c.stays.ensures ∙ c.if-stays.false)
-    (record { small = room.0; olds = room.1; news = room.2 }) c.write_str.result
-    (writes_then _ _ c.write_str.result c.in_ok-recolour.ensures (writes_then _ _ c.write_str.result c.in_ok-go_right.ensures (rw c.encode_utf8.ensures.value at c.write_str.ensures)))
+    (record { small = room.0; olds = room.1; news = room.2 }) c.put_str.result
+    (sends_then _ _ c.put_str.result c.in_ok-recolour.ensures (sends_then _ _ c.put_str.result c.in_ok-go_right.ensures (rw c.encode_utf8.ensures.value at c.put_str.ensures)))
