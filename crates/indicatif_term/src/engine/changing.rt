@@ -100,7 +100,11 @@ fn is_left(line: &StandingLine) -> bool
 }
 
 /// Goes `down` rows down, empties the rows of a line, and writes it as a whole.
-fn write_changed<T: TermLike>(term: &mut T, down: usize, line: &StandingLine) -> Result<(), ErrorKind>
+fn write_changed<T: TermLike>(
+    term: &mut T,
+    down: usize,
+    line: &StandingLine,
+) -> Result<(), ErrorKind>
     ensures { Sends (changed_bytes down line.now.rows (placed_of line.now).line) (T.view term.old) (T.view term.new) result }
 {
     go_down(term, down)?;
@@ -169,7 +173,12 @@ fn write_left<T: TermLike>(
 }
 
 /// Goes `down` rows down, and writes a character into the last column.
-fn write_end<T: TermLike>(term: &mut T, down: usize, text: &str, width: usize) -> Result<(), ErrorKind>
+fn write_end<T: TermLike>(
+    term: &mut T,
+    down: usize,
+    text: &str,
+    width: usize,
+) -> Result<(), ErrorKind>
     ensures { Sends (move_bytes DOWN down ++ ((0x0D ∷ []) ++ (move_bytes RIGHT (width - 1) ++ text.now))) (T.view term.old) (T.view term.new) result }
 {
     go_down(term, down)?;

@@ -8,7 +8,9 @@ ghost use Rattle.indicatif_term.specs.Inside.Parting.{HasPart, part_edits};
 ghost use Rattle.indicatif_term.specs.Inside.Rests.{HasRoom, ink_of, left_bytes};
 
 use crate::engine::comparing::Stretch;
-use crate::engine::inks::{Colours, InkedText, NO_COLOURS, RESET, are_same, char_count, next_cell, split};
+use crate::engine::inks::{
+    Colours, InkedText, NO_COLOURS, RESET, are_same, char_count, next_cell, split,
+};
 use crate::engine::remembered::StandingLine;
 use crate::engine::writing::{go_down, put_str, told};
 use crate::target::term_like::TermLike;

@@ -84,7 +84,11 @@ impl Manner {
 
 /// Writes a drawing: rows are emptied, lines written in the place of others, and below them a text and the rest of the lines; then it
 /// goes below them, if asked, or fills the row.
-pub fn write<T: TermLike>(term: &mut T, writing: &Writing, drawing: &Drawing<'_>) -> Result<(), ErrorKind>
+pub fn write<T: TermLike>(
+    term: &mut T,
+    writing: &Writing,
+    drawing: &Drawing<'_>,
+) -> Result<(), ErrorKind>
     requires { CanWrite writing.now.manner drawing.now.lines.now }
     ensures { Sends (writing_bytes writing.now (text_above drawing.now.text) drawing.now.lines.now) (T.view term.old) (T.view term.new) result }
 {
@@ -117,7 +121,11 @@ fn begin_anew<T: TermLike>(term: &mut T, anew: bool) -> Result<(), ErrorKind>
 }
 
 /// Writes a text and the lines below all others; then it goes below them, if asked, or fills the row.
-fn put_rest<T: TermLike>(term: &mut T, writing: &Writing, drawing: &Drawing<'_>) -> Result<(), ErrorKind>
+fn put_rest<T: TermLike>(
+    term: &mut T,
+    writing: &Writing,
+    drawing: &Drawing<'_>,
+) -> Result<(), ErrorKind>
     requires { CanWrite writing.now.manner drawing.now.lines.now }
     ensures { Sends (rest_bytes writing.now (text_above drawing.now.text) drawing.now.lines.now) (T.view term.old) (T.view term.new) result }
 {
@@ -130,7 +138,11 @@ fn put_rest<T: TermLike>(term: &mut T, writing: &Writing, drawing: &Drawing<'_>)
 }
 
 /// Writes each line of the text that is logged, if any is, on a row of its own; an empty text is one empty line.
-fn put_text<T: TermLike>(term: &mut T, ended: &mut bool, text: Option<&str>) -> Result<(), ErrorKind>
+fn put_text<T: TermLike>(
+    term: &mut T,
+    ended: &mut bool,
+    text: Option<&str>,
+) -> Result<(), ErrorKind>
     ensures { Puts ended.old (text_above text.entry) ended.new (T.view term.old) (T.view term.new) result }
 {
     let text = match text {
@@ -147,7 +159,11 @@ fn put_text<T: TermLike>(term: &mut T, ended: &mut bool, text: Option<&str>) -> 
 }
 
 /// Writes each of these lines on a row of its own.
-fn put_lines<T: TermLike>(term: &mut T, ended: &mut bool, lines: &[StandingLine]) -> Result<(), ErrorKind>
+fn put_lines<T: TermLike>(
+    term: &mut T,
+    ended: &mut bool,
+    lines: &[StandingLine],
+) -> Result<(), ErrorKind>
     ensures { Puts ended.old (texts lines.now) ended.new (T.view term.old) (T.view term.new) result }
 {
     for line in lines {
@@ -186,7 +202,11 @@ pub fn told(done: io::Result<()>) -> Result<(), ErrorKind>
 fn new_row<T: TermLike>(term: &mut T, asked: bool) -> Result<(), ErrorKind>
     ensures { Sends (if asked then next_row else []) (T.view term.old) (T.view term.new) result }
 {
-    if asked { told(term.write_line("")) } else { Ok(()) }
+    if asked {
+        told(term.write_line(""))
+    } else {
+        Ok(())
+    }
 }
 
 /// Empties rows that no drawing has reached, and comes back to the cursor's row; none is no call.
