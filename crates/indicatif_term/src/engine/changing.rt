@@ -14,10 +14,9 @@ use crate::engine::comparing::Step;
 use crate::engine::inks::{InkedText, NO_COLOURS, next_cell};
 use crate::engine::remembered::StandingLine;
 use crate::engine::row_edits::{go_right, write_part};
-use crate::engine::writing::{empty_down, go_down, go_up, put_spaces, put_str};
+use crate::engine::writing::{Sent, empty_down, go_down, go_up, put_spaces, put_str};
 use crate::target::term_like::TermLike;
 use indicatif_text::columns::{columns, width as width_of_char};
-use std::io::ErrorKind;
 
 /// Writes lines in the place of others, from the first down: those that stay are skipped. Below their rows `taken` ones were taken back, and the
 /// cursor is on the first of these; if there are none, it is at the end of the lines' last row. It comes to the end of that, and
@@ -27,7 +26,7 @@ pub fn put_among<T: TermLike>(
     lines: &[StandingLine],
     taken: usize,
     width: usize,
-) -> Result<(), ErrorKind>
+) -> Sent
     requires small { placed_height (placed lines.now) ≤ 65535 }
     requires ready { AreReady lines.now }
     ensures { Sends (among_bytes width taken (placed lines.now)) (T.view term.old) (T.view term.new) result }
@@ -100,11 +99,7 @@ fn is_left(line: &StandingLine) -> bool
 }
 
 /// Goes `down` rows down, empties the rows of a line, and writes it as a whole.
-fn write_changed<T: TermLike>(
-    term: &mut T,
-    down: usize,
-    line: &StandingLine,
-) -> Result<(), ErrorKind>
+fn write_changed<T: TermLike>(term: &mut T, down: usize, line: &StandingLine) -> Sent
     ensures { Sends (changed_bytes down line.now.rows (placed_of line.now).line) (T.view term.old) (T.view term.new) result }
 {
     go_down(term, down)?;
@@ -115,12 +110,7 @@ fn write_changed<T: TermLike>(
 }
 
 /// Passes the last line, from `down` rows above it; the cursor is behind the end of its row then.
-fn write_last<T: TermLike>(
-    term: &mut T,
-    down: usize,
-    line: &StandingLine,
-    width: usize,
-) -> Result<(), ErrorKind>
+fn write_last<T: TermLike>(term: &mut T, down: usize, line: &StandingLine, width: usize) -> Sent
     requires small { down + line.now.rows ≤ 65536 }
     requires ready { IsReady line.now.step (string_bytes line.now.before) (string_bytes line.now.text) }
     ensures { Sends (last_bytes width down (placed_of line.now)) (T.view term.old) (T.view term.new) result }
@@ -139,12 +129,7 @@ fn write_last<T: TermLike>(
 }
 
 /// Writes a line as a whole, with the spaces that fill its last row, in the place of another.
-fn write_filled<T: TermLike>(
-    term: &mut T,
-    down: usize,
-    line: &StandingLine,
-    width: usize,
-) -> Result<(), ErrorKind>
+fn write_filled<T: TermLike>(term: &mut T, down: usize, line: &StandingLine, width: usize) -> Sent
     ensures { Sends (changed_bytes down line.now.rows (filled_whole width (placed_of line.now)).line) (T.view term.old) (T.view term.new) result }
 {
     write_changed(term, down, line)?;
@@ -152,12 +137,7 @@ fn write_filled<T: TermLike>(
 }
 
 /// Writes of a last line that stays its last column again, if that is free or shows plain ASCII; else the line.
-fn write_left<T: TermLike>(
-    term: &mut T,
-    down: usize,
-    line: &StandingLine,
-    width: usize,
-) -> Result<(), ErrorKind>
+fn write_left<T: TermLike>(term: &mut T, down: usize, line: &StandingLine, width: usize) -> Sent
     requires small { down + line.now.rows ≤ 65536 }
     requires stays { line.now.step ≡ Step.Leave }
     ensures { Sends (last_bytes width down (placed_of line.now)) (T.view term.old) (T.view term.new) result }
@@ -173,12 +153,7 @@ fn write_left<T: TermLike>(
 }
 
 /// Goes `down` rows down, and writes a character into the last column.
-fn write_end<T: TermLike>(
-    term: &mut T,
-    down: usize,
-    text: &str,
-    width: usize,
-) -> Result<(), ErrorKind>
+fn write_end<T: TermLike>(term: &mut T, down: usize, text: &str, width: usize) -> Sent
     ensures { Sends (move_bytes DOWN down ++ ((0x0D ∷ []) ++ (move_bytes RIGHT (width - 1) ++ text.now))) (T.view term.old) (T.view term.new) result }
 {
     go_down(term, down)?;
@@ -256,7 +231,7 @@ pub fn put_over<T: TermLike>(
     taken: usize,
     lines: &[StandingLine],
     width: usize,
-) -> Result<(), ErrorKind>
+) -> Sent
     ensures { Sends (moved_bytes width taken (placed lines.now)) (T.view term.old) (T.view term.new) result }
 {
     go_up(term, taken.saturating_sub(1))?;
@@ -268,7 +243,7 @@ pub fn put_over<T: TermLike>(
 }
 
 /// Writes one line over rows, and the spaces that fill its last one.
-fn put_filled<T: TermLike>(term: &mut T, line: &StandingLine, width: usize) -> Result<(), ErrorKind>
+fn put_filled<T: TermLike>(term: &mut T, line: &StandingLine, width: usize) -> Sent
     ensures { Sends (filled_bytes width (placed_of line.now)) (T.view term.old) (T.view term.new) result }
 {
     put_str(term, &line.text)?;
@@ -276,7 +251,7 @@ fn put_filled<T: TermLike>(term: &mut T, line: &StandingLine, width: usize) -> R
 }
 
 /// Writes the spaces that fill a line's last row; an empty text if there are none.
-fn put_fill<T: TermLike>(term: &mut T, count: usize) -> Result<(), ErrorKind>
+fn put_fill<T: TermLike>(term: &mut T, count: usize) -> Sent
     ensures { Sends (replicate count 0x20) (T.view term.old) (T.view term.new) result }
 {
     if count == 0 {

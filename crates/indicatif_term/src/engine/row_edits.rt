@@ -12,9 +12,8 @@ use crate::engine::inks::{
     Colours, InkedText, NO_COLOURS, RESET, are_same, char_count, next_cell, split,
 };
 use crate::engine::remembered::StandingLine;
-use crate::engine::writing::{go_down, put_str, told};
+use crate::engine::writing::{Sent, go_down, put_str, told};
 use crate::target::term_like::TermLike;
-use std::io::ErrorKind;
 
 /// What is left of a row: the text that stands there and the other one, which is to, how many columns they are to have, how many columns
 /// the cursor is behind, and which colour sequences are open.
@@ -33,7 +32,7 @@ pub fn write_part<T: TermLike>(
     down: usize,
     line: &StandingLine,
     part: Stretch,
-) -> Result<(), ErrorKind>
+) -> Sent
     requires small { down + line.now.rows ≤ 65536 }
     requires part { HasPart part (string_bytes line.now.before) (string_bytes line.now.text) }
     ensures { Sends (move_bytes DOWN (down + line.now.rows - 1) ++ row_bytes part.gap (part_edits part (string_bytes line.now.before) (string_bytes line.now.text)))
@@ -72,7 +71,7 @@ fn all_of(line: &StandingLine, part: Stretch) -> Rest<'_>
 }
 
 /// Goes over one column of the row, which stays or gets its character in its colours.
-fn write_next<T: TermLike>(term: &mut T, rest: &mut Rest<'_>, ends: bool) -> Result<(), ErrorKind>
+fn write_next<T: TermLike>(term: &mut T, rest: &mut Rest<'_>, ends: bool) -> Sent
     requires some { 0 < rest.old.left }
     requires room { HasRoom rest.old }
     ensures { MatchResult result
@@ -107,7 +106,7 @@ fn stays(stands: char, c: char, next: &Rest<'_>, ends: bool) -> bool
 }
 
 /// Writes what changes the colours that are open to others.
-fn recolour<T: TermLike>(term: &mut T, ink: &Colours<'_>, to: &Colours<'_>) -> Result<(), ErrorKind>
+fn recolour<T: TermLike>(term: &mut T, ink: &Colours<'_>, to: &Colours<'_>) -> Sent
     ensures { Sends (ink_bytes (ink_of ink.now) (ink_of to.now)) (T.view term.old) (T.view term.new) result }
 {
     if are_same(ink, to) {
@@ -119,7 +118,7 @@ fn recolour<T: TermLike>(term: &mut T, ink: &Colours<'_>, to: &Colours<'_>) -> R
 }
 
 /// Writes colour sequences within the row; none is no call.
-fn put<T: TermLike>(term: &mut T, sequences: &str) -> Result<(), ErrorKind>
+fn put<T: TermLike>(term: &mut T, sequences: &str) -> Sent
     ensures { Sends sequences.now (T.view term.old) (T.view term.new) result }
 {
     if sequences.is_empty() {
@@ -129,7 +128,7 @@ fn put<T: TermLike>(term: &mut T, sequences: &str) -> Result<(), ErrorKind>
 }
 
 /// Closes all colours that an edit of the row left open, if any are.
-fn close<T: TermLike>(term: &mut T, ink: &Colours<'_>) -> Result<(), ErrorKind>
+fn close<T: TermLike>(term: &mut T, ink: &Colours<'_>) -> Sent
     ensures { Sends (reset_bytes (colours_of (ink_of ink.now))) (T.view term.old) (T.view term.new) result }
 {
     if ink.base.is_empty() && ink.group.is_empty() {
@@ -162,7 +161,7 @@ fn skip(rest: &mut Rest<'_>)
 }
 
 /// Goes right over columns of the row that stay; none is no call.
-pub fn go_right<T: TermLike>(term: &mut T, columns: usize) -> Result<(), ErrorKind>
+pub fn go_right<T: TermLike>(term: &mut T, columns: usize) -> Sent
     ensures { Sends (move_bytes RIGHT columns) (T.view term.old) (T.view term.new) result }
 {
     if columns == 0 {

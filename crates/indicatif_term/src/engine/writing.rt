@@ -13,6 +13,9 @@ use crate::target::term_like::TermLike;
 use std::io;
 use std::io::ErrorKind;
 
+/// What comes of calls of a terminal: of a failure the kind alone.
+pub type Sent = Result<(), ErrorKind>;
+
 /// What a drawing writes: a text that stays, and lines.
 #[derive(Clone, Copy)]
 pub struct Drawing<'a> {
@@ -84,11 +87,7 @@ impl Manner {
 
 /// Writes a drawing: rows are emptied, lines written in the place of others, and below them a text and the rest of the lines; then it
 /// goes below them, if asked, or fills the row.
-pub fn write<T: TermLike>(
-    term: &mut T,
-    writing: &Writing,
-    drawing: &Drawing<'_>,
-) -> Result<(), ErrorKind>
+pub fn write<T: TermLike>(term: &mut T, writing: &Writing, drawing: &Drawing<'_>) -> Sent
     requires { CanWrite writing.now.manner drawing.now.lines.now }
     ensures { Sends (writing_bytes writing.now (text_above drawing.now.text) drawing.now.lines.now) (T.view term.old) (T.view term.new) result }
 {
@@ -102,7 +101,7 @@ pub fn write<T: TermLike>(
 }
 
 /// Begins on a new row, if asked, empties the rows that are reached for the first time, and takes back rows.
-fn begin<T: TermLike>(term: &mut T, writing: &Writing) -> Result<(), ErrorKind>
+fn begin<T: TermLike>(term: &mut T, writing: &Writing) -> Sent
     ensures { Sends (begin_bytes writing.now) (T.view term.old) (T.view term.new) result }
 {
     begin_anew(term, writing.anew)?;
@@ -111,7 +110,7 @@ fn begin<T: TermLike>(term: &mut T, writing: &Writing) -> Result<(), ErrorKind>
 }
 
 /// Begins on a new row, which it empties, if asked: whatever the terminal was about to read is over then.
-fn begin_anew<T: TermLike>(term: &mut T, anew: bool) -> Result<(), ErrorKind>
+fn begin_anew<T: TermLike>(term: &mut T, anew: bool) -> Sent
     ensures { Sends (if anew then anew_bytes else []) (T.view term.old) (T.view term.new) result }
 {
     if !anew {
@@ -121,11 +120,7 @@ fn begin_anew<T: TermLike>(term: &mut T, anew: bool) -> Result<(), ErrorKind>
 }
 
 /// Writes a text and the lines below all others; then it goes below them, if asked, or fills the row.
-fn put_rest<T: TermLike>(
-    term: &mut T,
-    writing: &Writing,
-    drawing: &Drawing<'_>,
-) -> Result<(), ErrorKind>
+fn put_rest<T: TermLike>(term: &mut T, writing: &Writing, drawing: &Drawing<'_>) -> Sent
     requires { CanWrite writing.now.manner drawing.now.lines.now }
     ensures { Sends (rest_bytes writing.now (text_above drawing.now.text) drawing.now.lines.now) (T.view term.old) (T.view term.new) result }
 {
@@ -138,11 +133,7 @@ fn put_rest<T: TermLike>(
 }
 
 /// Writes each line of the text that is logged, if any is, on a row of its own; an empty text is one empty line.
-fn put_text<T: TermLike>(
-    term: &mut T,
-    ended: &mut bool,
-    text: Option<&str>,
-) -> Result<(), ErrorKind>
+fn put_text<T: TermLike>(term: &mut T, ended: &mut bool, text: Option<&str>) -> Sent
     ensures { Puts ended.old (text_above text.entry) ended.new (T.view term.old) (T.view term.new) result }
 {
     let text = match text {
@@ -159,11 +150,7 @@ fn put_text<T: TermLike>(
 }
 
 /// Writes each of these lines on a row of its own.
-fn put_lines<T: TermLike>(
-    term: &mut T,
-    ended: &mut bool,
-    lines: &[StandingLine],
-) -> Result<(), ErrorKind>
+fn put_lines<T: TermLike>(term: &mut T, ended: &mut bool, lines: &[StandingLine]) -> Sent
     ensures { Puts ended.old (texts lines.now) ended.new (T.view term.old) (T.view term.new) result }
 {
     for line in lines {
@@ -173,7 +160,7 @@ fn put_lines<T: TermLike>(
 }
 
 /// Writes a line on a row of its own: the next one, if the cursor is at the end of one. It is at the end of this one then.
-fn put<T: TermLike>(term: &mut T, ended: &mut bool, line: &str) -> Result<(), ErrorKind>
+fn put<T: TermLike>(term: &mut T, ended: &mut bool, line: &str) -> Sent
     ensures { Puts ended.old (line.now ∷ []) ended.new (T.view term.old) (T.view term.new) result }
 {
     new_row(term, *ended)?;
@@ -182,14 +169,14 @@ fn put<T: TermLike>(term: &mut T, ended: &mut bool, line: &str) -> Result<(), Er
 }
 
 /// Writes a text by a call of the terminal.
-pub fn put_str<T: TermLike>(term: &mut T, text: &str) -> Result<(), ErrorKind>
+pub fn put_str<T: TermLike>(term: &mut T, text: &str) -> Sent
     ensures { Sends text.now (T.view term.old) (T.view term.new) result }
 {
     told(term.write_str(text))
 }
 
-/// The answer of a call of the terminal: of a failure the kind alone, since an error is large to pass on.
-pub fn told(done: io::Result<()>) -> Result<(), ErrorKind>
+/// What comes of a call of the terminal, without the error, which is large to hand up.
+pub fn told(done: io::Result<()>) -> Sent
     ensures { (bytes : List ℕ) (before after : TermView) → Writes bytes before after done → Sends bytes before after result }
 {
     match done {
@@ -199,7 +186,7 @@ pub fn told(done: io::Result<()>) -> Result<(), ErrorKind>
 }
 
 /// Goes to the front of the next row, if asked.
-fn new_row<T: TermLike>(term: &mut T, asked: bool) -> Result<(), ErrorKind>
+fn new_row<T: TermLike>(term: &mut T, asked: bool) -> Sent
     ensures { Sends (if asked then next_row else []) (T.view term.old) (T.view term.new) result }
 {
     if asked {
@@ -210,7 +197,7 @@ fn new_row<T: TermLike>(term: &mut T, asked: bool) -> Result<(), ErrorKind>
 }
 
 /// Empties rows that no drawing has reached, and comes back to the cursor's row; none is no call.
-fn reach<T: TermLike>(term: &mut T, fresh: Fresh) -> Result<(), ErrorKind>
+fn reach<T: TermLike>(term: &mut T, fresh: Fresh) -> Sent
     ensures { Sends (reach_bytes fresh.down fresh.rows) (T.view term.old) (T.view term.new) result }
 {
     if fresh.rows == 0 {
@@ -222,7 +209,7 @@ fn reach<T: TermLike>(term: &mut T, fresh: Fresh) -> Result<(), ErrorKind>
 }
 
 /// Takes back rows, of which the last is the cursor's or the one above: empties them, and goes back to the first; none is no call.
-fn take_back<T: TermLike>(term: &mut T, below: bool, rows: usize) -> Result<(), ErrorKind>
+fn take_back<T: TermLike>(term: &mut T, below: bool, rows: usize) -> Sent
     ensures { Sends (back_bytes below rows) (T.view term.old) (T.view term.new) result }
 {
     if rows == 0 {
@@ -242,7 +229,7 @@ fn rows_to_first(below: bool, rows: usize) -> usize
 }
 
 /// Goes up `rows` rows by a call of the terminal; none is no call.
-pub fn go_up<T: TermLike>(term: &mut T, rows: usize) -> Result<(), ErrorKind>
+pub fn go_up<T: TermLike>(term: &mut T, rows: usize) -> Sent
     ensures { Sends (move_bytes UP rows) (T.view term.old) (T.view term.new) result }
 {
     if rows == 0 {
@@ -252,7 +239,7 @@ pub fn go_up<T: TermLike>(term: &mut T, rows: usize) -> Result<(), ErrorKind>
 }
 
 /// Goes down `rows` rows by a call of the terminal; none is no call.
-pub fn go_down<T: TermLike>(term: &mut T, rows: usize) -> Result<(), ErrorKind>
+pub fn go_down<T: TermLike>(term: &mut T, rows: usize) -> Sent
     ensures { Sends (move_bytes DOWN rows) (T.view term.old) (T.view term.new) result }
 {
     if rows == 0 {
@@ -262,7 +249,7 @@ pub fn go_down<T: TermLike>(term: &mut T, rows: usize) -> Result<(), ErrorKind>
 }
 
 /// Empties the cursor's row and `more` below it.
-pub fn empty_down<T: TermLike>(term: &mut T, more: usize) -> Result<(), ErrorKind>
+pub fn empty_down<T: TermLike>(term: &mut T, more: usize) -> Sent
     ensures { Sends (clear_bytes ++ rows_down more) (T.view term.old) (T.view term.new) result }
 {
     told(term.clear_line())?;
@@ -270,7 +257,7 @@ pub fn empty_down<T: TermLike>(term: &mut T, more: usize) -> Result<(), ErrorKin
 }
 
 /// Empties rows below the cursor's, and stays on the last of them.
-fn empty_below<T: TermLike>(term: &mut T, rows: usize) -> Result<(), ErrorKind>
+fn empty_below<T: TermLike>(term: &mut T, rows: usize) -> Sent
     ensures { Sends (rows_down rows) (T.view term.old) (T.view term.new) result }
 {
     for _ in 0..rows {
@@ -280,7 +267,7 @@ fn empty_below<T: TermLike>(term: &mut T, rows: usize) -> Result<(), ErrorKind>
 }
 
 /// Goes to the next row and empties it.
-fn empty_next<T: TermLike>(term: &mut T) -> Result<(), ErrorKind>
+fn empty_next<T: TermLike>(term: &mut T) -> Sent
     ensures { Sends (next_row ++ clear_bytes) (T.view term.old) (T.view term.new) result }
 {
     told(term.write_line(""))?;
@@ -288,7 +275,7 @@ fn empty_next<T: TermLike>(term: &mut T) -> Result<(), ErrorKind>
 }
 
 /// Writes `count` spaces, many by one call of the terminal.
-pub fn put_spaces<T: TermLike>(term: &mut T, count: usize) -> Result<(), ErrorKind>
+pub fn put_spaces<T: TermLike>(term: &mut T, count: usize) -> Sent
     ensures { Sends (replicate count 0x20) (T.view term.old) (T.view term.new) result }
 {
     let mut left = count;
