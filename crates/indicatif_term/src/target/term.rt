@@ -134,7 +134,9 @@ impl<W: Write> TermLike for Term<W> {
     }
 
     fn write_line(&mut self, s: &str) -> io::Result<()> {
-        self.write_str(s)?;
+        if !s.is_empty() {
+            self.write_str(s)?;
+        }
         self.write_str("\r\n")
     }
 
