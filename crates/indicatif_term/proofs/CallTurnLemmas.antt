@@ -9,7 +9,7 @@ use Rattle.std.proofs.lemmas.Bool.Decides.{nat_tests}
 use Rattle.indicatif_term.specs.Terminal.{after}
 use Rattle.indicatif_term.proofs.FeedLemmas.{after-append}
 use Rattle.indicatif_term.specs.Calls.{Told, State, Bytes, Nothing, is_told, led_on, TermView, LeadsOn, BreaksOff, Writes, clear_bytes, move_bytes}
-use Rattle.indicatif_term.specs.Inside.MoveBytes.{lines_bytes, next_row, rows_down, reach_bytes, back_bytes}
+use Rattle.indicatif_term.specs.Inside.MoveBytes.{Sends, lines_bytes, next_row, rows_down, reach_bytes, back_bytes}
 
 pub led_on-append : (told : Told) (a b : List ℕ) → led_on (led_on told a) b ≡ led_on told (a ++ b)
 led_on-append (State t) a b = ap State (sym (after-append t a b))
@@ -80,6 +80,15 @@ pub writes_fail : {a : List ℕ} (b : List ℕ) {s t : TermView} (e : Error) (r 
 writes_fail b e (Ok x) h q = absurd h
 writes_fail {a} b {s} {t} e (Err x) h q = breaks_early b (subst (λ y. BreaksOff a (error_kind y) s t) (sym h) q)
 
+-- the same of a call that tells only the kind of a failure
+pub sends_then : {a : List ℕ} (b : List ℕ) {s t : TermView} (u : TermView) (r : Result Unit ErrorKind) → LeadsOn a s t → Sends b t u r → Sends (a ++ b) s u r
+sends_then b u (Ok x) p q = reaches_then p q
+sends_then b u (Err k) p q = breaks_then p q
+
+pub sends_fail : {a : List ℕ} (b : List ℕ) {s t : TermView} (k : ErrorKind) (r : Result Unit ErrorKind) → IsErrAnd r (λ x. x ≡ k) → BreaksOff a k s t → Sends (a ++ b) s t r
+sends_fail b k (Ok x) h q = absurd h
+sends_fail {a} b {s} {t} k (Err x) h q = breaks_early b (subst (λ y. BreaksOff a y s t) (sym h) q)
+
 -- ---- lines
 
 pub lt_after : (n : ℕ) → nat_lt 0 (suc n) ≡ true
@@ -119,15 +128,15 @@ down_reaches a i {s} {t} {u} p q =
     subst (λ x. LeadsOn x s u) (append_assoc a (rows_down i) row_down ∙ ap (λ x. a ++ x) (sym (rows_down-add i 1))) r
 
 -- or it fails
-pub down_fails : (a : List ℕ) (i n : ℕ) {s t : TermView} (u : TermView) (x : Error) (r : Result Unit Error) → i < n → IsErrAnd r (λ y. y ≡ x) → LeadsOn (a ++ rows_down i) s t →
-    BreaksOff row_down (error_kind x) t u →
-    Writes (a ++ rows_down n) s u r
+pub down_fails : (a : List ℕ) (i n : ℕ) {s t : TermView} (u : TermView) (x : ErrorKind) (r : Result Unit ErrorKind) → i < n → IsErrAnd r (λ y. y ≡ x) → LeadsOn (a ++ rows_down i) s t →
+    BreaksOff row_down x t u →
+    Sends (a ++ rows_down n) s u r
 down_fails a i n {s} {t} u x r k e p q =
     let rest = rows_down (n - 1 - i) in
     let f : n ≡ i + (1 + (n - 1 - i)) = omega arith in
     let g : rows_down n ≡ rows_down i ++ (row_down ++ rest) = ap rows_down f ∙ rows_down-add i (1 + (n - 1 - i)) ∙ ap (λ x. rows_down i ++ x) (rows_down-add 1 (n - 1 - i)) in
-    let w : Writes (((a ++ rows_down i) ++ row_down) ++ rest) s u r = writes_fail rest x r e (breaks_then p q) in
-    rw g (subst (λ x. Writes x s u r) (append_assoc (a ++ rows_down i) row_down rest ∙ append_assoc a (rows_down i) (row_down ++ rest)) w)
+    let w : Sends (((a ++ rows_down i) ++ row_down) ++ rest) s u r = sends_fail rest x r e (breaks_then p q) in
+    rw g (subst (λ x. Sends x s u r) (append_assoc (a ++ rows_down i) row_down rest ∙ append_assoc a (rows_down i) (row_down ++ rest)) w)
 
 -- ---- a whole drawing
 

@@ -1,13 +1,11 @@
 -- Lines that are put one after another are put as one list, and a failure is one of the whole.
 use Rattle.std.proofs.Common.{◌≡◌, ℕ, ◌<◌, ◌+◌, Bool, List, [], ◌∷◌, ◌++◌, ◌||◌, length, take, drop, get_or, Result, Ok, Err, refl, sym, ◌∙◌, ap, subst, length-append}
 use Rattle.std.specs.Prelude.{nat_lt, IsErrAnd}
-use Rattle.std.specs.IoError.{error_kind}
-use Rattle.std.specs.declared.io.Error.{Error}
 use Rattle.std.specs.declared.io.ErrorKind.{ErrorKind}
 use Rattle.std.proofs.Math.Bool.{or-false}
 use Rattle.std.proofs.lemmas.List.{take_more, take-append-drop}
-use Rattle.indicatif_term.specs.Calls.{TermView, BreaksOff, Writes}
-use Rattle.indicatif_term.specs.Inside.MoveBytes.{lines_bytes, ArePut, Puts}
+use Rattle.indicatif_term.specs.Calls.{TermView, BreaksOff}
+use Rattle.indicatif_term.specs.Inside.MoveBytes.{lines_bytes, ArePut, Puts, Sends}
 use Rattle.indicatif_term.proofs.CallTurnLemmas.{reaches_none, reaches_then, breaks_then, breaks_early, lines-append, or_lt_sum}
 
 pub put_none : (x : Bool) (s : TermView) → ArePut x [] x s s
@@ -30,12 +28,12 @@ put_breaks {x} {y} {a} b rest all {kind} {s} {t} {u} e p q =
     let some : BreaksOff (lines_bytes x (a ++ b)) kind s u = rw (behind x y a b p.ended_is) at (breaks_then p.leads q) in
     rw (behind x (x || nat_lt 0 (length (a ++ b))) (a ++ b) rest refl, e) at (breaks_early (lines_bytes (x || nat_lt 0 (length (a ++ b))) rest) some)
 
-pub puts_fail : (x : Bool) (lines : List (List ℕ)) (ended : Bool) {s t : TermView} (e : Error) (r : Result Unit Error) → IsErrAnd r (λ z. z ≡ e) →
-    BreaksOff (lines_bytes x lines) (error_kind e) s t → Puts x lines ended s t r
+pub puts_fail : (x : Bool) (lines : List (List ℕ)) (ended : Bool) {s t : TermView} (e : ErrorKind) (r : Result Unit ErrorKind) → IsErrAnd r (λ z. z ≡ e) →
+    BreaksOff (lines_bytes x lines) e s t → Puts x lines ended s t r
 puts_fail x lines ended e (Ok u) h q = absurd h
-puts_fail x lines ended {s} {t} e (Err z) h q = subst (λ y. BreaksOff (lines_bytes x lines) (error_kind y) s t) (sym h) q
+puts_fail x lines ended {s} {t} e (Err z) h q = subst (λ y. BreaksOff (lines_bytes x lines) y s t) (sym h) q
 
-pub puts_of : (x : Bool) (lines : List (List ℕ)) (ended : Bool) (s t : TermView) (r : Result Unit Error) → ended ≡ (x || nat_lt 0 (length lines)) → Writes (lines_bytes x lines) s t r →
+pub puts_of : (x : Bool) (lines : List (List ℕ)) (ended : Bool) (s t : TermView) (r : Result Unit ErrorKind) → ended ≡ (x || nat_lt 0 (length lines)) → Sends (lines_bytes x lines) s t r →
     Puts x lines ended s t r
 puts_of x lines ended s t (Ok u) e w = record { leads = w; ended_is = e }
 puts_of x lines ended s t (Err z) e w = w

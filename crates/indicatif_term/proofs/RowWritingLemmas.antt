@@ -1,15 +1,14 @@
 -- The bytes of the rest of a row, column by column.
 use Rattle.std.proofs.Common.{inl, inr, ◌≡◌, ℕ, zero, suc, ◌+◌, ◌-◌, ◌<◌, ◌≤◌, Bool, true, false, ◌&&◌, not, List, [], ◌∷◌, ◌++◌, length, replicate, Result, Ok, Err, refl, sym, ◌∙◌, ap, subst, arith, append_assoc, append-nil}
 use Rattle.std.specs.Prelude.{◌==◌, encode_utf8, IsErrAnd, MatchResult}
-use Rattle.std.specs.IoError.{error_kind}
-use Rattle.std.specs.declared.io.Error.{Error}
 use Rattle.std.specs.declared.io.ErrorKind.{ErrorKind}
 use Rattle.std.proofs.lemmas.Bool.Decides.{nat_tests}
 use Rattle.std.specs.Str.{bytes_eq}
 use Rattle.std.proofs.lemmas.Bool.{cases_Bool}
 use Rattle.std.proofs.lemmas.Slice.Eq.{bytes_eq-Decides}
-use Rattle.indicatif_term.specs.Calls.{RIGHT, move_bytes, TermView, LeadsOn, BreaksOff, Writes}
-use Rattle.indicatif_term.proofs.CallTurnLemmas.{breaks_then, breaks_early, writes_fail}
+use Rattle.indicatif_term.specs.Calls.{RIGHT, move_bytes, TermView, LeadsOn, BreaksOff}
+use Rattle.indicatif_term.specs.Inside.MoveBytes.{Sends}
+use Rattle.indicatif_term.proofs.CallTurnLemmas.{breaks_then, breaks_early, sends_fail}
 use Rattle.indicatif_term.specs.Inside.Inks.{RESET, Ink, NONE, colours_of, same_ink, Inked, in_ink, is_alike, padded}
 use Rattle.indicatif_term.specs.Inside.RowEdits.{Edit, Write, edit_bytes, closed, opened, recoloured, plan, rest_bytes, reset_bytes, ink_bytes}
 use Rattle.indicatif_term.specs.Inside.Rests.{HasRoom, ink_of, cells, left_bytes}
@@ -90,8 +89,8 @@ module _ (ends : Bool) (ink : Ink) (gap n : ℕ) (c d : Inked) (olds news os ns 
 
 -- the first column of what is left of a row
 module _ (ends : Bool) (rest : Rest) (old new : InkedText) (stands c : ℕ) (some : 0 < rest.left) (room : HasRoom rest)
-    (first : (n : ℕ) → padded (suc n) (cells rest.old) ≡ in_ink (ink_of old.ink) stands ∷ padded n (cells old)) (few : length (cells old) ≡ length (cells rest.old) - 1)
-    (first' : (n : ℕ) → padded (suc n) (cells rest.new) ≡ in_ink (ink_of new.ink) c ∷ padded n (cells new)) (few' : length (cells new) ≡ length (cells rest.new) - 1) where
+    (first : (n : ℕ) → padded (suc n) (cells rest.own) ≡ in_ink (ink_of old.ink) stands ∷ padded n (cells old)) (few : length (cells old) ≡ length (cells rest.own) - 1)
+    (first' : (n : ℕ) → padded (suc n) (cells rest.other) ≡ in_ink (ink_of new.ink) c ∷ padded n (cells new)) (few' : length (cells new) ≡ length (cells rest.other) - 1) where
   abbrev pub left_alike : Bool
   left_alike = is_alike (in_ink (ink_of old.ink) stands) (in_ink (ink_of new.ink) c) && not (ends && (rest.left - 1 == 0))
 
@@ -101,23 +100,32 @@ module _ (ends : Bool) (rest : Rest) (old new : InkedText) (stands c : ℕ) (som
   news : length (cells new) ≤ rest.left - 1
   news = omega (arith, few', room.news)
 
-  in_whole : left_bytes ends rest ≡ rest_bytes ends (ink_of rest.ink) rest.gap (suc (rest.left - 1)) (cells rest.old) (cells rest.new)
-  in_whole = ap (λ k. rest_bytes ends (ink_of rest.ink) rest.gap k (cells rest.old) (cells rest.new)) whole
+  in_whole : left_bytes ends rest ≡ rest_bytes ends (ink_of rest.ink) rest.gap (suc (rest.left - 1)) (cells rest.own) (cells rest.other)
+  in_whole = ap (λ k. rest_bytes ends (ink_of rest.ink) rest.gap k (cells rest.own) (cells rest.other)) whole
 
   pub next_stays : left_alike ≡ true → rest_bytes ends (ink_of rest.ink) (rest.gap + 1) (rest.left - 1) (cells old) (cells new) ≡ left_bytes ends rest
-  next_stays e = sym (in_whole ∙ rest_stays ends (ink_of rest.ink) rest.gap (rest.left - 1) (in_ink (ink_of old.ink) stands) (in_ink (ink_of new.ink) c) (cells rest.old) (cells rest.new)
+  next_stays e = sym (in_whole ∙ rest_stays ends (ink_of rest.ink) rest.gap (rest.left - 1) (in_ink (ink_of old.ink) stands) (in_ink (ink_of new.ink) c) (cells rest.own) (cells rest.other)
       (cells old) (cells new) (first (rest.left - 1)) (first' (rest.left - 1)) news e)
 
   abbrev pub next_bytes : List ℕ
   next_bytes = ink_bytes (ink_of rest.ink) (ink_of new.ink) ++ (move_bytes RIGHT rest.gap ++ encode_utf8 c)
 
   pub next_writes : left_alike ≡ false → next_bytes ++ rest_bytes ends (ink_of new.ink) 0 (rest.left - 1) (cells old) (cells new) ≡ left_bytes ends rest
-  next_writes e = sym (in_whole ∙ rest_writes ends (ink_of rest.ink) rest.gap (rest.left - 1) (in_ink (ink_of old.ink) stands) (in_ink (ink_of new.ink) c) (cells rest.old) (cells rest.new)
+  next_writes e = sym (in_whole ∙ rest_writes ends (ink_of rest.ink) rest.gap (rest.left - 1) (in_ink (ink_of old.ink) stands) (in_ink (ink_of new.ink) c) (cells rest.own) (cells rest.other)
       (cells old) (cells new) (first (rest.left - 1)) (first' (rest.left - 1)) news e)
 
   pub next_fails : {s u : TermView} {k : ErrorKind} → left_alike ≡ false → BreaksOff next_bytes k s u → BreaksOff (left_bytes ends rest) k s u
   next_fails {s} {u} {k} e b =
       let more = rest_bytes ends (ink_of new.ink) 0 (rest.left - 1) (cells old) (cells new) in subst (λ x. BreaksOff x k s u) (next_writes e) (breaks_early more b)
+
+  abbrev behind : Rest
+  behind = record { own = old; other = new; left = rest.left - 1; gap = 0; ink = new.ink }
+
+  pub next_ends : (s u : TermView) → left_alike ≡ false → HasRoom behind → (r : Result Unit ErrorKind) → Sends next_bytes s u r → MatchResult r
+      (λ x. (done : List ℕ) × LeadsOn done s u × (done ++ left_bytes ends behind ≡ left_bytes ends rest) × (behind.left < rest.left) × HasRoom behind)
+      (λ k. BreaksOff (left_bytes ends rest) k s u)
+  next_ends s u e h (Ok x) w = (next_bytes, w, next_writes e, omega (arith, some), h)
+  next_ends s u e h (Err x) w = next_fails e w
 
   pub next_room : (gap : ℕ) → gap ≤ rest.gap + 1 → (gap + (rest.left - 1) ≤ 65535) × (length (cells old) ≤ rest.left - 1) × (length (cells new) ≤ rest.left - 1)
   next_room gap e = (omega (arith, room.small, some, e), omega (arith, few, room.olds), news)
@@ -177,8 +185,8 @@ pub broken_in : {A E : Type 0} {e : E} (r : Result A E) (P : A → Type 0) (B : 
 broken_in (Ok x) P B h b = absurd h
 broken_in (Err x) P B h b = subst B (sym h) b
 
-pub rest_fails : (done rest all : List ℕ) (s t u : TermView) (e : Error) (r : Result Unit Error) → IsErrAnd r (λ x. x ≡ e) → LeadsOn done s t → BreaksOff rest (error_kind e) t u →
-    done ++ rest ≡ all → Writes all s u r
+pub rest_fails : (done rest all : List ℕ) (s t u : TermView) (e : ErrorKind) (r : Result Unit ErrorKind) → IsErrAnd r (λ x. x ≡ e) → LeadsOn done s t → BreaksOff rest e t u →
+    done ++ rest ≡ all → Sends all s u r
 rest_fails done rest all s t u e r h p q whole =
-    let b : BreaksOff all (error_kind e) s u = subst (λ x. BreaksOff x (error_kind e) s u) whole (breaks_then p q) in
-    subst (λ x. Writes x s u r) (append-nil all) (writes_fail [] e r h b)
+    let b : BreaksOff all e s u = subst (λ x. BreaksOff x e s u) whole (breaks_then p q) in
+    subst (λ x. Sends x s u r) (append-nil all) (sends_fail [] e r h b)

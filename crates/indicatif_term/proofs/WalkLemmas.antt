@@ -1,11 +1,11 @@
 -- The bytes of a walk through lines, line by line.
 use Rattle.std.proofs.Common.{min, inl, inr, ◌≡◌, ℕ, ◌+◌, ◌-◌, ◌<◌, ◌≤◌, Bool, true, false, List, [], ◌∷◌, ◌++◌, length, take, drop, get_or, Result, refl, sym, ◌∙◌, ap, subst, arith, append_assoc, append-nil}
 use Rattle.std.specs.Prelude.{◌&&◌, ◌==◌, if◌then◌else◌, nat_lt, slice_index, IsErrAnd, string_bytes}
-use Rattle.std.specs.IoError.{error_kind}
-use Rattle.std.specs.declared.io.Error.{Error}
+use Rattle.std.specs.declared.io.ErrorKind.{ErrorKind}
 use Rattle.std.proofs.lemmas.Bool.{cases_Bool, false≢true}
 use Rattle.std.proofs.lemmas.List.{take_more, map-append, take-append-drop}
-use Rattle.indicatif_term.specs.Calls.{TermView, LeadsOn, BreaksOff, Writes, UP, DOWN, RIGHT, move_bytes}
+use Rattle.indicatif_term.specs.Calls.{TermView, LeadsOn, BreaksOff, UP, DOWN, RIGHT, move_bytes}
+use Rattle.indicatif_term.specs.Inside.MoveBytes.{Sends}
 use Rattle.indicatif_term.specs.Inside.Changing.{Change, Leave, Within, Whole, PlacedLine, placed_height, emptied_bytes, changed_bytes, step_bytes, step_down, walk_bytes, walk_down, frame_bytes, ending, ending_by, last_bytes, stays, all_stay, among_bytes, ends_plainly, last_byte}
 use Rattle.std.proofs.Math.Utf8.{encode}
 use Rattle.indicatif_term.proofs.LastCharLemmas.{last_is}
@@ -13,7 +13,7 @@ use Rattle.indicatif_term.specs.Inside.Parting.{change_of, IsReady}
 use Rattle.indicatif_term.specs.declared.engine.comparing.Step.{Step}
 use Rattle.indicatif_term.specs.Standing.{placed_of, placed, AreReady}
 use Rattle.indicatif_term.specs.declared.engine.remembered.StandingLine.{StandingLine}
-use Rattle.indicatif_term.proofs.CallTurnLemmas.{reaches_then, breaks_then, writes_fail}
+use Rattle.indicatif_term.proofs.CallTurnLemmas.{reaches_then, breaks_then, sends_fail}
 use Rattle.indicatif_term.proofs.BesideLemmas.{ready_at}
 use Rattle.indicatif_term.proofs.AmongLemmas.{among_parts}
 use Rattle.indicatif_term.proofs.RememberedLemmas.{height_push, up_to_last, height_to_last}
@@ -89,8 +89,8 @@ module _ (lines : List StandingLine) (i : ℕ) (x : StandingLine) (h : i < lengt
       ap (λ z. step_down (change_of z (string_bytes x.before) (string_bytes x.text)) down x.rows) (sym is) ∙ ap (λ n. step_down (placed_of x).change n x.rows) d ∙ sym down_next
 
   -- a failure within a line is one of the whole
-  pub walk_fails : (up last : List ℕ) (s : Step) (down : ℕ) (v t u : TermView) (e : Error) (r : Result Unit Error) → x.step ≡ s → down ≡ walk_down 0 (placed (take i lines)) →
-      IsErrAnd r (λ z. z ≡ e) → LeadsOn (up ++ walk_bytes 0 (placed (take i lines))) v t → BreaksOff (stepped s down) (error_kind e) t u → Writes (up ++ (walk_bytes 0 (placed lines) ++ last)) v u r
+  pub walk_fails : (up last : List ℕ) (s : Step) (down : ℕ) (v t u : TermView) (e : ErrorKind) (r : Result Unit ErrorKind) → x.step ≡ s → down ≡ walk_down 0 (placed (take i lines)) →
+      IsErrAnd r (λ z. z ≡ e) → LeadsOn (up ++ walk_bytes 0 (placed (take i lines))) v t → BreaksOff (stepped s down) e t u → Sends (up ++ (walk_bytes 0 (placed lines) ++ last)) v u r
   walk_fails up last s down v t u e r is d h p q =
       let whole : placed (take (i + 1) lines) ++ placed (drop (i + 1) lines) ≡ placed lines =
       sym (map-append placed_of (take (i + 1) lines) (drop (i + 1) lines)) ∙ ap placed (take-append-drop (i + 1) lines) in
@@ -99,8 +99,8 @@ module _ (lines : List StandingLine) (i : ℕ) (x : StandingLine) (h : i < lengt
       let all : walk_bytes 0 (placed lines) ≡ (before ++ stepped s down) ++ rest =
       ap (walk_bytes 0) (sym whole) ∙ walk-append 0 (placed (take (i + 1) lines)) (placed (drop (i + 1) lines))
       ∙ ap (λ y. y ++ rest) (bytes_next ∙ ap (λ y. before ++ y) (sym (is_step s down is d))) in
-      let b : Writes (((up ++ before) ++ stepped s down) ++ (rest ++ last)) v u r = writes_fail (rest ++ last) e r h (breaks_then p q) in
-      subst (λ y. Writes y v u r) (six up before (stepped s down) rest last ∙ ap (λ y. up ++ (y ++ last)) (sym all)) b where
+      let b : Sends (((up ++ before) ++ stepped s down) ++ (rest ++ last)) v u r = sends_fail (rest ++ last) e r h (breaks_then p q) in
+      subst (λ y. Sends y v u r) (six up before (stepped s down) rest last ∙ ap (λ y. up ++ (y ++ last)) (sym all)) b where
         six : (a b c d e : List ℕ) → ((a ++ b) ++ c) ++ (d ++ e) ≡ a ++ (((b ++ c) ++ d) ++ e)
         six a b c d e = simp append_assoc
 

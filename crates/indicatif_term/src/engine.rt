@@ -63,7 +63,7 @@ use crate::engine::layout::{Asked, Laid, metrics_of_text, plan_drawing, run_of};
 use crate::engine::recutting::{CutLines, Widths};
 use crate::engine::remembered::{Remembered, Span, StandingLine};
 use crate::engine::spare::Spare;
-use crate::engine::writing::{Drawing, Manner, Writing, write};
+use crate::engine::writing::{Drawing, Manner, Writing, told, write};
 use crate::target::limiter::RateLimiter;
 use crate::target::lines::Segment;
 use crate::target::term_like::{Resize, TermLike};
@@ -71,7 +71,7 @@ use crate::target::window::Window;
 use crate::target::{MultiProgressAlignment, ProgressDrawTarget};
 use indicatif_text::columns::Refusal;
 use std::alloc::Global;
-use std::io;
+use std::io::ErrorKind;
 
 /// How many drawings in a row may leave lines that stay, and edit others, before one writes all lines as a whole: whatever another program
 /// wrote into their rows is gone then.
@@ -130,7 +130,8 @@ impl<T: Drop> Drop for Engine<T> {
 impl<T: TermLike + Drop> Engine<T> {
     ghost use Rattle.indicatif_term.specs.Lists.{Lists, drawn, logged, cleared, kept_of, fate};
     ghost use Rattle.indicatif_term.specs.Inside.Writings.{CanWrite, writing_bytes};
-    ghost use Rattle.indicatif_term.specs.Calls.{TermView, Writes};
+    ghost use Rattle.indicatif_term.specs.Calls.{TermView};
+    ghost use Rattle.indicatif_term.specs.Inside.MoveBytes.{Sends};
     ghost use Rattle.indicatif_term.specs.Lines.{bar_lines, all_lines, are_plain, logged_lines, text_lines, is_fault};
     ghost use Rattle.indicatif_term.specs.Inside.Plans.{frame_lines, text_above};
     ghost use Rattle.indicatif_term.specs.Engines.{engine_moves, engine_term, Fits, is_failure, Answers, Counted, Paints, lists_after};
@@ -454,7 +455,7 @@ impl<T: TermLike + Drop> Engine<T> {
     {
         self.spare.store_laid(laid);
         self.counts = next;
-        let written = self.term.flush();
+        let written = told(self.term.flush());
         self.ended(written)
     }
 
@@ -479,18 +480,18 @@ impl<T: TermLike + Drop> Engine<T> {
 
     /// The answer of the engine after a drawing was written; after a failure all is forgotten but that a call has failed.
     #[inline(always)]
-    fn ended(&mut self, written: io::Result<()>) -> Result<(), Refusal>
+    fn ended(&mut self, written: Result<(), ErrorKind>) -> Result<(), Refusal>
         requires sound { self.old.failed ≡ false }
-        ensures draws { (bytes : List ℕ) (v : TermView) → Writes bytes v (T.view (engine_term self.old)) written →
+        ensures draws { (bytes : List ℕ) (v : TermView) → Sends bytes v (T.view (engine_term self.old)) written →
             Draws bytes v (T.view (engine_term self.new)) result }
         ensures remembers { Remembers self.old.counts self.old.shown result self.new }
         ensures moves { engine_moves self.new ≡ engine_moves self.old }
     {
         match written {
             Ok(()) => Ok(()),
-            Err(e) => {
+            Err(kind) => {
                 self.forget();
-                Err(Refusal::Terminal(e.kind()))
+                Err(Refusal::Terminal(kind))
             }
         }
     }

@@ -19,13 +19,13 @@ cells r = read (ink_of r.ink) (chars r.text.now)
 
 -- the bytes to write
 abbrev pub left_bytes : Bool → Rest → List ℕ
-left_bytes ends r = rest_bytes ends (ink_of r.ink) r.gap r.left (cells r.old) (cells r.new)
+left_bytes ends r = rest_bytes ends (ink_of r.ink) r.gap r.left (cells r.own) (cells r.other)
 
 -- the cells fit in the columns that are left
 pub record HasRoom (r : Rest) : Type 0 where
   pub small : r.gap + r.left ≤ 65535
-  pub olds : length (cells r.old) ≤ r.left
-  pub news : length (cells r.new) ≤ r.left
+  pub olds : length (cells r.own) ≤ r.left
+  pub news : length (cells r.other) ≤ r.left
 
 -- two texts with the same first n bytes, without an escape character
 pub record AreShared (n : ℕ) (old new : List ℕ) : Type 0 where

@@ -2,21 +2,21 @@
 //! so that the cursor only moves.
 ghost use Rattle.std.specs.Prelude.{length, ◌≡◌, ◌==◌, ◌&&◌, ◌+◌, ◌-◌, ◌*◌, ◌≤◌, ◌++◌, ◌∷◌, [], IsTrue, IfSome, chars, replicate, string_bytes};
 ghost use Rattle.indicatif_text.specs.Columns.{visible};
-ghost use Rattle.indicatif_term.specs.Calls.{Writes, DOWN, RIGHT, move_bytes};
+ghost use Rattle.indicatif_term.specs.Calls.{DOWN, RIGHT, move_bytes};
 ghost use Rattle.indicatif_term.specs.Inside.Changing.{placed_height, changed_bytes, filled_whole, last_bytes, all_stay, stays, free_behind, among_bytes, ends_plainly, last_byte, filled_bytes, moved_bytes, joins, IsEven, AreEven};
+ghost use Rattle.indicatif_term.specs.Inside.MoveBytes.{Sends};
 ghost use Rattle.indicatif_term.specs.Inside.Parting.{IsReady};
 ghost use Rattle.indicatif_term.specs.Inside.Fills.{last_of};
 ghost use Rattle.indicatif_term.specs.Standing.{placed_of, placed, AreReady};
 
 use crate::engine::beside::height_of;
 use crate::engine::comparing::Step;
-use crate::engine::inks::{Colours, InkedText, first_cell};
+use crate::engine::inks::{InkedText, NO_COLOURS, next_cell};
 use crate::engine::remembered::StandingLine;
 use crate::engine::row_edits::{go_right, write_part};
-use crate::engine::writing::{empty_down, go_down, go_up, put_spaces};
+use crate::engine::writing::{Sent, empty_down, go_down, go_up, put_spaces, put_str};
 use crate::target::term_like::TermLike;
 use indicatif_text::columns::{columns, width as width_of_char};
-use std::io;
 
 /// Writes lines in the place of others, from the first down: those that stay are skipped. Below their rows `taken` ones were taken back, and the
 /// cursor is on the first of these; if there are none, it is at the end of the lines' last row. It comes to the end of that, and
@@ -26,10 +26,10 @@ pub fn put_among<T: TermLike>(
     lines: &[StandingLine],
     taken: usize,
     width: usize,
-) -> io::Result<()>
+) -> Sent
     requires small { placed_height (placed lines.now) ≤ 65535 }
     requires ready { AreReady lines.now }
-    ensures { Writes (among_bytes width taken (placed lines.now)) (T.view term.old) (T.view term.new) result }
+    ensures { Sends (among_bytes width taken (placed lines.now)) (T.view term.old) (T.view term.new) result }
 {
     if lines.is_empty() {
         return Ok(());
@@ -99,26 +99,21 @@ fn is_left(line: &StandingLine) -> bool
 }
 
 /// Goes `down` rows down, empties the rows of a line, and writes it as a whole.
-fn write_changed<T: TermLike>(term: &mut T, down: usize, line: &StandingLine) -> io::Result<()>
-    ensures { Writes (changed_bytes down line.now.rows (placed_of line.now).line) (T.view term.old) (T.view term.new) result }
+fn write_changed<T: TermLike>(term: &mut T, down: usize, line: &StandingLine) -> Sent
+    ensures { Sends (changed_bytes down line.now.rows (placed_of line.now).line) (T.view term.old) (T.view term.new) result }
 {
     go_down(term, down)?;
     let more = line.rows.saturating_sub(1);
     empty_down(term, more)?;
     go_up(term, more)?;
-    term.write_str(&line.text)
+    put_str(term, &line.text)
 }
 
 /// Passes the last line, from `down` rows above it; the cursor is behind the end of its row then.
-fn write_last<T: TermLike>(
-    term: &mut T,
-    down: usize,
-    line: &StandingLine,
-    width: usize,
-) -> io::Result<()>
+fn write_last<T: TermLike>(term: &mut T, down: usize, line: &StandingLine, width: usize) -> Sent
     requires small { down + line.now.rows ≤ 65536 }
     requires ready { IsReady line.now.step (string_bytes line.now.before) (string_bytes line.now.text) }
-    ensures { Writes (last_bytes width down (placed_of line.now)) (T.view term.old) (T.view term.new) result }
+    ensures { Sends (last_bytes width down (placed_of line.now)) (T.view term.old) (T.view term.new) result }
 {
     match line.step {
         Step::Leave => write_left(term, down, line, width),
@@ -134,28 +129,18 @@ fn write_last<T: TermLike>(
 }
 
 /// Writes a line as a whole, with the spaces that fill its last row, in the place of another.
-fn write_filled<T: TermLike>(
-    term: &mut T,
-    down: usize,
-    line: &StandingLine,
-    width: usize,
-) -> io::Result<()>
-    ensures { Writes (changed_bytes down line.now.rows (filled_whole width (placed_of line.now)).line) (T.view term.old) (T.view term.new) result }
+fn write_filled<T: TermLike>(term: &mut T, down: usize, line: &StandingLine, width: usize) -> Sent
+    ensures { Sends (changed_bytes down line.now.rows (filled_whole width (placed_of line.now)).line) (T.view term.old) (T.view term.new) result }
 {
     write_changed(term, down, line)?;
     put_spaces(term, width.saturating_sub(line.last))
 }
 
 /// Writes of a last line that stays its last column again, if that is free or shows plain ASCII; else the line.
-fn write_left<T: TermLike>(
-    term: &mut T,
-    down: usize,
-    line: &StandingLine,
-    width: usize,
-) -> io::Result<()>
+fn write_left<T: TermLike>(term: &mut T, down: usize, line: &StandingLine, width: usize) -> Sent
     requires small { down + line.now.rows ≤ 65536 }
     requires stays { line.now.step ≡ Step.Leave }
-    ensures { Writes (last_bytes width down (placed_of line.now)) (T.view term.old) (T.view term.new) result }
+    ensures { Sends (last_bytes width down (placed_of line.now)) (T.view term.old) (T.view term.new) result }
 {
     let far = down + line.rows;
     if line.last < width {
@@ -168,13 +153,13 @@ fn write_left<T: TermLike>(
 }
 
 /// Goes `down` rows down, and writes a character into the last column.
-fn write_end<T: TermLike>(term: &mut T, down: usize, text: &str, width: usize) -> io::Result<()>
-    ensures { Writes (move_bytes DOWN down ++ ((0x0D ∷ []) ++ (move_bytes RIGHT (width - 1) ++ text.now))) (T.view term.old) (T.view term.new) result }
+fn write_end<T: TermLike>(term: &mut T, down: usize, text: &str, width: usize) -> Sent
+    ensures { Sends (move_bytes DOWN down ++ ((0x0D ∷ []) ++ (move_bytes RIGHT (width - 1) ++ text.now))) (T.view term.old) (T.view term.new) result }
 {
     go_down(term, down)?;
-    term.write_str("\r")?;
+    put_str(term, "\r")?;
     go_right(term, width.saturating_sub(1))?;
-    term.write_str(text)
+    put_str(term, text)
 }
 
 /// Whether a line has no escape character, so no colours, and ends with printable ASCII, which no joiner joins.
@@ -232,12 +217,11 @@ fn columns_of_rows(line: &StandingLine, width: usize) -> Option<usize>
 fn joins(text: &str) -> bool
     ensures { result ≡ joins (visible (chars text.now)) }
 {
-    let ink = Colours {
-        base: "",
-        group: "",
+    let mut reading = InkedText {
+        text,
+        ink: NO_COLOURS,
     };
-    let (first, _) = first_cell(InkedText { text, ink });
-    width_of_char(first) == 0
+    width_of_char(next_cell(&mut reading)) == 0
 }
 
 /// Writes lines over rows, on the last of which the cursor rests, or from its own row on if there are no rows. It goes up to the first of
@@ -247,11 +231,11 @@ pub fn put_over<T: TermLike>(
     taken: usize,
     lines: &[StandingLine],
     width: usize,
-) -> io::Result<()>
-    ensures { Writes (moved_bytes width taken (placed lines.now)) (T.view term.old) (T.view term.new) result }
+) -> Sent
+    ensures { Sends (moved_bytes width taken (placed lines.now)) (T.view term.old) (T.view term.new) result }
 {
     go_up(term, taken.saturating_sub(1))?;
-    term.write_str("\r")?;
+    put_str(term, "\r")?;
     for line in lines {
         put_filled(term, line, width)?;
     }
@@ -259,19 +243,19 @@ pub fn put_over<T: TermLike>(
 }
 
 /// Writes one line over rows, and the spaces that fill its last one.
-fn put_filled<T: TermLike>(term: &mut T, line: &StandingLine, width: usize) -> io::Result<()>
-    ensures { Writes (filled_bytes width (placed_of line.now)) (T.view term.old) (T.view term.new) result }
+fn put_filled<T: TermLike>(term: &mut T, line: &StandingLine, width: usize) -> Sent
+    ensures { Sends (filled_bytes width (placed_of line.now)) (T.view term.old) (T.view term.new) result }
 {
-    term.write_str(&line.text)?;
+    put_str(term, &line.text)?;
     put_fill(term, width.saturating_sub(line.last))
 }
 
 /// Writes the spaces that fill a line's last row; an empty text if there are none.
-fn put_fill<T: TermLike>(term: &mut T, count: usize) -> io::Result<()>
-    ensures { Writes (replicate count 0x20) (T.view term.old) (T.view term.new) result }
+fn put_fill<T: TermLike>(term: &mut T, count: usize) -> Sent
+    ensures { Sends (replicate count 0x20) (T.view term.old) (T.view term.new) result }
 {
     if count == 0 {
-        return term.write_str("");
+        return put_str(term, "");
     }
     put_spaces(term, count)
 }

@@ -16,26 +16,24 @@ pub struct Colours<'a> {
     pub group: &'a str,
 }
 
+/// No colour sequences.
+pub const NO_COLOURS: Colours<'static> = Colours {
+    base: "",
+    group: "",
+};
+
 /// Whether the same colour sequences are open. Mostly none are.
-#[inline(always)]
-pub fn are_same(a: Colours<'_>, b: Colours<'_>) -> bool
-    ensures { result ≡ same_ink (ink_of a.entry) (ink_of b.entry) }
+pub fn are_same(a: &Colours<'_>, b: &Colours<'_>) -> bool
+    ensures { result ≡ same_ink (ink_of a.now) (ink_of b.now) }
 {
-    if are_none(a) && are_none(b) {
-        return true;
-    }
-    if a.base != b.base {
-        return false;
-    }
-    a.group == b.group
+    are_none(a) & are_none(b) || a.base == b.base && a.group == b.group
 }
 
 /// Whether no colour sequences are open.
-#[inline(always)]
-fn are_none(ink: Colours<'_>) -> bool
-    ensures { IsTrue result → ink_of ink.entry ≡ NONE }
+fn are_none(ink: &Colours<'_>) -> bool
+    ensures { IsTrue result → ink_of ink.now ≡ NONE }
 {
-    ink.base.is_empty() && ink.group.is_empty()
+    ink.base.is_empty() & ink.group.is_empty()
 }
 
 /// What is left of a text, and the colour sequences that are open in front of it.
@@ -45,55 +43,37 @@ pub struct InkedText<'a> {
     pub ink: Colours<'a>,
 }
 
-/// The first cell of what is left of a text, with what follows it and the sequences that are open at it: a space without colours where
-/// the text ends.
-pub fn first_cell<'a>(reading: InkedText<'a>) -> (char, InkedText<'a>)
-    ensures first { (n : ℕ) → padded (suc n) (cells reading.entry) ≡ in_ink (ink_of result.1.ink) result.0 ∷ padded n (cells result.1) }
-    ensures rest { length (cells result.1) ≡ length (cells reading.entry) - 1 }
+/// The next cell of what is left of a text, which goes past it, and past the sequences in front of it, which are open then: a space without
+/// colours where the text ends.
+pub fn next_cell(reading: &mut InkedText<'_>) -> char
+    ensures first { (n : ℕ) → padded (suc n) (cells reading.old) ≡ in_ink (ink_of reading.new.ink) result ∷ padded n (cells reading.new) }
+    ensures rest { length (cells reading.new) ≡ length (cells reading.old) - 1 }
 {
-    let here = past_colours(reading.text, reading.ink);
-    first_char(here.text, here.ink)
-}
-
-/// The first cell of a text with no colour sequence at its front, with what follows it and these sequences, which are open.
-fn first_char<'a>(text: &'a str, ink: Colours<'a>) -> (char, InkedText<'a>)
-    requires { colour_length (chars text.now) ≡ None }
-    ensures first { (n : ℕ) → padded (suc n) (read (ink_of ink.entry) (chars text.entry.now)) ≡ in_ink (ink_of result.1.ink) result.0 ∷ padded n (cells result.1) }
-    ensures rest { length (cells result.1) ≡ length (read (ink_of ink.entry) (chars text.entry.now)) - 1 }
-{
-    let mut rest = text.chars();
+    pass_colours(reading);
+    let mut rest = reading.text.chars();
     match rest.next() {
-        Some(c) => (
-            c,
-            InkedText {
-                text: rest.as_str(),
-                ink,
-            },
-        ),
-        None => (
-            ' ',
-            InkedText {
-                text: "",
-                ink: Colours {
-                    base: "",
-                    group: "",
-                },
-            },
-        ),
+        Some(c) => {
+            reading.text = rest.as_str();
+            c
+        }
+        None => {
+            reading.ink = NO_COLOURS;
+            ' '
+        }
     }
 }
 
-/// What is left of a text past the colour sequences at its front, and which are open then.
-fn past_colours<'a>(text: &'a str, ink: Colours<'a>) -> InkedText<'a>
-    ensures same { cells result ≡ read (ink_of ink.entry) (chars text.entry.now) }
-    ensures front { colour_length (chars result.text.now) ≡ None }
+/// Goes past the colour sequences at the front of a text, which are open then.
+fn pass_colours(reading: &mut InkedText<'_>)
+    ensures same { cells reading.new ≡ cells reading.old }
+    ensures front { colour_length (chars reading.new.text.now) ≡ None }
 {
-    let mut begun = text;
+    let mut begun = reading.text;
     let mut closed = false;
-    let mut rest = text;
+    let mut rest = reading.text;
     let mut len = colour_len(rest);
     if len == 0 {
-        return InkedText { text, ink };
+        return;
     }
     'sequences: while len > 0 {
         let closing = closes(&rest[..len]);
@@ -105,11 +85,9 @@ fn past_colours<'a>(text: &'a str, ink: Colours<'a>) -> InkedText<'a>
         len = colour_len(rest);
     }
     let (group, text) = begun.split_at(begun.len() - rest.len());
-    let base = group_or_none(closed, ink.group);
-    InkedText {
-        text,
-        ink: Colours { base, group },
-    }
+    let base = group_or_none(closed, reading.ink.group);
+    reading.text = text;
+    reading.ink = Colours { base, group };
 }
 
 /// These colour sequences, or none, if one closed all.

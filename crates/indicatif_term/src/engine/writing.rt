@@ -1,7 +1,7 @@
 //! A drawing, written from its first byte to its last.
-ghost use Rattle.std.specs.Prelude.{◌≡◌, ◌<◌, ◌≤◌, ◌+◌, ◌-◌, [], ◌∷◌, ◌++◌, replicate, if◌then◌else◌};
-ghost use Rattle.indicatif_term.specs.Calls.{Writes, UP, DOWN, move_bytes, clear_bytes, anew_bytes};
-ghost use Rattle.indicatif_term.specs.Inside.MoveBytes.{rows_down, reach_bytes, back_bytes, next_row, Puts};
+ghost use Rattle.std.specs.Prelude.{◌≡◌, ◌<◌, ◌≤◌, ◌+◌, ◌-◌, [], ◌∷◌, ◌++◌, replicate, ℕ, List, if◌then◌else◌};
+ghost use Rattle.indicatif_term.specs.Calls.{TermView, Writes, UP, DOWN, move_bytes, clear_bytes, anew_bytes};
+ghost use Rattle.indicatif_term.specs.Inside.MoveBytes.{rows_down, reach_bytes, back_bytes, next_row, Puts, Sends};
 ghost use Rattle.indicatif_term.specs.Inside.Writings.{CanWrite, is_inside, is_at_end, lower_lines, begin_bytes, inside_bytes, rest_bytes, writing_bytes};
 ghost use Rattle.indicatif_term.specs.Standing.{texts};
 ghost use Rattle.indicatif_term.specs.Inside.Plans.{text_above};
@@ -11,6 +11,10 @@ use crate::engine::counts::Fresh;
 use crate::engine::remembered::StandingLine;
 use crate::target::term_like::TermLike;
 use std::io;
+use std::io::ErrorKind;
+
+/// What comes of calls of a terminal: of a failure the kind alone.
+pub type Sent = Result<(), ErrorKind>;
 
 /// What a drawing writes: a text that stays, and lines.
 #[derive(Clone, Copy)]
@@ -83,9 +87,9 @@ impl Manner {
 
 /// Writes a drawing: rows are emptied, lines written in the place of others, and below them a text and the rest of the lines; then it
 /// goes below them, if asked, or fills the row.
-pub fn write<T: TermLike>(term: &mut T, writing: &Writing, drawing: &Drawing<'_>) -> io::Result<()>
+pub fn write<T: TermLike>(term: &mut T, writing: &Writing, drawing: &Drawing<'_>) -> Sent
     requires { CanWrite writing.now.manner drawing.now.lines.now }
-    ensures { Writes (writing_bytes writing.now (text_above drawing.now.text) drawing.now.lines.now) (T.view term.old) (T.view term.new) result }
+    ensures { Sends (writing_bytes writing.now (text_above drawing.now.text) drawing.now.lines.now) (T.view term.old) (T.view term.new) result }
 {
     begin(term, writing)?;
     let lines = drawing.lines;
@@ -97,8 +101,8 @@ pub fn write<T: TermLike>(term: &mut T, writing: &Writing, drawing: &Drawing<'_>
 }
 
 /// Begins on a new row, if asked, empties the rows that are reached for the first time, and takes back rows.
-fn begin<T: TermLike>(term: &mut T, writing: &Writing) -> io::Result<()>
-    ensures { Writes (begin_bytes writing.now) (T.view term.old) (T.view term.new) result }
+fn begin<T: TermLike>(term: &mut T, writing: &Writing) -> Sent
+    ensures { Sends (begin_bytes writing.now) (T.view term.old) (T.view term.new) result }
 {
     begin_anew(term, writing.anew)?;
     reach(term, writing.fresh)?;
@@ -106,8 +110,8 @@ fn begin<T: TermLike>(term: &mut T, writing: &Writing) -> io::Result<()>
 }
 
 /// Begins on a new row, which it empties, if asked: whatever the terminal was about to read is over then.
-fn begin_anew<T: TermLike>(term: &mut T, anew: bool) -> io::Result<()>
-    ensures { Writes (if anew then anew_bytes else []) (T.view term.old) (T.view term.new) result }
+fn begin_anew<T: TermLike>(term: &mut T, anew: bool) -> Sent
+    ensures { Sends (if anew then anew_bytes else []) (T.view term.old) (T.view term.new) result }
 {
     if !anew {
         return Ok(());
@@ -116,20 +120,20 @@ fn begin_anew<T: TermLike>(term: &mut T, anew: bool) -> io::Result<()>
 }
 
 /// Writes a text and the lines below all others; then it goes below them, if asked, or fills the row.
-fn put_rest<T: TermLike>(term: &mut T, writing: &Writing, drawing: &Drawing<'_>) -> io::Result<()>
+fn put_rest<T: TermLike>(term: &mut T, writing: &Writing, drawing: &Drawing<'_>) -> Sent
     requires { CanWrite writing.now.manner drawing.now.lines.now }
-    ensures { Writes (rest_bytes writing.now (text_above drawing.now.text) drawing.now.lines.now) (T.view term.old) (T.view term.new) result }
+    ensures { Sends (rest_bytes writing.now (text_above drawing.now.text) drawing.now.lines.now) (T.view term.old) (T.view term.new) result }
 {
     let mut ended = writing.is_at_end();
     put_text(term, &mut ended, drawing.text)?;
     put_lines(term, &mut ended, writing.manner.lower(drawing.lines))?;
     new_row(term, writing.ends_below & ended)?;
     put_spaces(term, writing.fill)?;
-    term.flush()
+    told(term.flush())
 }
 
 /// Writes each line of the text that is logged, if any is, on a row of its own; an empty text is one empty line.
-fn put_text<T: TermLike>(term: &mut T, ended: &mut bool, text: Option<&str>) -> io::Result<()>
+fn put_text<T: TermLike>(term: &mut T, ended: &mut bool, text: Option<&str>) -> Sent
     ensures { Puts ended.old (text_above text.entry) ended.new (T.view term.old) (T.view term.new) result }
 {
     let text = match text {
@@ -146,7 +150,7 @@ fn put_text<T: TermLike>(term: &mut T, ended: &mut bool, text: Option<&str>) -> 
 }
 
 /// Writes each of these lines on a row of its own.
-fn put_lines<T: TermLike>(term: &mut T, ended: &mut bool, lines: &[StandingLine]) -> io::Result<()>
+fn put_lines<T: TermLike>(term: &mut T, ended: &mut bool, lines: &[StandingLine]) -> Sent
     ensures { Puts ended.old (texts lines.now) ended.new (T.view term.old) (T.view term.new) result }
 {
     for line in lines {
@@ -156,24 +160,45 @@ fn put_lines<T: TermLike>(term: &mut T, ended: &mut bool, lines: &[StandingLine]
 }
 
 /// Writes a line on a row of its own: the next one, if the cursor is at the end of one. It is at the end of this one then.
-fn put<T: TermLike>(term: &mut T, ended: &mut bool, line: &str) -> io::Result<()>
+fn put<T: TermLike>(term: &mut T, ended: &mut bool, line: &str) -> Sent
     ensures { Puts ended.old (line.now ∷ []) ended.new (T.view term.old) (T.view term.new) result }
 {
     new_row(term, *ended)?;
     *ended = true;
-    term.write_str(line)
+    put_str(term, line)
+}
+
+/// Writes a text by a call of the terminal.
+pub fn put_str<T: TermLike>(term: &mut T, text: &str) -> Sent
+    ensures { Sends text.now (T.view term.old) (T.view term.new) result }
+{
+    told(term.write_str(text))
+}
+
+/// What comes of a call of the terminal, without the error, which is large to hand up.
+pub fn told(done: io::Result<()>) -> Sent
+    ensures { (bytes : List ℕ) (before after : TermView) → Writes bytes before after done → Sends bytes before after result }
+{
+    match done {
+        Ok(()) => Ok(()),
+        Err(e) => Err(e.kind()),
+    }
 }
 
 /// Goes to the front of the next row, if asked.
-fn new_row<T: TermLike>(term: &mut T, asked: bool) -> io::Result<()>
-    ensures { Writes (if asked then next_row else []) (T.view term.old) (T.view term.new) result }
+fn new_row<T: TermLike>(term: &mut T, asked: bool) -> Sent
+    ensures { Sends (if asked then next_row else []) (T.view term.old) (T.view term.new) result }
 {
-    if asked { term.write_line("") } else { Ok(()) }
+    if asked {
+        told(term.write_line(""))
+    } else {
+        Ok(())
+    }
 }
 
 /// Empties rows that no drawing has reached, and comes back to the cursor's row; none is no call.
-fn reach<T: TermLike>(term: &mut T, fresh: Fresh) -> io::Result<()>
-    ensures { Writes (reach_bytes fresh.down fresh.rows) (T.view term.old) (T.view term.new) result }
+fn reach<T: TermLike>(term: &mut T, fresh: Fresh) -> Sent
+    ensures { Sends (reach_bytes fresh.down fresh.rows) (T.view term.old) (T.view term.new) result }
 {
     if fresh.rows == 0 {
         return Ok(());
@@ -184,8 +209,8 @@ fn reach<T: TermLike>(term: &mut T, fresh: Fresh) -> io::Result<()>
 }
 
 /// Takes back rows, of which the last is the cursor's or the one above: empties them, and goes back to the first; none is no call.
-fn take_back<T: TermLike>(term: &mut T, below: bool, rows: usize) -> io::Result<()>
-    ensures { Writes (back_bytes below rows) (T.view term.old) (T.view term.new) result }
+fn take_back<T: TermLike>(term: &mut T, below: bool, rows: usize) -> Sent
+    ensures { Sends (back_bytes below rows) (T.view term.old) (T.view term.new) result }
 {
     if rows == 0 {
         return Ok(());
@@ -204,36 +229,36 @@ fn rows_to_first(below: bool, rows: usize) -> usize
 }
 
 /// Goes up `rows` rows by a call of the terminal; none is no call.
-pub fn go_up<T: TermLike>(term: &mut T, rows: usize) -> io::Result<()>
-    ensures { Writes (move_bytes UP rows) (T.view term.old) (T.view term.new) result }
+pub fn go_up<T: TermLike>(term: &mut T, rows: usize) -> Sent
+    ensures { Sends (move_bytes UP rows) (T.view term.old) (T.view term.new) result }
 {
     if rows == 0 {
         return Ok(());
     }
-    term.move_cursor_up(rows)
+    told(term.move_cursor_up(rows))
 }
 
 /// Goes down `rows` rows by a call of the terminal; none is no call.
-pub fn go_down<T: TermLike>(term: &mut T, rows: usize) -> io::Result<()>
-    ensures { Writes (move_bytes DOWN rows) (T.view term.old) (T.view term.new) result }
+pub fn go_down<T: TermLike>(term: &mut T, rows: usize) -> Sent
+    ensures { Sends (move_bytes DOWN rows) (T.view term.old) (T.view term.new) result }
 {
     if rows == 0 {
         return Ok(());
     }
-    term.move_cursor_down(rows)
+    told(term.move_cursor_down(rows))
 }
 
 /// Empties the cursor's row and `more` below it.
-pub fn empty_down<T: TermLike>(term: &mut T, more: usize) -> io::Result<()>
-    ensures { Writes (clear_bytes ++ rows_down more) (T.view term.old) (T.view term.new) result }
+pub fn empty_down<T: TermLike>(term: &mut T, more: usize) -> Sent
+    ensures { Sends (clear_bytes ++ rows_down more) (T.view term.old) (T.view term.new) result }
 {
-    term.clear_line()?;
+    told(term.clear_line())?;
     empty_below(term, more)
 }
 
 /// Empties rows below the cursor's, and stays on the last of them.
-fn empty_below<T: TermLike>(term: &mut T, rows: usize) -> io::Result<()>
-    ensures { Writes (rows_down rows) (T.view term.old) (T.view term.new) result }
+fn empty_below<T: TermLike>(term: &mut T, rows: usize) -> Sent
+    ensures { Sends (rows_down rows) (T.view term.old) (T.view term.new) result }
 {
     for _ in 0..rows {
         empty_next(term)?;
@@ -242,21 +267,21 @@ fn empty_below<T: TermLike>(term: &mut T, rows: usize) -> io::Result<()>
 }
 
 /// Goes to the next row and empties it.
-fn empty_next<T: TermLike>(term: &mut T) -> io::Result<()>
-    ensures { Writes (next_row ++ clear_bytes) (T.view term.old) (T.view term.new) result }
+fn empty_next<T: TermLike>(term: &mut T) -> Sent
+    ensures { Sends (next_row ++ clear_bytes) (T.view term.old) (T.view term.new) result }
 {
-    term.write_line("")?;
-    term.clear_line()
+    told(term.write_line(""))?;
+    told(term.clear_line())
 }
 
 /// Writes `count` spaces, many by one call of the terminal.
-pub fn put_spaces<T: TermLike>(term: &mut T, count: usize) -> io::Result<()>
-    ensures { Writes (replicate count 0x20) (T.view term.old) (T.view term.new) result }
+pub fn put_spaces<T: TermLike>(term: &mut T, count: usize) -> Sent
+    ensures { Sends (replicate count 0x20) (T.view term.old) (T.view term.new) result }
 {
     let mut left = count;
     while left > 0 {
         let n = left.min(80);
-        term.write_str(spaces(n))?;
+        put_str(term, spaces(n))?;
         left -= n;
     }
     Ok(())

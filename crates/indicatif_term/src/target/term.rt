@@ -66,21 +66,27 @@ impl<W: Write> Term<W> {
         if n == 0 {
             return Ok(());
         }
-        let moved = MoveBytes::new(letter, n);
-        let done = write_whole(&mut self.writer, moved.as_slice());
-        self.counted(done)
+        self.send(MoveBytes::new(letter, n).as_slice())
     }
 
-    /// Passes on the result of a call; counts a failure, and keeps its kind.
-    fn counted(&mut self, done: io::Result<()>) -> io::Result<()>
-        ensures same { result ≡ done }
-        ensures counts { self.new ≡ counted_as done self.old }
+    /// Writes these bytes; counts a failure, and keeps its kind.
+    fn send(&mut self, bytes: &[u8]) -> io::Result<()>
+        ensures writes { Writes bytes.now (view_behind W.contents self.old) (view_behind W.contents self.new) result }
     {
-        if let Err(e) = &done {
-            self.faults = self.faults.wrapping_add(1);
-            self.kind = e.kind();
+        match write_whole(&mut self.writer, bytes) {
+            Ok(()) => Ok(()),
+            Err(e) => Err(self.counted(e)),
         }
-        done
+    }
+
+    /// Passes on an error, counts it, and keeps its kind.
+    fn counted(&mut self, e: io::Error) -> io::Error
+        ensures same { result ≡ e }
+        ensures counts { self.new ≡ counted_as (Err e) self.old }
+    {
+        self.faults = self.faults.wrapping_add(1);
+        self.kind = e.kind();
+        e
     }
 }
 
@@ -128,13 +134,14 @@ impl<W: Write> TermLike for Term<W> {
     }
 
     fn write_line(&mut self, s: &str) -> io::Result<()> {
-        self.write_str(s)?;
+        if !s.is_empty() {
+            self.write_str(s)?;
+        }
         self.write_str("\r\n")
     }
 
     fn write_str(&mut self, s: &str) -> io::Result<()> {
-        let done = write_whole(&mut self.writer, s.as_bytes());
-        self.counted(done)
+        self.send(s.as_bytes())
     }
 
     fn clear_line(&mut self) -> io::Result<()> {
@@ -142,8 +149,10 @@ impl<W: Write> TermLike for Term<W> {
     }
 
     fn flush(&mut self) -> io::Result<()> {
-        let flushed = self.writer.flush();
-        self.counted(flushed)
+        match self.writer.flush() {
+            Ok(()) => Ok(()),
+            Err(e) => Err(self.counted(e)),
+        }
     }
 }
 

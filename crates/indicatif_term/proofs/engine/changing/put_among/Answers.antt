@@ -9,7 +9,7 @@ use Rattle.indicatif_term.specs.declared.engine.comparing.Step.TheVariants as St
 use Rattle.indicatif_term.specs.Standing.{placed}
 use Rattle.indicatif_term.specs.declared.engine.remembered.StandingLine.{StandingLine}
 use Rattle.indicatif_term.proofs.BesideLemmas.{ready_at, ready_take}
-use Rattle.indicatif_term.proofs.CallTurnLemmas.{writes_then, writes_fail, reaches_none}
+use Rattle.indicatif_term.proofs.CallTurnLemmas.{sends_then, sends_fail, reaches_none}
 use Rattle.indicatif_term.proofs.WalkLemmas.{three, room_next, walk_next, down_after, walk_fails, nothing_among, upper_low, last_ready, last_low, among_split}
 use Rattle.indicatif_term.proofs.engine.changing.put_among.Goals as goal
 use Rattle.indicatif_term.proofs.engine.changing.put_among.Goals.{in-Leave, in-Within+in_ok-write_part-in-Within, in-Whole+in_ok-write_changed-in-Whole}
@@ -31,7 +31,7 @@ returns-in_err-go_up g c =
     let e : c.saturating_sub.result + c.min.result ≡ placed_height (placed ls) - 1 + min c.args.taken 1 =
     omega (arith, c.saturating_sub.ensures, c.height_of.ensures, c.min.ensures, c.requires.small) in
     rw (among_split ls _ (sym c.is_empty.ensures ∙ c.if-is_empty.false) (sym c.index-lines-before.is) c.args.width c.args.taken (sym c.is_nothing.ensures ∙ c.if-is_nothing.false))
-    (writes_fail _ _ c.from_residual.result c.from_residual.ensures.1 (rw e at c.in_err-go_up.ensures))
+    (sends_fail _ _ c.from_residual.result c.from_residual.ensures.1 (rw e at c.in_err-go_up.ensures))
 
 pub loop-line-init : goal.loop-line-init
 loop-line-init g c =
@@ -114,4 +114,4 @@ returns g c =
           (sym c.is_nothing.ensures ∙ c.if-is_nothing.false),
       ← three _ _ _,
     )
-    (writes_then _ _ c.write_last.result (rw all at c.loop-line.invariant.leads) (rw (c.loop-line.invariant.down_is, all) at c.write_last.ensures))
+    (sends_then _ _ c.write_last.result (rw all at c.loop-line.invariant.leads) (rw (c.loop-line.invariant.down_is, all) at c.write_last.ensures))

@@ -25,19 +25,19 @@ none_read ink text e = ap (λ x. read ink (chars x)) (nil_from_length text (eqb-
 
 pub returns : goal.returns
 returns c =
-    let rest = c.args.rest in
+    let rest = c.args.rest.now in
     let p = c.split-parts.result in
-    let d : ArePlain rest.old.text.now rest.new.text.now p = c.split-parts.ensures in
-    let ink = ink_of rest.old.ink in
+    let d : ArePlain rest.own.text.now rest.other.text.now p = c.split-parts.ensures in
+    let ink = ink_of rest.own.ink in
     let now = ink_of rest.ink in
-    let alike : ink ≡ ink_of rest.new.ink = same_inks ink (ink_of rest.new.ink) (sym c.are_same.ensures ∙ c.if-not-are_same.false) in
+    let alike : ink ≡ ink_of rest.other.ink = same_inks ink (ink_of rest.other.ink) (sym c.are_same.ensures ∙ c.if-not-are_same.false) in
     let front = chars p.front.now in
     let same = map (in_ink ink) front in
     let own = read ink (chars p.own.now) in
-    let other = read (ink_of rest.new.ink) (chars p.other.now) in
-    let old_is : cells rest.old ≡ same ++ own = ap (read ink) d.old_is ∙ read_front ink front (chars p.own.now) d.plain in
-    let new_is : cells rest.new ≡ same ++ other =
-    ap (read (ink_of rest.new.ink)) d.new_is ∙ read_front (ink_of rest.new.ink) front (chars p.other.now) d.plain ∙ ap (λ i. map (in_ink i) front ++ other) (sym alike) in
+    let other = read (ink_of rest.other.ink) (chars p.other.now) in
+    let old_is : cells rest.own ≡ same ++ own = ap (read ink) d.old_is ∙ read_front ink front (chars p.own.now) d.plain in
+    let new_is : cells rest.other ≡ same ++ other =
+    ap (read (ink_of rest.other.ink)) d.new_is ∙ read_front (ink_of rest.other.ink) front (chars p.other.now) d.plain ∙ ap (λ i. map (in_ink i) front ++ other) (sym alike) in
     let olds : length (same ++ own) ≤ rest.left = subst (λ (xs : List Inked). length xs ≤ rest.left) old_is c.requires.room.olds in
     let news : length (same ++ other) ≤ rest.left = subst (λ (xs : List Inked). length xs ≤ rest.left) new_is c.requires.room.news in
     let m = length same in
@@ -45,8 +45,8 @@ returns c =
     let room : m < rest.left = omega (arith, count, c.if-count-rest.false) in
     let own_few : length own ≤ rest.left - m = omega (arith, olds, length-append same own) in
     let other_few : length other ≤ rest.left - m = omega (arith, news, length-append same other) in
-    let shown : (ends : Bool) → rest_bytes ends now rest.gap rest.left (cells rest.old) (cells rest.new) ≡ rest_bytes ends now (rest.gap + m) (rest.left - m) own other = λ ends.
-    ap (λ xs. rest_bytes ends now rest.gap rest.left xs (cells rest.new)) old_is ∙ ap (λ xs. rest_bytes ends now rest.gap rest.left (same ++ own) xs) new_is
+    let shown : (ends : Bool) → rest_bytes ends now rest.gap rest.left (cells rest.own) (cells rest.other) ≡ rest_bytes ends now (rest.gap + m) (rest.left - m) own other = λ ends.
+    ap (λ xs. rest_bytes ends now rest.gap rest.left xs (cells rest.other)) old_is ∙ ap (λ xs. rest_bytes ends now rest.gap rest.left (same ++ own) xs) new_is
     ∙ rest_skips ends now same own other rest.gap rest.left room olds news in
     let IsGone = λ (n : ℕ). (n < rest.left) × (length own ≤ rest.left - n) × (length other ≤ rest.left - n)
     × ((ends : Bool) → rest_bytes ends now (rest.gap + n) (rest.left - n) own other ≡ rest_bytes ends now (rest.gap + m) (rest.left - m) own other) in
@@ -54,7 +54,7 @@ returns c =
       | then-ended b ↦
           let both = and_parts c.is_empty.result c.is_empty-2.result b.if-ended.true in
           let no_own : own ≡ [] = none_read ink p.own.now (sym c.is_empty.ensures ∙ both.0) in
-          let no_other : other ≡ [] = none_read (ink_of rest.new.ink) p.other.now (sym c.is_empty-2.ensures ∙ both.1) in
+          let no_other : other ≡ [] = none_read (ink_of rest.other.ink) p.other.now (sym c.is_empty-2.ensures ∙ both.1) in
           subst IsGone (sym b.columns-is)
           (omega arith, omega (arith, ap length no_own), omega (arith, ap length no_other), λ ends. rest_last ends now own other rest.gap rest.left m no_own no_other room)
       | else-ended b ↦ subst IsGone (sym (b.columns-is ∙ count)) (room, own_few, other_few, λ ends. refl)

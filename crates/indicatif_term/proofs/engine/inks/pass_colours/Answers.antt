@@ -5,18 +5,18 @@ use Rattle.indicatif_text.specs.Columns.{colour_length}
 use Rattle.indicatif_term.specs.Inside.Inks.{Inked, closes, read}
 use Rattle.indicatif_term.specs.Inside.Rests.{ink_of}
 use Rattle.indicatif_term.proofs.InkLemmas.{IsBegun, upon, begun_first, begun_closed, begun_more, begun_group, begun_rest, begun_cells}
-use Rattle.indicatif_term.proofs.engine.inks.past_colours.Goals as goal
-use Rattle.indicatif_term.proofs.engine.inks.past_colours.Goals.{then-closing, else-closing}
+use Rattle.indicatif_term.proofs.engine.inks.pass_colours.Goals as goal
+use Rattle.indicatif_term.proofs.engine.inks.pass_colours.Goals.{then-closing, else-closing}
 
 pub sequences-init : goal.sequences-init
 sequences-init c = record {
-  begun_utf8 = c.utf8.text;
-  rest_utf8 = c.utf8.text;
+  begun_utf8 = search;
+  rest_utf8 = search;
   len_is = c.colour_len-len.ensures.len;
   fits = c.colour_len-len.ensures.fits;
   ascii = c.colour_len-len.ensures.ascii;
   boundary = c.colour_len-len.ensures.boundary;
-  since = begun_first (ink_of c.args.ink) c.args.text.now c.colour_len-len.result c.colour_len-len.ensures.len (omega (arith, c.if-len-eq0.false));
+  since = begun_first (ink_of c.args.reading.now.ink) c.args.reading.now.text.now c.colour_len-len.result c.colour_len-len.ensures.len (omega (arith, c.if-len-eq0.false));
 }
 
 pub sequences-preserved : goal.sequences-preserved
@@ -25,8 +25,8 @@ sequences-preserved c =
     let rest = c.sequences.rest.now in
     let n = c.sequences.len in
     let behind = c.range_from-rest.result.now in
-    let group = c.args.ink.group.now in
-    let all : List Inked = read (ink_of c.args.ink) (chars c.args.text.now) in
+    let group = c.args.reading.now.ink.group.now in
+    let all : List Inked = read (ink_of c.args.reading.now.ink) (chars c.args.reading.now.text.now) in
     let s : Scanned rest n behind = subst (Scanned rest n) (sym c.range_from-rest.ensures.value)
     (scanned_by rest n i.fits i.ascii (subst IsUtf8 c.range_from-rest.ensures.value c.range_from-rest.utf8)) in
     let is : closes (chars (take n rest)) ≡ c.closes-closing.result =
@@ -59,9 +59,9 @@ returns-clause-same c =
     let i = c.sequences.invariant in
     let begin = c.sequences.begun.now in
     let rest = c.sequences.rest.now in
-    let base = if c.sequences.closed then [] else c.args.ink.group.now in
+    let base = if c.sequences.closed then [] else c.args.reading.now.ink.group.now in
     let none = no_sequence (chars rest) c.sequences.len i.len_is (omega (arith, c.sequences-test.false)) in
-    let since : IsBegun (read (ink_of c.args.ink) (chars c.args.text.now)) base begin rest = i.since in
+    let since : IsBegun (read (ink_of c.args.reading.now.ink) (chars c.args.reading.now.text.now)) base begin rest = i.since in
     ap (λ x. read (upon x c.split_at.result.0.now) (chars c.split_at.result.1.now)) c.group_or_none-base.ensures
     ∙ ap (λ x. read (upon base x) (chars c.split_at.result.1.now)) (c.split_at.ensures.front ∙ begun_group _ _ begin rest since)
     ∙ ap (λ x. read (upon base since.group) (chars x)) (c.split_at.ensures.back ∙ begun_rest _ _ begin rest since)

@@ -7,7 +7,7 @@ use Rattle.indicatif_text.specs.Columns.{colour_length}
 use Rattle.indicatif_term.specs.Inside.Inks.{read}
 use Rattle.indicatif_term.specs.Inside.Rests.{ink_of}
 use Rattle.indicatif_term.proofs.InkLemmas.{IsBegun}
-use Rattle.indicatif_term.proofs.engine.inks.past_colours.Given as goal
+use Rattle.indicatif_term.proofs.engine.inks.pass_colours.Given as goal
 
 abbrev pub invariant-sequences : goal.invariant-sequences
 invariant-sequences l = record {
@@ -17,7 +17,7 @@ invariant-sequences l = record {
   fits : l.len ≤ length l.rest;
   ascii : IsAscii (take l.len l.rest);
   boundary : IsCharBoundary l.rest l.len;
-  since : IsBegun (read (ink_of l.ink) (chars l.text)) (if l.closed then [] else l.ink.group.now) l.begun l.rest;
+  since : IsBegun (read (ink_of l.fn.reading.ink) (chars l.fn.reading.text.now)) (if l.closed then [] else l.fn.reading.ink.group.now) l.begun l.rest;
 }
 
 abbrev pub decreases-sequences : goal.decreases-sequences
