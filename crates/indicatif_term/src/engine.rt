@@ -729,25 +729,19 @@ impl Before {
         requires { self.now.rows ≡ placed_height (placed lines.now) }
         ensures { IsChosen self.now.counts self.now.failed self.now.width next.now lines.now whole result }
     {
+        let mut writing = whole;
         if self.can_move(next, lines, whole.width) {
-            return Writing {
-                fresh: Fresh::none(),
-                taken: 0,
-                manner: Manner::Over(whole.taken),
-                fill: 0,
-                ..whole
-            };
+            writing.fresh = Fresh::none();
+            writing.taken = 0;
+            writing.manner = Manner::Over(whole.taken);
+            writing.fill = 0;
+        } else if let Some(room) = self.room_for(next, lines, whole.width) {
+            writing.fresh = Fresh::none();
+            writing.taken = room.free;
+            writing.manner = Manner::Among(room.lines);
+            writing.fill = fill_behind(&lines[room.lines..], whole.width);
         }
-        match self.room_for(next, lines, whole.width) {
-            Some(room) => Writing {
-                fresh: Fresh::none(),
-                taken: room.free,
-                manner: Manner::Among(room.lines),
-                fill: fill_behind(&lines[room.lines..], whole.width),
-                ..whole
-            },
-            None => whole,
-        }
+        writing
     }
 }
 
