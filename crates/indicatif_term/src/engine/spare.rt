@@ -7,7 +7,7 @@ use crate::engine::remembered::{Span, StandingLine};
 use indicatif_text::columns::Refusal;
 use std::alloc::Global;
 use std::marker::Model;
-use std::mem::replace;
+use std::mem::{replace, swap};
 
 /// Room for the next lines and texts, so that a drawing takes none anew. Contracts see nothing of it.
 pub struct Spare {
@@ -84,8 +84,8 @@ impl Spare {
     /// Takes back the room that was lent to a frame.
     pub fn store_laid(&mut self, laid: &mut Laid) {
         self.empty(laid);
-        self.changed = replace(&mut laid.changed, Vec::new(self.alloc));
-        self.lines = replace(&mut laid.more, Vec::new(self.alloc));
+        swap(&mut self.changed, &mut laid.changed);
+        swap(&mut self.lines, &mut laid.more);
     }
 
     /// Takes all lines of a frame away, and keeps the room of their texts as spare.
