@@ -81,10 +81,14 @@ module _ {K : Type 0} (style : BarStyle K) (p : Progress) where
   abbrev pub lines_with : ℕ → Option Wide → List ℕ → List (List ℕ)
   lines_with columns wide text = slice_split is_newline (filled columns wide text)
 
+-- the columns of a bar without a width
+abbrev pub bar_columns : ℕ
+bar_columns = 20
+
 module _ {K : Type 0} (m : Tracking K) (style : BarStyle K) (p : Progress) (now : ℕ) where
   -- the text of a key, for a placeholder's layout
   abbrev pub key_text : Layout → Key → List ℕ
-  key_text layout Bar = bar_text style.clusters style.colours (unwrap_or layout.alternative []) (fraction p) (unwrap_or layout.width 20)
+  key_text layout Bar = bar_text style.clusters style.colours (unwrap_or layout.alternative []) (fraction p) (unwrap_or layout.width bar_columns)
   key_text layout WideBar = filler
   key_text layout WideMessage = filler
   key_text layout (Text key) = shown_text style.tick_strings p key
@@ -146,7 +150,7 @@ is_bare_layout colours layout = (unwrap_or layout.width 0 == 0) && not (colours 
 module _ {K : Type 0} (style : BarStyle K) (p : Progress) where
   -- a key whose text is empty at each moment: a bar of no columns, or a text that is empty
   abbrev pub is_empty_key : Layout → Key → Bool
-  is_empty_key layout Bar = (unwrap_or layout.width 20 == 0) && not (style.colours && is_some layout.alternative)
+  is_empty_key layout Bar = (unwrap_or layout.width bar_columns == 0) && not (style.colours && is_some layout.alternative)
   is_empty_key layout (Text key) = length (shown_text style.tick_strings p key) == 0
   is_empty_key layout _ = false
 

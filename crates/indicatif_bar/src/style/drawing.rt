@@ -18,7 +18,9 @@ use crate::style::ProgressStyle;
 use crate::style::filling::{Gap, has_filler, push_line, push_lines};
 use crate::style::keys::Key;
 use crate::style::padding::{AtWidth, push_padded};
-use crate::style::steps::{Placeholder, Source, Step, WideKey, literal_at, open_style};
+use crate::style::steps::{
+    BAR_COLUMNS, Placeholder, Source, Step, WideKey, literal_at, open_style,
+};
 use crate::tabs::push_expanded;
 use crate::tracker::Tracks;
 use indicatif_term::target::LineType;
@@ -42,7 +44,7 @@ impl<K: Tracks> ProgressStyle<K> {
     {
         match key {
             Key::Bar => {
-                let width = u64::from(placeholder.width.unwrap_or(20));
+                let width = u64::from(placeholder.width.unwrap_or(BAR_COLUMNS));
                 self.push_bar(placeholder, state, width, out)?;
             }
             Key::WideBar | Key::WideMessage => out.push_str("\0")?,

@@ -3,7 +3,7 @@ ghost use Rattle.std.specs.Prelude.{◌≡◌, ◌==◌, ◌&&◌, ◌++◌, nat
 ghost use Rattle.std.specs.List.{slice_get};
 ghost use Rattle.indicatif_text.specs.StyleWords.{numbers_of, opening_of};
 ghost use Rattle.indicatif_text.specs.Template.{TemplatePart, part_of};
-ghost use Rattle.indicatif_bar.specs.Styles.{is_bare_layout};
+ghost use Rattle.indicatif_bar.specs.Styles.{bar_columns, is_bare_layout};
 ghost use Rattle.indicatif_bar.specs.Inside.Steps.{wide_found, wide_source, placeholder_layout, names_of, literal_text, effect_of, effect_of_part, source_of};
 
 use crate::style::keys::{Key, key_named};
@@ -11,6 +11,9 @@ use crate::tabs::{has_tab, push_expanded};
 use indicatif_text::columns::{Refusal, Style};
 use indicatif_text::template::{Alignment, Part, Template};
 use std::alloc::Global;
+
+/// The columns of a bar without a width.
+pub(crate) const BAR_COLUMNS: u16 = 20;
 
 /// Where the text of a placeholder comes from.
 #[derive(Clone, Copy, Drop)]
@@ -64,9 +67,9 @@ impl Placeholder {
 
     /// Whether a bar in the placeholder's place has no columns, and its rest no colours.
     pub(crate) fn is_bare_bar(&self, colours: bool) -> bool
-        ensures { result ≡ ((unwrap_or self.now.width 20 == 0) && not (colours && is_some (placeholder_layout self.now).alternative)) }
+        ensures { result ≡ ((unwrap_or self.now.width bar_columns == 0) && not (colours && is_some (placeholder_layout self.now).alternative)) }
     {
-        self.width.unwrap_or(20) == 0 && !(colours && self.alternative.is_some())
+        self.width.unwrap_or(BAR_COLUMNS) == 0 && !(colours && self.alternative.is_some())
     }
 }
 
