@@ -143,7 +143,7 @@ fn drawn(alloc: Global, numbers: &mut Numbers) -> Held {
     is_laid_out_by(alloc, numbers, (&mut bar, ended.as_str()), false)
 }
 
-/// Makes so many runs, each with its own stream of numbers.
+/// Makes `count` runs, each with its own stream of numbers.
 pub fn all(alloc: Global, seed: u64, count: u64) -> Tally<u64> {
     let mut tally = Tally::new();
     for number in 0..count {

@@ -99,7 +99,7 @@ fn played<R: Plays>(rt: R, random: &Random) -> Held {
     played_on(rt, &board, &bars, random)
 }
 
-/// Makes so many runs, each with numbers of its own.
+/// Makes `count` runs, each with numbers of its own.
 pub fn all<R: Plays>(rt: R, Random { seed, steps }: Random, count: u64) -> Tally<u64> {
     let mut tally = Tally::new();
     for number in 0..count {

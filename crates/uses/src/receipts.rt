@@ -198,7 +198,7 @@ fn are_all<K: Tracks, T: TermLike + Drop>(history: &Recorded<K, T>, receipts: &[
 }
 
 /// The history of a board that was shared, where this is its only owner, if these receipts, which the threads got, are those of all its
-/// entries. Then exactly so many calls were made, each logged its receipt's text, and they are one run.
+/// entries. Then as many calls were made as there are receipts, each logged its receipt's text, and they are one run.
 pub fn exactly_these<
     T: TermLike + Drop,
     C: Clock + Drop,

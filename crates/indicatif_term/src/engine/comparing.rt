@@ -37,8 +37,8 @@ pub enum Step {
     Whole,
 }
 
-/// What becomes of a row or some where a line comes: the line's rows, how many columns it takes of the last one, and whether each visible
-/// character takes one, in colours that are read right, as far as that was looked at.
+/// What becomes of the rows where a line comes: how many rows the line takes, how many columns of the last one, and whether each visible
+/// character is known to take one, in colours that can be edited.
 #[derive(Clone, Copy, Drop)]
 pub struct Turn {
     pub step: Step,
@@ -194,7 +194,7 @@ fn piece_count(piece: Piece<'_>) -> Option<usize>
     narrow_count(piece.text)
 }
 
-/// What is open behind a piece, if that are no more than two groups.
+/// What is open behind a piece, if at most two groups are open.
 fn behind(depth: Depth, piece: Piece<'_>) -> Option<Depth>
     ensures { IfSome result (λ d. (ps : List TextPiece) → is_tidy depth.fresh depth.groups (text_piece piece.entry ∷ ps) ≡ is_tidy d.fresh d.groups ps) }
 {

@@ -15,8 +15,8 @@ use crate::engine::remembered::StandingLine;
 use crate::engine::writing::{Sent, go_down, put_str, told};
 use crate::target::term_like::TermLike;
 
-/// What is left of a row: the text that stands there and the other one, which is to, how many columns they are to have, how many columns
-/// the cursor is behind, and which colour sequences are open.
+/// What is left of a row: the old and the new text, how many columns are left, how many columns the cursor is behind, and which colour
+/// sequences are open.
 #[derive(Clone, Copy)]
 pub struct Rest<'a> {
     pub own: InkedText<'a>,
