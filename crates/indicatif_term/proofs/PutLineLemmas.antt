@@ -5,24 +5,24 @@ use Rattle.std.specs.declared.io.ErrorKind.{ErrorKind}
 use Rattle.std.proofs.Math.Bool.{or-false}
 use Rattle.std.proofs.lemmas.List.{take_more, take-append-drop}
 use Rattle.indicatif_term.specs.Calls.{TermView, BreaksOff}
-use Rattle.indicatif_term.specs.Inside.MoveBytes.{lines_bytes, ArePut, Puts, Sends}
+use Rattle.indicatif_term.specs.Inside.MoveBytes.{lines_bytes, AreWritten, Puts, Sends}
 use Rattle.indicatif_term.proofs.CallTurnLemmas.{reaches_none, reaches_then, breaks_then, breaks_early, lines-append, or_lt_sum}
 
-pub put_none : (x : Bool) (s : TermView) → ArePut x [] x s s
+pub put_none : (x : Bool) (s : TermView) → AreWritten x [] x s s
 put_none x s = record { leads = reaches_none s; ended_is = sym (or-false x) }
 
 -- lines behind others
 behind : (x y : Bool) (a b : List (List ℕ)) → y ≡ (x || nat_lt 0 (length a)) → lines_bytes x a ++ lines_bytes y b ≡ lines_bytes x (a ++ b)
 behind x y a b e = ap (λ v. lines_bytes x a ++ lines_bytes v b) e ∙ sym (lines-append x a b)
 
-pub put_then : {x y z : Bool} {a b : List (List ℕ)} {s t u : TermView} → ArePut x a y s t → ArePut y b z t u → ArePut x (a ++ b) z s u
+pub put_then : {x y z : Bool} {a b : List (List ℕ)} {s t u : TermView} → AreWritten x a y s t → AreWritten y b z t u → AreWritten x (a ++ b) z s u
 put_then {x} {y} {z} {a} {b} {s} {t} {u} p q = record {
   leads = rw (behind x y a b p.ended_is) at (reaches_then p.leads q.leads);
   ended_is = q.ended_is ∙ ap (λ v. v || nat_lt 0 (length b)) p.ended_is ∙ sym (or_lt_sum x (length a) (length b)) ∙ ap (λ n. x || nat_lt 0 n) (sym (length-append a b));
 }
 
 -- some of all lines, others that fail, and the rest
-pub put_breaks : {x y : Bool} {a : List (List ℕ)} (b rest all : List (List ℕ)) {kind : ErrorKind} {s t u : TermView} → (a ++ b) ++ rest ≡ all → ArePut x a y s t →
+pub put_breaks : {x y : Bool} {a : List (List ℕ)} (b rest all : List (List ℕ)) {kind : ErrorKind} {s t u : TermView} → (a ++ b) ++ rest ≡ all → AreWritten x a y s t →
     BreaksOff (lines_bytes y b) kind t u → BreaksOff (lines_bytes x all) kind s u
 put_breaks {x} {y} {a} b rest all {kind} {s} {t} {u} e p q =
     let some : BreaksOff (lines_bytes x (a ++ b)) kind s u = rw (behind x y a b p.ended_is) at (breaks_then p.leads q) in
@@ -43,8 +43,8 @@ module _ (ys : List (List ℕ)) (i : ℕ) (y : List ℕ) (h : i < length ys) (at
   up_to : take i ys ++ y ∷ [] ≡ take (i + 1) ys
   up_to = sym (take_more ys i y h ∙ ap (λ z. take i ys ++ z ∷ []) at)
 
-  pub put_next : {x p q : Bool} {s t u : TermView} → ArePut x (take i ys) p s t → ArePut p (y ∷ []) q t u → ArePut x (take (i + 1) ys) q s u
+  pub put_next : {x p q : Bool} {s t u : TermView} → AreWritten x (take i ys) p s t → AreWritten p (y ∷ []) q t u → AreWritten x (take (i + 1) ys) q s u
   put_next m n = rw up_to at (put_then m n)
 
-  pub put_stops : {x p : Bool} {kind : ErrorKind} {s t u : TermView} → ArePut x (take i ys) p s t → BreaksOff (lines_bytes p (y ∷ [])) kind t u → BreaksOff (lines_bytes x ys) kind s u
+  pub put_stops : {x p : Bool} {kind : ErrorKind} {s t u : TermView} → AreWritten x (take i ys) p s t → BreaksOff (lines_bytes p (y ∷ [])) kind t u → BreaksOff (lines_bytes x ys) kind s u
   put_stops m n = put_breaks (y ∷ []) (drop (i + 1) ys) ys (ap (λ z. z ++ drop (i + 1) ys) up_to ∙ take-append-drop (i + 1) ys) m n

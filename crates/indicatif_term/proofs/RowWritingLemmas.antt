@@ -11,7 +11,7 @@ use Rattle.indicatif_term.specs.Inside.MoveBytes.{Sends}
 use Rattle.indicatif_term.proofs.CallTurnLemmas.{breaks_then, breaks_early, sends_fail}
 use Rattle.indicatif_term.specs.Inside.Inks.{RESET, Ink, NONE, colours_of, same_ink, Inked, in_ink, is_alike, padded}
 use Rattle.indicatif_term.specs.Inside.RowEdits.{Edit, Write, edit_bytes, closed, opened, recoloured, plan, rest_bytes, reset_bytes, ink_bytes}
-use Rattle.indicatif_term.specs.Inside.Rests.{HasRoom, ink_of, cells, left_bytes}
+use Rattle.indicatif_term.specs.Inside.Rests.{FitsRow, ink_of, cells, left_bytes}
 use Rattle.indicatif_term.specs.declared.engine.inks.InkedText.{InkedText}
 use Rattle.indicatif_term.specs.declared.engine.row_edits.Rest.{Rest}
 use Rattle.indicatif_term.proofs.InkLemmas.{padded_length}
@@ -88,7 +88,7 @@ module _ (ends : Bool) (ink : Ink) (gap n : ℕ) (c d : Inked) (olds news os ns 
       ∙ sym (append_assoc (ink_bytes ink d.ink) (move_bytes RIGHT gap ++ encode_utf8 d.char) rest)
 
 -- the first column of what is left of a row
-module _ (ends : Bool) (rest : Rest) (old new : InkedText) (stands c : ℕ) (some : 0 < rest.left) (room : HasRoom rest)
+module _ (ends : Bool) (rest : Rest) (old new : InkedText) (stands c : ℕ) (some : 0 < rest.left) (room : FitsRow rest)
     (first : (n : ℕ) → padded (suc n) (cells rest.own) ≡ in_ink (ink_of old.ink) stands ∷ padded n (cells old)) (few : length (cells old) ≡ length (cells rest.own) - 1)
     (first' : (n : ℕ) → padded (suc n) (cells rest.other) ≡ in_ink (ink_of new.ink) c ∷ padded n (cells new)) (few' : length (cells new) ≡ length (cells rest.other) - 1) where
   abbrev pub left_alike : Bool
@@ -121,8 +121,8 @@ module _ (ends : Bool) (rest : Rest) (old new : InkedText) (stands c : ℕ) (som
   abbrev behind : Rest
   behind = record { own = old; other = new; left = rest.left - 1; gap = 0; ink = new.ink }
 
-  pub next_ends : (s u : TermView) → left_alike ≡ false → HasRoom behind → (r : Result Unit ErrorKind) → Sends next_bytes s u r → MatchResult r
-      (λ x. (done : List ℕ) × LeadsOn done s u × (done ++ left_bytes ends behind ≡ left_bytes ends rest) × (behind.left < rest.left) × HasRoom behind)
+  pub next_ends : (s u : TermView) → left_alike ≡ false → FitsRow behind → (r : Result Unit ErrorKind) → Sends next_bytes s u r → MatchResult r
+      (λ x. (done : List ℕ) × LeadsOn done s u × (done ++ left_bytes ends behind ≡ left_bytes ends rest) × (behind.left < rest.left) × FitsRow behind)
       (λ k. BreaksOff (left_bytes ends rest) k s u)
   next_ends s u e h (Ok x) w = (next_bytes, w, next_writes e, omega (arith, some), h)
   next_ends s u e h (Err x) w = next_fails e w

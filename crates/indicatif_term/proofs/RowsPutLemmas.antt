@@ -11,7 +11,7 @@ use Rattle.indicatif_text.specs.Columns.{Cell, Glyph, glyph_width, columns_in, r
 use Rattle.indicatif_text.proofs.WrappingLemmas.{pieces_some}
 use Rattle.indicatif_term.specs.Screen.{Screen, cursor_row, blank_screen, top}
 use Rattle.indicatif_term.specs.Resizes.{has_place, glyphs_in, recut, recut_all, used_rows, lasting_rows, row_then, column_then, recut_screen}
-use Rattle.indicatif_term.specs.Inside.Resizing.{LastingPut, all_joined, glyph_put, row_put, next_row, rows_ended, rows_begun}
+use Rattle.indicatif_term.specs.Inside.Resizing.{LastingPut, all_joined, glyph_put, row_put, row_after, rows_ended, rows_begun}
 use Rattle.indicatif_term.specs.declared.cells.grid.resizing.CursorRows.{CursorRows}
 use Rattle.indicatif_term.proofs.CursorRowLemmas.{screen_at, screen_after}
 use Rattle.indicatif_term.proofs.ScreenRowLemmas.{made}
@@ -73,7 +73,7 @@ row_at w h above n row =
     ∙ glyphs_in_turn w h above [] n (glyphs_in row) refl
     ∙ ap (λ k. screen_after w h (above ++ recut w row) ((n + 1) - k) (last_of w row)) (sym (length-map (pieces_of w (filter (has_place w) (glyphs_in row))) (row_of w)))
 
-next_at : (w h : ℕ) (rows : List (List Cell)) (n column : ℕ) → 0 < length rows → next_row (screen_after w h rows n column) ≡ screen_at w h rows (blank_row w) (n - 1) 0
+next_at : (w h : ℕ) (rows : List (List Cell)) (n column : ℕ) → 0 < length rows → row_after (screen_after w h rows n column) ≡ screen_at w h rows (blank_row w) (n - 1) 0
 next_at w h rows n column some = line_feed_after w h rows n 0 some
 
 some_more : (above rows : List (List Cell)) → 0 < length rows → 0 < length (above ++ rows)
@@ -89,7 +89,7 @@ ended_at w h above n (row ∷ rows) =
     let some : 0 < length cut = recut_some w row in
     let left : ((n + 1) - length cut) - 1 ≡ n - length cut = omega (arith, some) in
     let all : (n - length cut) - length (recut_all w rows) ≡ n - length (cut ++ recut_all w rows) = omega (arith, length-append cut (recut_all w rows)) in
-    ap (λ s. rows_ended s rows) (ap next_row (row_at w h above n row)
+    ap (λ s. rows_ended s rows) (ap row_after (row_at w h above n row)
     ∙ next_at w h (above ++ cut) ((n + 1) - length cut) (last_of w row) (some_more above cut some)
     ∙ ap (λ k. screen_at w h (above ++ cut) (blank_row w) k 0) left)
     ∙ ended_at w h (above ++ cut) (n - length cut) rows

@@ -18,16 +18,16 @@ abbrev pub row_put : Screen → List Cell → Screen
 row_put s row = fold glyph_put s (glyphs_in row)
 
 -- the front of the next row
-abbrev pub next_row : Screen → Screen
-next_row s = line_feed (record s { column = 0 })
+abbrev pub row_after : Screen → Screen
+row_after s = line_feed (record s { column = 0 })
 
 -- rows, the cursor at the front of the next one after each
 abbrev pub rows_ended : Screen → List (List Cell) → Screen
-rows_ended s rows = fold (λ s row. next_row (row_put s row)) s rows
+rows_ended s rows = fold (λ s row. row_after (row_put s row)) s rows
 
 -- rows, each begun at the front of the next one
 abbrev pub rows_begun : Screen → List (List Cell) → Screen
-rows_begun s rows = fold (λ s row. row_put (next_row s) row) s rows
+rows_begun s rows = fold (λ s row. row_put (row_after s) row) s rows
 
 -- the rows of an old screen that were put on a new one, and those that the cursor's row becomes
 pub record LastingPut (old new now : Screen) (cursor : CursorRows) : Type 0 where

@@ -22,7 +22,7 @@ abbrev pub left_bytes : Bool → Rest → List ℕ
 left_bytes ends r = rest_bytes ends (ink_of r.ink) r.gap r.left (cells r.own) (cells r.other)
 
 -- the cells fit in the columns that are left
-pub record HasRoom (r : Rest) : Type 0 where
+pub record FitsRow (r : Rest) : Type 0 where
   pub small : r.gap + r.left ≤ 65535
   pub olds : length (cells r.own) ≤ r.left
   pub news : length (cells r.other) ≤ r.left

@@ -39,15 +39,15 @@ inside_bytes w taken (Among n) ls = among_bytes w taken (placed (take n ls))
 inside_bytes w taken (Over rows) ls = moved_bytes w rows (placed ls)
 
 -- a text and the lines below all others; then the row below if requested, or the spaces that fill the row
-abbrev pub rest_bytes : Writing → List (List ℕ) → List StandingLine → List ℕ
-rest_bytes p text ls =
+abbrev pub lower_bytes : Writing → List (List ℕ) → List StandingLine → List ℕ
+lower_bytes p text ls =
     let at_end = is_at_end p in
     let lower = text ++ texts (lower_lines p.manner ls) in
     lines_bytes at_end lower ++ ((if p.ends_below && (at_end || nat_lt 0 (length lower)) then next_row else []) ++ replicate p.fill 0x20)
 
 -- the bytes of a draw: rows are emptied, lines come in the place of others, and the rest comes below them
 abbrev pub writing_bytes : Writing → List (List ℕ) → List StandingLine → List ℕ
-writing_bytes p text ls = begin_bytes p ++ (inside_bytes p.width p.taken p.manner ls ++ rest_bytes p text ls)
+writing_bytes p text ls = begin_bytes p ++ (inside_bytes p.width p.taken p.manner ls ++ lower_bytes p text ls)
 
 -- ---- which draws can be written so
 
@@ -77,7 +77,7 @@ whole_writing counts failed fresh next w ls = record {
 }
 
 -- all lines over the rows that were to be taken back
-pub record IsOver (p q : Writing) : Type 0 where
+pub record IsMovedOver (p q : Writing) : Type 0 where
   pub fresh : Fresh
   pub none : fresh.rows ≡ 0
   pub is : q ≡ record p { fresh = fresh; taken = 0; manner = Over p.taken; fill = 0 }
@@ -91,5 +91,5 @@ pub record IsAmong (room : Room) (ls : List StandingLine) (p q : Writing) : Type
 -- how lines are written that may be written whole: over the live rows, among the lines that stay, or whole
 abbrev pub IsChosen : Counts → Bool → ℕ → Counts → List StandingLine → Writing → Writing → Type 0
 IsChosen counts failed stood next ls p q =
-    (CanMove counts failed stood next p.width ls × IsOver p q)
+    (CanMove counts failed stood next p.width ls × IsMovedOver p q)
     ⊎ (((room : Room) × HasRoom counts failed stood next p.width ls × IsWithin ls counts.live room × IsAmong room ls p q) ⊎ (q ≡ p))

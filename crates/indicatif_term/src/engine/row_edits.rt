@@ -5,7 +5,7 @@ ghost use Rattle.indicatif_term.specs.Inside.Inks.{colours_of, in_ink, is_alike}
 ghost use Rattle.indicatif_term.specs.Inside.RowEdits.{edit_bytes, row_bytes, reset_bytes, ink_bytes};
 ghost use Rattle.indicatif_term.specs.Inside.MoveBytes.{Sends};
 ghost use Rattle.indicatif_term.specs.Inside.Parting.{HasPart, part_edits};
-ghost use Rattle.indicatif_term.specs.Inside.Rests.{HasRoom, ink_of, left_bytes};
+ghost use Rattle.indicatif_term.specs.Inside.Rests.{FitsRow, ink_of, left_bytes};
 
 use crate::engine::comparing::Stretch;
 use crate::engine::inks::{
@@ -52,7 +52,7 @@ pub fn write_part<T: TermLike>(
 /// What is left of a row before a part of it is written: the whole part.
 fn all_of(line: &StandingLine, part: Stretch) -> Rest<'_>
     requires { HasPart part (string_bytes line.now.before) (string_bytes line.now.text) }
-    ensures room { HasRoom result }
+    ensures room { FitsRow result }
     ensures bytes { left_bytes part.waits result ≡ edit_bytes part.gap (part_edits part (string_bytes line.now.before) (string_bytes line.now.text)) }
 {
     Rest {
@@ -73,10 +73,10 @@ fn all_of(line: &StandingLine, part: Stretch) -> Rest<'_>
 /// Goes over one column of the row, which stays or gets its character in its colours.
 fn write_next<T: TermLike>(term: &mut T, rest: &mut Rest<'_>, ends: bool) -> Sent
     requires some { 0 < rest.old.left }
-    requires room { HasRoom rest.old }
+    requires room { FitsRow rest.old }
     ensures { MatchResult result
         (λ _. (done : List ℕ) × LeadsOn done (T.view term.old) (T.view term.new) × (done ++ left_bytes ends rest.new ≡ left_bytes ends rest.old)
-        × (rest.new.left < rest.old.left) × HasRoom rest.new)
+        × (rest.new.left < rest.old.left) × FitsRow rest.new)
         (λ k. BreaksOff (left_bytes ends rest.old) k (T.view term.old) (T.view term.new)) }
 {
     let stands = next_cell(&mut rest.own);
@@ -139,10 +139,10 @@ fn close<T: TermLike>(term: &mut T, ink: &Colours<'_>) -> Sent
 
 /// Skips the columns that both texts begin with alike, up to the last one of the row; where both end, all but that one, since they are free.
 fn skip(rest: &mut Rest<'_>)
-    requires room { HasRoom rest.old }
+    requires room { FitsRow rest.old }
     ensures same { (ends : Bool) → left_bytes ends rest.new ≡ left_bytes ends rest.old }
     ensures left { rest.new.left ≤ rest.old.left }
-    ensures room { HasRoom rest.new }
+    ensures room { FitsRow rest.new }
 {
     if rest.left <= 1 || !are_same(&rest.own.ink, &rest.other.ink) {
         return;

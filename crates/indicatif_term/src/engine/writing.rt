@@ -2,7 +2,7 @@
 ghost use Rattle.std.specs.Prelude.{◌≡◌, ◌<◌, ◌≤◌, ◌+◌, ◌-◌, [], ◌∷◌, ◌++◌, replicate, ℕ, List, if◌then◌else◌};
 ghost use Rattle.indicatif_term.specs.Calls.{TermView, Writes, UP, DOWN, move_bytes, clear_bytes, anew_bytes};
 ghost use Rattle.indicatif_term.specs.Inside.MoveBytes.{rows_down, reach_bytes, back_bytes, next_row, Puts, Sends};
-ghost use Rattle.indicatif_term.specs.Inside.Writings.{CanWrite, is_inside, is_at_end, lower_lines, begin_bytes, inside_bytes, rest_bytes, writing_bytes};
+ghost use Rattle.indicatif_term.specs.Inside.Writings.{CanWrite, is_inside, is_at_end, lower_lines, begin_bytes, inside_bytes, lower_bytes, writing_bytes};
 ghost use Rattle.indicatif_term.specs.Standing.{texts};
 ghost use Rattle.indicatif_term.specs.Inside.Plans.{text_above};
 
@@ -122,7 +122,7 @@ fn begin_anew<T: TermLike>(term: &mut T, anew: bool) -> Sent
 /// Writes a text and the lines below all others; then it goes below them, if asked, or fills the row.
 fn put_rest<T: TermLike>(term: &mut T, writing: &Writing, drawing: &Drawing<'_>) -> Sent
     requires { CanWrite writing.now.manner drawing.now.lines.now }
-    ensures { Sends (rest_bytes writing.now (text_above drawing.now.text) drawing.now.lines.now) (T.view term.old) (T.view term.new) result }
+    ensures { Sends (lower_bytes writing.now (text_above drawing.now.text) drawing.now.lines.now) (T.view term.old) (T.view term.new) result }
 {
     let mut ended = writing.is_at_end();
     put_text(term, &mut ended, drawing.text)?;

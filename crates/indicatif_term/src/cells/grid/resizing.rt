@@ -4,7 +4,7 @@ ghost use Rattle.indicatif_text.specs.Columns.{width_of};
 ghost use Rattle.std.specs.Int.{is_in_range};
 ghost use Rattle.indicatif_term.specs.Screen.{blank_screen, top};
 ghost use Rattle.indicatif_term.specs.Resizes.{recut_screen, resized, used_rows};
-ghost use Rattle.indicatif_term.specs.Inside.Resizing.{LastingPut, all_joined, glyph_put, row_put, next_row, rows_ended, rows_begun};
+ghost use Rattle.indicatif_term.specs.Inside.Resizing.{LastingPut, all_joined, glyph_put, row_put, row_after, rows_ended, rows_begun};
 
 use crate::cells::glyph::Glyph;
 use crate::cells::grid::Grid;
@@ -119,7 +119,7 @@ impl Grid {
 
     /// Goes to the front of the new grid's next row. Refused: `Memory`.
     fn begin_row(&mut self) -> Result<(), Refusal>
-        ensures begun { OnOk result (self.new ≡ next_row self.old) }
+        ensures begun { OnOk result (self.new ≡ row_after self.old) }
         ensures refused { IfErr result (λ e. e ≡ Refusal.Memory) }
     {
         self.go_to_front();

@@ -5,7 +5,7 @@ use Rattle.indicatif_term.specs.Inside.MoveBytes.{Sends}
 use Rattle.indicatif_term.specs.Inside.RowEdits.{edit_bytes, row_bytes, reset_bytes, rest_bytes}
 use Rattle.indicatif_term.specs.Inside.Inks.{colours_of}
 use Rattle.indicatif_term.specs.Inside.Parting.{part_edits}
-use Rattle.indicatif_term.specs.Inside.Rests.{HasRoom, ink_of, cells, left_bytes}
+use Rattle.indicatif_term.specs.Inside.Rests.{FitsRow, ink_of, cells, left_bytes}
 use Rattle.indicatif_term.proofs.CallTurnLemmas.{reaches_then, sends_then, sends_fail}
 use Rattle.indicatif_term.proofs.RowWritingLemmas.{none_left, rest_fails}
 use Rattle.indicatif_term.proofs.engine.row_edits.write_part.Goals as goal
@@ -56,7 +56,7 @@ returns g c =
     let w = c.columns.invariant.written in
     let now = c.columns.now in
     let ends = c.args.part.waits in
-    let room : HasRoom now = c.columns.invariant.room in
+    let room : FitsRow now = c.columns.invariant.room in
     let none : now.left ≡ 0 = omega (arith, c.columns-test.false) in
     let rest : left_bytes ends now ≡ reset_bytes (colours_of (ink_of now.ink)) =
     ap (λ n. rest_bytes ends (ink_of now.ink) now.gap n (cells now.own) (cells now.other)) none
