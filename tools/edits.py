@@ -6,16 +6,18 @@ usage, at the root of the repository:
   tools/edits.py compile [CRATE ..]   whether each edit still compiles, after `rt check` in the crates and in those below them: a wrong body has to
                                       be refused by the prover, not by its types or its borrows
   tools/edits.py try CRATE [NAME ..]  tries all edits of a crate, or these, on a copy of the repository, with what earlier checks kept
-  tools/edits.py gate NUMBER SECONDS  (by .ci/run, at its end, SECONDS after it began) tries some edits, which a number chooses
+  tools/edits.py gate SECONDS         (by .ci/run, at its end, SECONDS after it began) tries the edits whose turn it is
 
 `check` also reads the edits of crates/CRATE/must-fail. `compile` applies as many edits of a crate at once as stand apart, on a copy, and has it
 read, with nothing proved: seconds to two minutes each time. Where that fails, it tries the halves. Both print the edits at fault.
 
-In the gate the number (hexadecimal; of .ci/run: a sum of the sources) chooses an edit, and 29 behind it of the same crate. On copies of the crate,
-RT_JOBS at a time, over the libraries that the gate has built, `rt check --only` tries to prove the function in which an edit stands. It costs half a
-minute to a minute of a processor, since a gate keeps no finished proofs of the crate itself. Where it is proved nevertheless, `rt must-fail` has
-to say that the whole crate is refused: a contract of another function may be what the body breaks. Time never makes the gate fail: nothing is
-tried if it has taken two hours so far, no edit is begun after five minutes, and a check that goes on for longer than ten minutes is stopped.
+The edits are cut into groups of at most eleven of one crate, and the file tools/edits/turn has the number of the group whose turn it is. Who submits
+raises that number by one, so that as many gates as there are groups try all edits. As long as there is time, the gate goes on with the edits behind
+its group, up to 30 of the same crate. On copies of the crate, RT_JOBS at a time, over the libraries that the gate has built, `rt check --only` tries
+to prove the function in which an edit stands, or the one that its line `# in: NAME` names (an edit of a definition or a constant stands in none). It
+costs half a minute to a minute of a processor, since a gate keeps no finished proofs of the crate itself. Where it is proved nevertheless, `rt
+must-fail` has to say that the whole crate is refused: a contract of another function may be what the body breaks. Time never makes the gate fail:
+nothing is tried if it has taken two hours so far, no edit is begun after five minutes, and a check that goes on for longer than ten minutes is stopped.
 
 The exit status is 1 if an edit can't be applied, doesn't compile, or is proved with its whole crate.
 """
@@ -33,7 +35,8 @@ import time
 EDITS = pathlib.Path("tools/edits")
 # seconds: of the gate before its edits; of these before the last one begins; of one check
 LATEST, BOUND, PATIENCE = 7200, 300, 600
-MOST = 30
+# edits: of a group, and that a gate tries at most
+GROUP, MOST = 11, 30
 
 
 def pairs(edit):
@@ -160,13 +163,20 @@ def try_all(name, only):
         return subprocess.run(["rt", "must-fail", name], cwd=room, check=False).returncode
 
 
-def chosen(number):
-    """The crate and its edits that a number chooses."""
-    found = sorted(EDITS.glob("*/*.edit"))
-    first = found[int(number[:12], 16) % len(found)]
-    own = [it for it in found if it.parent == first.parent]
-    at = own.index(first)
-    return first.parent.name, (own[at:] + own[:at])[:MOST]
+def groups():
+    """Each group of edits: its crate, the edits themselves, and behind them the others of the crate."""
+    for folder in sorted(it for it in EDITS.iterdir() if it.is_dir()):
+        own = sorted(folder.glob("*.edit"))
+        for at in range(0, len(own), GROUP):
+            yield folder.name, own[at:] + own[:at]
+
+
+def chosen():
+    """The crate and its edits whose turn it is, and which turn of how many that is."""
+    found = list(groups())
+    turn = int((EDITS / "turn").read_text(encoding="utf-8")) % len(found)
+    name, edits = found[turn]
+    return name, edits[:MOST], f"turn {turn} of {len(found)}"
 
 
 def function_of(before):
@@ -184,7 +194,8 @@ def function_of(before):
 
 def applied(edit, crate):
     """The texts of the files that an edit changes, by their paths, and the function that its first pair stands in, with its type."""
-    texts, place = {}, None
+    texts = {}
+    place = re.findall(r"^# in: (\S+)$", edit.read_text(encoding="utf-8"), re.M)
     for file, old, new in pairs(edit):
         path = crate / file
         text = texts.get(path) or path.read_text(encoding="utf-8")
@@ -214,7 +225,7 @@ def tried(edit, crate):
     if texts == kept:
         return True, "the edit changes nothing"
     if not names:
-        return False, "it changes a definition or a constant: `tools/edits.py try` tries it"
+        return True, "it changes a definition or a constant: a line `# in: NAME` has to name the function that is refused"
     for path, text in texts.items():
         path.write_text(text, encoding="utf-8")
     try:
@@ -252,16 +263,16 @@ def tried_in_turn(name, edits, start):
     return faults, count
 
 
-def gate(number, begun):
+def gate(begun):
     if begun > LATEST:
         print(f"{begun} seconds were taken so far: no wrong body was tried")
         return 0
-    name, edits = chosen(number)
+    name, edits, turn = chosen()
     start, jobs = time.monotonic(), int(os.environ.get("RT_JOBS", 2))
     with concurrent.futures.ThreadPoolExecutor(jobs) as pool:
         parts = list(pool.map(lambda at: tried_in_turn(name, edits[at::jobs], start), range(jobs)))
     faults, count = (sum(column) for column in zip(*parts))
-    print(f"{count} wrong bodies of {name} in {time.monotonic() - start:.0f} seconds, {faults} faults")
+    print(f"{turn}: {count} wrong bodies of {name} in {time.monotonic() - start:.0f} seconds, {faults} faults")
     return 1 if faults else 0
 
 
@@ -273,8 +284,8 @@ def main(words):
             return compile_all(names)
         case ["try", name, *only]:
             return try_all(name, only)
-        case ["gate", number, begun]:
-            return gate(number, int(begun))
+        case ["gate", begun]:
+            return gate(int(begun))
     print(__doc__, file=sys.stderr)
     return 2
 
