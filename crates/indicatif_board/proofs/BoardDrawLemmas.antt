@@ -19,7 +19,7 @@ use Rattle.indicatif_bar.proofs.OutcomeLemmas.{drew, drawn_answer}
 use Rattle.indicatif_board.specs.BoardBars.{board_bars}
 use Rattle.indicatif_board.specs.Members.{leaders, frame_of}
 use Rattle.indicatif_board.specs.Boards.{BoardState, draw_of, board}
-use Rattle.indicatif_board.specs.ShownBars.{Holds}
+use Rattle.indicatif_board.specs.ShownBars.{HoldsState}
 use Rattle.indicatif_board.specs.declared.members.Member.{Member as MemberValue}
 use Rattle.indicatif_board.proofs.MemberLemmas.{drop-map, held_with, member_of}
 
@@ -31,18 +31,18 @@ asked_so ask now limiter own next same allowed next_is =
 
 module _ {K T : Type 0} (tracks : Tracking K) (view : T → TermView) (mark : ℕ) (takes : Bool) (ask : Ask) (now : ℕ)
     (writing : Writing) (s laid : BoardState (BarRecord K)) (lays : Bool) (old : Engine T)
-    (frame : List Segment) (members : List (MemberValue K)) (made : ℕ) (bottom : Bool) (holds : Holds frame members made bottom laid) where
+    (frame : List Segment) (members : List (MemberValue K)) (made : ℕ) (bottom : Bool) (holds : HoldsState frame members made bottom laid) where
   abbrev d : Draw (BoardState (BarRecord K))
   d = draw_of (target_of (Some (view (engine_term old)))) takes ask now writing s laid lays
 
-  pub ready_holds : Holds frame members made bottom d.ready
+  pub ready_holds : HoldsState frame members made bottom d.ready
   ready_holds = held_with frame members made bottom laid (asked_of ask now laid.limiter).1 laid.lists holds
 
-  pub broken_holds : Holds frame members made bottom d.broken
+  pub broken_holds : HoldsState frame members made bottom d.broken
   broken_holds = held_with frame members made bottom laid (asked_of ask now laid.limiter).1 forgotten_lists holds
 
   pub written_holds : (gone : ℕ) (frame' : List Segment) (members' : List (MemberValue K)) → frame' ≡ drop gone frame → members' ≡ drop gone members → gone ≡ leaders laid.members →
-      Holds frame' members' made bottom d.written
+      HoldsState frame' members' made bottom d.written
   written_holds gone frame' members' frame_left members_left gone_is = record {
     members_are = members_left ∙ ap (drop gone) holds.members_are ∙ drop-map member_of gone laid.members ∙ ap (λ k. map member_of (drop k laid.members)) gone_is;
     frame_is = ap (map bar_lines) frame_left ∙ sym (drop-map bar_lines gone frame) ∙ ap (drop gone) holds.frame_is ∙ drop-map _ gone laid.members ∙ ap (λ k. frame_of (drop k laid.members)) gone_is;

@@ -13,7 +13,7 @@
 //!   the next, and the rows as texts. In its folder `resizing`: another size.
 //! - `row`: `Row`, a row of cells: what is written into it at a column, which wide characters that empties, and its text without the blanks
 //!   at its end.
-//! - `run`: `Run`, characters of one column that are written into a row together: printable ASCII, or one character repeated.
+//! - `run`: `NarrowRun`, characters of one column that are written into a row together: printable ASCII, or one character repeated.
 //! - `cell`: `Cell`: is it empty, blank, written, or a further cell of a wide character?
 //! - `joiners`: `Joiner`, a zero-width character in the one list of a row: it is stored, and those of a character are found by the last
 //!   one's place.

@@ -8,7 +8,8 @@ ghost use Rattle.indicatif_board.specs.Recorded.{IsOneRun};
 ghost use Rattle.indicatif.specs.Fronts.{CanClear};
 ghost use Rattle.indicatif.specs.Receipts.{IsReceipt};
 ghost use Rattle.indicatif.specs.Inside.AnyBoard.{BoardMakes, BoardDraws, BoardRemoves, BoardTakes, BoardTurns, BoardMoves, BoardMovesTo, refused_with};
-ghost use Rattle.indicatif.specs.Inside.SharedBoards.{SharedAnswers, SharedDraws, given_by, on_board};
+ghost use Rattle.indicatif_board.specs.LoneLaws.{on_board};
+ghost use Rattle.indicatif.specs.Inside.SharedBoards.{SharedAnswers, SharedDraws, given_by};
 
 use indicatif_bar::lone::LoneCall;
 use indicatif_bar::state::{BarState, Text, own_text};

@@ -23,7 +23,7 @@ use Rattle.indicatif_board.specs.Boards.{draw_of, board}
 use Rattle.indicatif_board.specs.Inside.ShownBars.{named_laid_out, named_layout_takes}
 use Rattle.indicatif_board.specs.Multi.{IsIn, known}
 use Rattle.indicatif_board.specs.Members.{leaders}
-use Rattle.indicatif_board.specs.ShownBars.{AreShownAs, Holds, record_on}
+use Rattle.indicatif_board.specs.ShownBars.{AreShownAs, HoldsState, record_on}
 use Rattle.indicatif_board.specs.Slots.{SlotTable}
 use Rattle.indicatif_board.proofs.BarRecordLemmas.{evenly, left_head, left_record}
 use Rattle.indicatif_board.proofs.MemberLemmas.{laid_lists, laid_limiter, leaders_of, dropped_bars}
@@ -147,14 +147,14 @@ returns-in_err-put-clause-drew g c = λ mark takes s number inside placed.
     let limiter_is = sym (ap (λ a. a.1) allows) in
     let failed : Result Drawn Refusal = Err c.in_err-put.field-0.0 in
     let x = err_from_is_err_and c.from_residual-in_err-put.result c.from_residual-in_err-put.ensures.1 in
-    let drew = subst (λ f. DrewBy m (λ n. Holds f b.members.items b.table.made bottom n × (limiter ≡ n.limiter)) view engine engine' (drawing target) s.lists failed) (sym kept)
+    let drew = subst (λ f. DrewBy m (λ n. HoldsState f b.members.items b.table.made bottom n × (limiter ≡ n.limiter)) view engine engine' (drawing target) s.lists failed) (sym kept)
     (frame_drew tracks view mark takes c.args.ask c.args.now writing s after lays engine b.frame.items b.members.items b.table.made bottom laid
-    (λ n. Holds b.frame.items b.members.items b.table.made bottom n × (limiter ≡ n.limiter)) engine' (Err c.in_err-put.field-0.0) gone gone_is asked some
+    (λ n. HoldsState b.frame.items b.members.items b.table.made bottom n × (limiter ≡ n.limiter)) engine' (Err c.in_err-put.field-0.0) gone gone_is asked some
     (ap (λ a. a.0) allows) (laid_lists tracks target c.args.now number s) fits puts (
       (ready_holds tracks view mark takes c.args.ask c.args.now writing s after lays engine b.frame.items b.members.items b.table.made bottom laid, limiter_is),
       (broken_holds tracks view mark takes c.args.ask c.args.now writing s after lays engine b.frame.items b.members.items b.table.made bottom laid, limiter_is),
     )) in
-    rw (x.1 ∙ ap Err x.2) (let d = drew_staged m (Holds (deque_with_items b.frame c.make_contiguous.result.now).items b.members.items b.table.made bottom) (λ x. x.limiter) view stage
+    rw (x.1 ∙ ap Err x.2) (let d = drew_staged m (HoldsState (deque_with_items b.frame c.make_contiguous.result.now).items b.members.items b.table.made bottom) (λ x. x.limiter) view stage
     (record stage { engine = Some engine'; limiter = limiter }) engine engine' drawing s.lists failed c.in-Some.is refl drew in (d.0, (inside.0, d.1, d.2), d.3))
 
 pub returns-clause-drew : goal.returns-clause-drew
@@ -192,15 +192,15 @@ returns-clause-drew g c = λ mark takes s number inside placed.
     let frame' = c.take_front.new.items.items in
     let members' = c.take_front-2.new.items.items in
     let made = sym (ap (λ (t : SlotTable). t.made) c.remove_first.ensures.removed) in
-    let drew = subst (λ k. DrewBy m (λ n. Holds frame' members' k bottom n × (limiter ≡ n.limiter)) view engine engine' (drawing target) s.lists (Ok Yes)) made
+    let drew = subst (λ k. DrewBy m (λ n. HoldsState frame' members' k bottom n × (limiter ≡ n.limiter)) view engine engine' (drawing target) s.lists (Ok Yes)) made
     (frame_drew tracks view mark takes c.args.ask c.args.now writing s after lays engine b.frame.items b.members.items b.table.made bottom laid
-    (λ n. Holds frame' members' b.table.made bottom n × (limiter ≡ n.limiter)) engine' (Ok tt) gone gone_is asked some
+    (λ n. HoldsState frame' members' b.table.made bottom n × (limiter ≡ n.limiter)) engine' (Ok tt) gone gone_is asked some
     (ap (λ a. a.0) allows) (laid_lists tracks target c.args.now number s) fits puts (
       written_holds tracks view mark takes c.args.ask c.args.now writing s after lays engine b.frame.items b.members.items b.table.made bottom laid
           gone frame' members' (c.take_front.ensures ∙ ap (drop gone) kept) c.take_front-2.ensures gone_is,
       sym (ap (λ a. a.1) allows),
     )) in
-    let d = drew_staged m (Holds frame' members' c.remove_first.new.self.made bottom) (λ x. x.limiter) view stage
+    let d = drew_staged m (HoldsState frame' members' c.remove_first.new.self.made bottom) (λ x. x.limiter) view stage
     (record stage { engine = Some engine'; limiter = limiter }) engine engine' drawing s.lists (Ok Yes) c.in-Some.is refl drew in
     (d.0, (inside.0, d.1, d.2), d.3)
 

@@ -1,6 +1,6 @@
 use Rattle.std.proofs.Common.{◌∙◌, sym}
 use Rattle.std.specs.Prelude.{chars}
-use Rattle.indicatif_text.specs.Template.{Break, opened, closed}
+use Rattle.indicatif_text.specs.Template.{Break, opening_brace, closing_brace}
 use Rattle.indicatif_text.specs.Inside.Draft.{sketch_of}
 use Rattle.indicatif_text.proofs.DraftLemmas.{reads_run, reads_piece, read_shorter, taken_leads, taken_refused, taken_shorter, is_line}
 use Rattle.indicatif_text.proofs.TokenLemmas.{front_break, front_opened, front_closed}
@@ -18,7 +18,7 @@ returns-then-first-eq123-clause-leads c =
     let led = reads_run (sketch_of c.args.self.now) (sketch_of c.push_run.new.self) text (chars c.split_span.result.0.now) behind c.in_ok-push_run.ensures c.split_span.ensures.run
     c.split_span.ensures.rest in
     taken_leads (sketch_of c.args.self.now) (sketch_of c.push_run.new.self) (sketch_of c.read_open.new.self)
-    text behind (chars c.in-Some.after.now) c.in-Some.first (opened (chars c.in-Some.after.now))
+    text behind (chars c.in-Some.after.now) c.in-Some.first (opening_brace (chars c.in-Some.after.now))
     (front_opened c.in-Some.first (chars c.in-Some.after.now) c.if-first-eq123.true) led c.in-Some.ensures.first c.read_open.result c.read_open.ensures
 
 pub returns-then-first-eq123-clause-refused : goal.returns-then-first-eq123-clause-refused
@@ -28,7 +28,7 @@ returns-then-first-eq123-clause-refused c =
     let led = reads_run (sketch_of c.args.self.now) (sketch_of c.push_run.new.self) text (chars c.split_span.result.0.now) behind c.in_ok-push_run.ensures c.split_span.ensures.run
     c.split_span.ensures.rest in
     taken_refused (sketch_of c.args.self.now) (sketch_of c.push_run.new.self) (sketch_of c.read_open.new.self)
-    text behind (chars c.in-Some.after.now) c.in-Some.first (opened (chars c.in-Some.after.now))
+    text behind (chars c.in-Some.after.now) c.in-Some.first (opening_brace (chars c.in-Some.after.now))
     (front_opened c.in-Some.first (chars c.in-Some.after.now) c.if-first-eq123.true) led c.in-Some.ensures.first c.read_open.result c.read_open.ensures
 
 pub returns-then-first-eq123-clause-shorter : goal.returns-then-first-eq123-clause-shorter
@@ -38,7 +38,7 @@ returns-then-first-eq123-clause-shorter c =
     let led = reads_run (sketch_of c.args.self.now) (sketch_of c.push_run.new.self) text (chars c.split_span.result.0.now) behind c.in_ok-push_run.ensures c.split_span.ensures.run
     c.split_span.ensures.rest in
     taken_shorter (sketch_of c.args.self.now) (sketch_of c.push_run.new.self) (sketch_of c.read_open.new.self)
-    text behind (chars c.in-Some.after.now) c.in-Some.first (opened (chars c.in-Some.after.now))
+    text behind (chars c.in-Some.after.now) c.in-Some.first (opening_brace (chars c.in-Some.after.now))
     (front_opened c.in-Some.first (chars c.in-Some.after.now) c.if-first-eq123.true) led c.in-Some.ensures.first c.split_span.ensures.rest c.read_open.result c.read_open.ensures
 
 pub returns-then-first-eq125-clause-leads : goal.returns-then-first-eq125-clause-leads
@@ -48,7 +48,7 @@ returns-then-first-eq125-clause-leads c =
     let led = reads_run (sketch_of c.args.self.now) (sketch_of c.push_run.new.self) text (chars c.split_span.result.0.now) behind c.in_ok-push_run.ensures c.split_span.ensures.run
     c.split_span.ensures.rest in
     taken_leads (sketch_of c.args.self.now) (sketch_of c.push_run.new.self) (sketch_of c.read_close.new.self)
-    text behind (chars c.in-Some.after.now) c.in-Some.first (closed (chars c.in-Some.after.now))
+    text behind (chars c.in-Some.after.now) c.in-Some.first (closing_brace (chars c.in-Some.after.now))
     (front_closed c.in-Some.first (chars c.in-Some.after.now) c.if-first-eq125.true) led c.in-Some.ensures.first c.read_close.result c.read_close.ensures
 
 pub returns-then-first-eq125-clause-refused : goal.returns-then-first-eq125-clause-refused
@@ -58,7 +58,7 @@ returns-then-first-eq125-clause-refused c =
     let led = reads_run (sketch_of c.args.self.now) (sketch_of c.push_run.new.self) text (chars c.split_span.result.0.now) behind c.in_ok-push_run.ensures c.split_span.ensures.run
     c.split_span.ensures.rest in
     taken_refused (sketch_of c.args.self.now) (sketch_of c.push_run.new.self) (sketch_of c.read_close.new.self)
-    text behind (chars c.in-Some.after.now) c.in-Some.first (closed (chars c.in-Some.after.now))
+    text behind (chars c.in-Some.after.now) c.in-Some.first (closing_brace (chars c.in-Some.after.now))
     (front_closed c.in-Some.first (chars c.in-Some.after.now) c.if-first-eq125.true) led c.in-Some.ensures.first c.read_close.result c.read_close.ensures
 
 pub returns-then-first-eq125-clause-shorter : goal.returns-then-first-eq125-clause-shorter
@@ -68,7 +68,7 @@ returns-then-first-eq125-clause-shorter c =
     let led = reads_run (sketch_of c.args.self.now) (sketch_of c.push_run.new.self) text (chars c.split_span.result.0.now) behind c.in_ok-push_run.ensures c.split_span.ensures.run
     c.split_span.ensures.rest in
     taken_shorter (sketch_of c.args.self.now) (sketch_of c.push_run.new.self) (sketch_of c.read_close.new.self)
-    text behind (chars c.in-Some.after.now) c.in-Some.first (closed (chars c.in-Some.after.now))
+    text behind (chars c.in-Some.after.now) c.in-Some.first (closing_brace (chars c.in-Some.after.now))
     (front_closed c.in-Some.first (chars c.in-Some.after.now) c.if-first-eq125.true) led c.in-Some.ensures.first c.split_span.ensures.rest c.read_close.result c.read_close.ensures
 
 pub returns-clause-leads : goal.returns-clause-leads
