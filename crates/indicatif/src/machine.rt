@@ -199,7 +199,7 @@ pub type TerminalSetup<W> = Setup<Term<BufWriter<UntilGone<W>>>, MachineClock<Ho
 /// The terminal behind standard output or another stream, as `on_stdout` and `on_stream` make it. `on_stderr` makes a `StderrTerm`.
 ///
 /// ```
-/// fn shown<R: Shares>(bar: &ProgressBar<StreamTerm<Stdout>, MachineClock<HostRuntime>, R>) -> bool {
+/// fn is_shown<R: Shares>(bar: &ProgressBar<StreamTerm<Stdout>, MachineClock<HostRuntime>, R>) -> bool {
 ///     !bar.is_hidden()
 /// }
 /// ```
