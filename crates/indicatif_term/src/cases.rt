@@ -6,7 +6,7 @@ ghost use Rattle.indicatif_term.specs.Calls.{move_bytes, line_bytes, clear_bytes
 ghost use Rattle.indicatif_term.specs.Calm.{Character, Colours, Move, Empty, stroke_bytes, is_quiet};
 ghost use Rattle.indicatif_term.specs.Shows.{look, looks_of};
 ghost use Rattle.indicatif_term.specs.Lines.{logged_lines};
-ghost use Rattle.indicatif_term.specs.Memory.{move_text, quoted_char, written_text};
+ghost use Rattle.indicatif_term.specs.Cells.{move_text, quoted_char, written_text};
 ghost use Rattle.indicatif_term.specs.Terminal.{after};
 ghost use Rattle.indicatif_term.specs.CellCases.{contents_after, cursor_after, picture_after, ESC};
 ghost use Rattle.indicatif_term.specs.Cases.{LongLine, ThreeOnTwo, LogAbove, AtTheBottom, KeptScrollsAway, ClearLeavesAbove, FatesOfBars, LogScrolls};

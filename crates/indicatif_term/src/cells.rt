@@ -26,7 +26,7 @@ ghost use Rattle.indicatif_term.specs.Terminal.{after, blank_terminal};
 ghost use Rattle.indicatif_term.specs.Pictures.{contents_text, has_contents, picture_text};
 ghost use Rattle.indicatif_term.specs.Calls.{Writes, move_bytes, line_bytes, clear_bytes, UP, DOWN, RIGHT, LEFT};
 ghost use Rattle.indicatif_term.specs.Resizes.{Resized, has_size, resized_terminal};
-ghost use Rattle.indicatif_term.specs.Memory.{view_of, Records, move_text, written_text};
+ghost use Rattle.indicatif_term.specs.Cells.{view_of, Records, move_text, written_text};
 ghost use Rattle.indicatif_term.specs.Inside.Feeding.{ReadsBeginning};
 
 mod call_log;
@@ -90,7 +90,7 @@ impl Drop for InMemoryTerm {
 }
 
 impl Model for InMemoryTerm {
-    ghost use Rattle.indicatif_term.specs.Memory.{MemoryTerm};
+    ghost use Rattle.indicatif_term.specs.Cells.{MemoryTerm};
 
     ghost Value = { MemoryTerm };
 

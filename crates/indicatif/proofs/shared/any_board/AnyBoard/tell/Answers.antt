@@ -1,7 +1,7 @@
 use Rattle.std.proofs.Common.{subst}
 use Rattle.indicatif_bar.specs.LoneBars.{lone_call_as}
 use Rattle.indicatif_board.specs.Boards.{BarLog, says}
-use Rattle.indicatif_board.specs.BoardValues.{id_of}
+use Rattle.indicatif_board.specs.BarIds.{id_of}
 use Rattle.indicatif_board.specs.Calls.{call_of}
 use Rattle.indicatif_board.specs.Multi.{LeadsBy}
 use Rattle.indicatif_board.specs.LoneLaws.{on_board}
