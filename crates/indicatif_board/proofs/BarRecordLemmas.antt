@@ -254,7 +254,7 @@ module _ {K : Type 0} (number at : ℕ) (order : List ℕ) (members : List (Memb
           ap (λ o. record_in other o members') order_is ∙ ap (record_in other (remove order at)) members_are
           ∙ ap (λ k. record_in other (remove order k) (remove members k)) here ∙ others_removed number other order members apart even
 
-    -- so many dropped bars left the head
+    -- a number of dropped bars left the head
     pub left_record : at ≡ prefix_len (λ m. m.dropped) members → order' ≡ drop at order → members' ≡ drop at members → occurrences number order ≤ 1 →
         record_in number order' members' ≡ record_in number order members
     left_record count order_is members_are once =

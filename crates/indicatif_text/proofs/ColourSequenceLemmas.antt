@@ -272,7 +272,7 @@ times_more (suc n) unit rest =
     let same : suc (n + 1) ≡ suc n + 1 = omega arith in
     ap (λ x. unit ++ x) (times_more n unit rest) ∙ ap (λ k. times_then k unit rest) same
 
--- so many times, and so many more
+-- a number of times, and a number of times more
 pub times_both : (n m : ℕ) (unit rest : List ℕ) → times_then n unit (times_then m unit rest) ≡ times_then (n + m) unit rest
 times_both zero m unit rest = ap (λ k. times_then k unit rest) (let same : m ≡ zero + m = omega arith in same)
 times_both (suc n) m unit rest =
@@ -287,7 +287,7 @@ take_past : (m : ℕ) (xs ys : List ℕ) → take (length xs + m) (xs ++ ys) ≡
 take_past m [] ys = ap (λ k. take k ys) (let same : 0 + m ≡ m = omega arith in same)
 take_past m (x ∷ xs) ys = ap (λ k. take k (x ∷ (xs ++ ys))) (let same : suc (length xs) + m ≡ suc (length xs + m) = omega arith in same) ∙ ap (λ zs. x ∷ zs) (take_past m xs ys)
 
--- bytes that are those from three before them on are these three so many times
+-- bytes that are those from three before them on repeat these three
 periodic : (n : ℕ) (unit bytes : List ℕ) → length unit ≡ 3 → bytes ≡ take (3 * n) (unit ++ bytes) → bytes ≡ times_then n unit []
 periodic zero unit bytes three e = e
 periodic (suc n) unit bytes three e =
@@ -309,7 +309,7 @@ seventeen unit bytes rest three e fits same =
     let times : front ≡ times_then 16 unit [] = periodic 16 unit front three begins in
     e ∙ ap (λ x. unit ++ x) (sym whole ∙ ap (λ x. x ++ back) times ∙ times_append 16 unit [] back)
 
--- what follows three bytes so many times
+-- what follows three repeated bytes
 pub times_rest : (n : ℕ) (unit rest : List ℕ) → length unit ≡ 3 → drop (3 * n) (times_then n unit rest) ≡ rest
 times_rest zero unit rest three = refl
 times_rest (suc n) unit rest three =
@@ -320,7 +320,7 @@ pub times_length : (n : ℕ) (unit rest : List ℕ) → length unit ≡ 3 → le
 times_length zero unit rest three = omega arith
 times_length (suc n) unit rest three = omega (arith, three, length-append unit (times_then n unit rest), times_length n unit rest three)
 
--- the bytes of a character so many times are that character so many times
+-- the bytes of a repeated character are that character, repeated
 pub record RepeatsChar (c n : ℕ) (bs rest : List ℕ) : Type 0 where
   pub chars_are : chars bs ≡ replicate n c ++ chars rest
   pub utf8 : IsUtf8 rest

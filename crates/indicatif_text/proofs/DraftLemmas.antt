@@ -43,7 +43,7 @@ parted_literal s bs u some e =
     let part = some_text (List TemplatePart) (λ cs. LiteralText cs ∷ []) literal_part (λ c cs. refl) bs (s.fixed ++ s.run) u e (sym (ne_eqb (length bs) 0 (omega (arith, some)))) in
     ap (λ parts. record { done = s.done ++ parts; fixed = []; run = [] }) part
 
--- ---- a literal text of which so many bytes in front are kept
+-- ---- a literal text of which a number of bytes in front are kept
 
 module _ (bs : List ℕ) (n : ℕ) (u : IsUtf8 bs) (b : IsCharBoundary bs n) where
   -- what is kept and the run are the whole text

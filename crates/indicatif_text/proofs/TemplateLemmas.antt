@@ -50,7 +50,7 @@ refuses_one (later e t) (later {place} {error} d u) = refuses_one t (subst (λ r
 
 -- ---- what is left is shorter
 
--- what is left after something in front has at most so many characters
+-- what is left after something in front has at most this number of characters
 abbrev Within : {A : Type 0} → ℕ → Front A → Type 0
 Within n (Takes rest what) = length rest ≤ n
 Within n (Stops place error) = ⊤

@@ -15,7 +15,7 @@ use Rattle.indicatif_text.specs.Columns.{Glyph, width_of, glyph_width, glyphs_of
 
 -- ---- rows by columns
 
--- how many rows visible characters take, where so many columns of the first are taken
+-- how many rows visible characters take, where a number of columns of the first is taken
 abbrev pub heights : ℕ → ℕ → List ℕ → ℕ
 heights w n [] = 1
 heights w n (c ∷ cs) =
@@ -84,7 +84,7 @@ reads_whole w line =
 
 -- ---- a run, at once
 
--- the same rows but for so many whole ones before
+-- the same rows but for a number of whole ones before
 record Ahead (w n rows m : ℕ) (before after : List ℕ) : Type 0 where
   taller : heights w n before ≡ rows + heights w m after
   same_last : lasts w n before ≡ lasts w m after
