@@ -129,20 +129,25 @@ pub read_shorter : (text behind after rest : List ℕ) (c : ℕ) (p : TemplatePi
 read_shorter text behind after rest c p a e f =
     omega (arith, rest_shorter c after f, ap length e, ap length a, length-drop (prefix_len is_literal_char text) text)
 
--- what was taken up leads on
-module _ (s t u : Sketch) (text behind after : List ℕ) (c : ℕ) (f : Front TemplatePiece) (same : front c after ≡ f) (led : ReadsOn s text t behind) (e : behind ≡ c ∷ after) where
-  pub taken_leads : (r : Result (Bor (List ℕ)) TemplateError) → TakesIn f t u r → IfOk r (λ rest. ReadsOn s text u (chars rest.now))
-  taken_leads (Ok rest) h = reads_piece s t u text behind after (chars rest.now) c h.0 led e (same ∙ h.1) h.2
-  taken_leads (Err x) h = tt
+-- what an answer says of a text whose front it was: how the sketch leads on, why it was refused, and that less is left
+pub record IsReadBy (s u : Sketch) (text : List ℕ) (r : Result (Bor (List ℕ)) TemplateError) : Type 0 where
+  pub leads : IfOk r (λ rest. ReadsOn s text u (chars rest.now))
+  pub refused : IfErr r (λ x. (x ≡ Memory) ⊎ IsRefused text x)
+  pub shorter : IfOk r (λ rest. 0 < length text → length (chars rest.now) < length text)
 
-  pub taken_refused : (r : Result (Bor (List ℕ)) TemplateError) → TakesIn f t u r → IfErr r (λ x. (x ≡ Memory) ⊎ IsRefused text x)
-  taken_refused (Ok rest) h = tt
-  taken_refused (Err x) h = elim h [ inl memory ↦ inl memory | inr stops ↦ inr (refused_here s t text behind after stops.0 c x led e (same ∙ stops.1)) ]
-
-  pub taken_shorter : behind ≡ after_run is_literal_char text → (r : Result (Bor (List ℕ)) TemplateError) → TakesIn f t u r →
-      IfOk r (λ rest. 0 < length text → length (chars rest.now) < length text)
-  taken_shorter a (Ok rest) h = λ _. read_shorter text behind after (chars rest.now) c h.0 a e (same ∙ h.1)
-  taken_shorter a (Err x) h = tt
+-- what was taken up behind a run
+pub taken_read : (s t u : Sketch) (text run behind after : List ℕ) (c : ℕ) (f : Front TemplatePiece) → front c after ≡ f → t ≡ with_run s run → run ≡ take_while is_literal_char text
+    → behind ≡ after_run is_literal_char text → behind ≡ c ∷ after → (r : Result (Bor (List ℕ)) TemplateError) → TakesIn f t u r → IsReadBy s u text r
+taken_read s t u text run behind after c f same with_it is left e (Ok rest) h = record {
+  leads = reads_piece s t u text behind after (chars rest.now) c h.0 (reads_run s t text run behind with_it is left) e (same ∙ h.1) h.2;
+  refused = tt;
+  shorter = λ _. read_shorter text behind after (chars rest.now) c h.0 left e (same ∙ h.1);
+}
+taken_read s t u text run behind after c f same with_it is left e (Err x) h = record {
+  leads = tt;
+  refused = elim h [ inl memory ↦ inl memory | inr stops ↦ inr (refused_here s t text behind after stops.0 c x (reads_run s t text run behind with_it is left) e (same ∙ stops.1)) ];
+  shorter = tt;
+}
 
 -- what is taken up of a front is taken up of another that is the same
 pub taken_same : (f g : Front TemplatePiece) (s t : Sketch) (r : Result (Bor (List ℕ)) TemplateError) → f ≡ g → TakesIn f s t r → TakesIn g s t r
