@@ -40,7 +40,7 @@ fn play<R: Threads + Wait + Sync + Clone + Drop>(
 }
 
 /// The rows on the terminal after the bar ticked three times, and how often it ticked.
-pub fn shown<R: Threads + Wait + Sync + Copy + Clone + Drop>(
+pub fn rows_and_ticks<R: Threads + Wait + Sync + Copy + Clone + Drop>(
     rt: R,
     alloc: Global,
 ) -> Result<(String, u64), Refusal> {

@@ -21,7 +21,10 @@ use std::process::ExitCode;
 
 fn main(rt: HostRuntime) -> ExitCode {
     let status = match words(&rt) {
-        Ok(words) if is_word(&words, "demo") => print_demo(rt, demo::shown(rt, rt.alloc())),
+        Ok(words) if is_word(&words, "demo") => print_demo(
+            rt,
+            demo::rows_and_ticks(rt, rt.alloc()),
+        ),
         Ok(words) if is_word(&words, "show") => end_show(rt, show::play(rt)),
         Ok(words) => run(rt, &words),
         Err(refusal) => say(rt, Fault::Refused(refusal)),

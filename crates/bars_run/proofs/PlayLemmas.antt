@@ -9,7 +9,7 @@ use Rattle.indicatif_text.specs.declared.refusal.Refusal.TheVariants.{Memory, Ze
 use Rattle.indicatif_text.specs.Template.{TemplatePart, KeyText, Keyed, Parses, plain_layout, front, end, piece, parts_of}
 use Rattle.indicatif_term.specs.Calls.{TermView}
 use Rattle.indicatif_term.specs.Target.{is_bottom}
-use Rattle.indicatif_term.specs.Memory.{view_of}
+use Rattle.indicatif_term.specs.Cells.{view_of}
 use Rattle.indicatif_bar.specs.Machines.{Machine, target_of}
 use Rattle.indicatif_bar.specs.Scripts.{ScriptPart, Called, Size, Sizing, sized, Plays}
 use Rattle.indicatif_bar.specs.Trackers.{writes_nothing}

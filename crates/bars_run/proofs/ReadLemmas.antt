@@ -15,7 +15,7 @@ use Rattle.bars_run.specs.Printing.{IsInputLine, EndsOn}
 use Rattle.bars_run.proofs.LineLemmas.{next_line}
 use Rattle.bars_run.proofs.PlayLemmas.{one_more}
 
--- a front of the lines was played, so many, and these bytes are known to be left of the input
+-- this number of lines from the front was played, and these bytes are known to be left of the input
 pub record Reads (asked : Asked) (number : ℕ) (bytes : List ℕ) (known : Option (List ℕ)) (byte : ℕ) (b : Played) : Type 0 where
   pub left : List ℕ
   pub known_is : known ≡ Some left

@@ -9,7 +9,7 @@ use Rattle.indicatif_term.specs.Screen.{Screen, blank_screen}
 use Rattle.indicatif_term.specs.Terminal.{Terminal, blank_terminal}
 use Rattle.indicatif_term.specs.Calls.{TermView, State}
 use Rattle.indicatif_term.specs.Lists.{Lists, opening_lists, all_rows}
-use Rattle.indicatif_term.specs.Memory.{MemoryTerm, view_of}
+use Rattle.indicatif_term.specs.Cells.{MemoryTerm, view_of}
 use Rattle.indicatif_term.specs.Pictures.{picture_text, row_text}
 use Rattle.indicatif_term.specs.Resizes.{resized, resized_terminal, resized_lists, recut_all, recut_screen}
 use Rattle.indicatif_term.specs.Shows.{Shows}

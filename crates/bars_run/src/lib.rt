@@ -83,7 +83,7 @@ pub fn run_bars<R: Read + Drop, O: Write, E: Write>(
         × EndsBy (map (λ word. string_bytes word) args.now) (R.remaining input) fault }
     ensures printed { result ≡ 0 → IfSome (R.remaining input) (λ bytes. Prints (map (λ word. string_bytes word) args.now) bytes (O.contents out.old) (O.contents out.new)) }
 {
-    match shown(alloc, args, input, out) {
+    match print_picture(alloc, args, input, out) {
         Ok(()) => 0,
         Err(fault) => {
             let _ = writeln!(err, "{fault}");
@@ -93,7 +93,7 @@ pub fn run_bars<R: Read + Drop, O: Write, E: Write>(
 }
 
 /// Plays the request, and prints the picture once it is complete.
-fn shown<R: Read + Drop, O: Write>(
+fn print_picture<R: Read + Drop, O: Write>(
     alloc: Global,
     args: &[String],
     input: R,
@@ -107,7 +107,7 @@ fn shown<R: Read + Drop, O: Write>(
     let Some(asked) = Asked::by(args) else {
         return Err(Fault::Usage);
     };
-    let picture = played(alloc, asked, input)?;
+    let picture = picture_of(alloc, asked, input)?;
     match print(&picture, out) {
         Ok(()) => Ok(()),
         Err(_) => Err(Fault::Output),
@@ -115,7 +115,7 @@ fn shown<R: Read + Drop, O: Write>(
 }
 
 /// The rows that stand after all commands.
-fn played<R: Read + Drop>(alloc: Global, asked: Asked, input: R) -> Result<Vec<String>, Fault>
+fn picture_of<R: Read + Drop>(alloc: Global, asked: Asked, input: R) -> Result<Vec<String>, Fault>
     ensures stands { IfOk result (λ rows. IfSome (R.remaining input) (λ bytes. Stands asked bytes (map (λ row. string_bytes row) rows.items))) }
     ensures cells { OnOk result (HasCells asked.size) }
     ensures fault { IfErr result (λ fault. EndsOn asked (R.remaining input) fault) }

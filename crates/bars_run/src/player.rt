@@ -1,11 +1,11 @@
 //! A board in memory, and the effect of a command on it.
 ghost use Rattle.std.specs.Prelude.{◌≡◌, ◌⊎◌, ℕ, suc, [], map, Some, IfErr, IfOk, IfSome, OnOk, string_bytes};
-ghost use Rattle.indicatif_term.specs.Memory.{view_of};
+ghost use Rattle.indicatif_term.specs.Cells.{view_of};
 ghost use Rattle.indicatif_term.specs.Pictures.{picture_text};
 ghost use Rattle.indicatif_bar.specs.Scripts.{Size as NewSize};
 ghost use Rattle.indicatif_bar.specs.Trackers.{writes_nothing};
 ghost use Rattle.indicatif_board.specs.Boards.{Refused};
-ghost use Rattle.indicatif_board.specs.BoardValues.{id_of};
+ghost use Rattle.indicatif_board.specs.BarIds.{id_of};
 ghost use Rattle.indicatif_board.specs.Bridge.{bridge_bytes};
 ghost use Rattle.indicatif_board.specs.Calls.{call_of as call_as};
 ghost use Rattle.indicatif_board.specs.Multi.{LeadsBy, terminal_of};

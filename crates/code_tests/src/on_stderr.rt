@@ -24,7 +24,7 @@ fn work<R: Shares>(rt: &R, bar: &StderrBar<R>, steps: u64) -> Result<(), Refusal
 }
 
 /// Whether a bar on standard output is shown.
-pub fn shown<R: Shares>(
+pub fn is_shown<R: Shares>(
     bar: &ProgressBar<StreamTerm<Stdout>, MachineClock<HostRuntime>, R>,
 ) -> bool {
     !bar.is_hidden()

@@ -24,7 +24,7 @@ fn made(steps: &str, got: &mut Got) -> u64 {
 }
 
 /// How many rows of a text agree and differ, and how many steps were made.
-fn told(rt: HostRuntime, text: &str) -> io::Result<(u64, u64, u64)> {
+fn counts_of(rt: HostRuntime, text: &str) -> io::Result<(u64, u64, u64)> {
     let mut got = Got::new(rt.alloc());
     let mut player = Player::new(rt.alloc(), "rows");
     let mut steps: u64 = 0;
@@ -60,6 +60,6 @@ const FILES: &[(&str, (u64, u64, u64))] = &[
 #[test]
 fn files_of_rows(rt: HostRuntime) {
     for (text, wanted) in FILES {
-        same!(&rt; (*text, told(rt, text).ok()), (*text, Some(*wanted)));
+        same!(&rt; (*text, counts_of(rt, text).ok()), (*text, Some(*wanted)));
     }
 }

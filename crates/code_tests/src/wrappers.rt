@@ -24,7 +24,7 @@ fn bar_after_an_hour<R: Runtime>(rt: &R) -> Bar<R> {
 }
 
 /// Calls all builders of a wrapper's bar.
-fn told<R: Runtime>(
+fn with_all_builders<R: Runtime>(
     rt: &R,
     wrapped: ProgressBarIter<Range<u32>, Bar<R>>,
 ) -> ProgressBarIter<Range<u32>, Bar<R>> {
@@ -45,7 +45,7 @@ fn a_wrappers_bar_is_told(rt: HostRuntime) {
     let bar = bar_after_an_hour(&rt);
     let items = 0..3u32;
     let mut wrapped = bar.wrap_iter(items.into_iter()).expect(&rt, "granted");
-    let mut wrapped = told(&rt, wrapped);
+    let mut wrapped = with_all_builders(&rt, wrapped);
     let text = format!(in rt.alloc(); "{wrapped:?}").granted(&rt);
     holds!(&rt; text.as_str().starts_with("ProgressBarIter { it: 0..3, progress: ProgressBar, "));
     same!(&rt; (bar.position(), bar.elapsed()), (7, HOUR));

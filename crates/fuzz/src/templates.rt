@@ -94,7 +94,7 @@ fn is_but_for_white_space(plain: &str, coloured: &str) -> bool {
     next.is_none()
 }
 
-/// The visible lines of the same bar in a copy of its style, with colours or without, at this moment and on so many columns.
+/// The visible lines of the same bar in a copy of its style, with colours or without, at this moment and with this number of columns.
 fn visible_lines(alloc: Global, bar: &Bar, colours: bool, place: Place) -> Result<String, Fault> {
     let style = bar.style().try_clone()?.with_colors(colours)?;
     let mut copy = Box::new(alloc, bar.try_clone()?)?;

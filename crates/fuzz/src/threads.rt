@@ -82,7 +82,7 @@ fn logged_by_all<R: Plays>(
 
 /// Threads make random calls of a board and its bars: once each ticker has stopped, all that they logged must stand there, and its history
 /// is one run.
-fn played_on<R: Plays>(rt: R, board: &Multi<R>, bars: &[Bar<R>], random: &Random) -> Held {
+fn check_run_on<R: Plays>(rt: R, board: &Multi<R>, bars: &[Bar<R>], random: &Random) -> Held {
     let logged = logged_by_all(rt, board, bars, random)?;
     for bar in bars {
         bar.disable_steady_tick()?;
@@ -92,11 +92,11 @@ fn played_on<R: Plays>(rt: R, board: &Multi<R>, bars: &[Bar<R>], random: &Random
 }
 
 /// Threads make random calls of a new board that keeps its history, and it is checked.
-fn played<R: Plays>(rt: R, random: &Random) -> Held {
+fn check_run<R: Plays>(rt: R, random: &Random) -> Held {
     let clock = MachineClock::new(rt);
     let board = MultiProgress::recorded(rt, rt.alloc(), target(rt.alloc())?, clock, 1)?;
     let bars = bars_of(rt, &board)?;
-    played_on(rt, &board, &bars, random)
+    check_run_on(rt, &board, &bars, random)
 }
 
 /// Makes `count` runs, each with numbers of its own.
@@ -104,7 +104,7 @@ pub fn all<R: Plays>(rt: R, Random { seed, steps }: Random, count: u64) -> Tally
     let mut tally = Tally::new();
     for number in 0..count {
         let seed = seed.wrapping_add(number);
-        tally.count(number, played(rt, &Random { seed, steps }));
+        tally.count(number, check_run(rt, &Random { seed, steps }));
     }
     tally
 }

@@ -111,7 +111,11 @@ fn step(three: &mut Three, frame: &mut Frame, numbers: &mut Numbers) -> Result<b
 }
 
 /// Plays one list of calls; the number of the first one after which they differ, from 1.
-fn played(alloc: Global, three: &mut Three, numbers: &mut Numbers) -> Result<Option<u32>, Refusal> {
+fn first_difference(
+    alloc: Global,
+    three: &mut Three,
+    numbers: &mut Numbers,
+) -> Result<Option<u32>, Refusal> {
     let mut frame = Frame::new(alloc);
     let mut first = None;
     for call in 1..=CALLS {
@@ -127,7 +131,7 @@ pub fn compare<R: AllocGlobal + Print>(rt: &R, seed: u64, count: u64) -> Result<
     let mut numbers = Numbers::new(seed, STREAM);
     for at in 0..count {
         let mut three = Three::new(rt.alloc(), size_by(&mut numbers))?;
-        if let Some(call) = played(rt.alloc(), &mut three, &mut numbers)? {
+        if let Some(call) = first_difference(rt.alloc(), &mut three, &mut numbers)? {
             println!(rt; "list {at}: they differ behind call {call}")?;
             return Ok(());
         }
@@ -142,7 +146,7 @@ fn print_written<R: AllocGlobal + Print>(rt: &R, seed: u64, count: u64) -> Resul
     for _ in 0..count {
         let size = size_by(&mut numbers);
         let mut three = Three::new(rt.alloc(), size)?;
-        played(rt.alloc(), &mut three, &mut numbers)?;
+        first_difference(rt.alloc(), &mut three, &mut numbers)?;
         let [engine, moving] = &three.engines;
         println!(rt; "{} {}", size.rows, size.cols)?;
         println!(rt; "{:?}", str::from_utf8(engine.written())?)?;

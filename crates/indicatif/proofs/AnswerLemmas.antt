@@ -25,7 +25,8 @@ use Rattle.indicatif_board.specs.BoardBars.{board_bars}
 use Rattle.indicatif_board.specs.Boards.{BoardState, Id, Location, Before, After, Entrant, New, Old, Insert, Remove, Drop, Log as LogAbove, BarLog, Clear as ClearBoard, Redraw, Align, Tell, Answer, Given, Accepted, Drew, Refused, drawn_of, or_refused, turned_away, anchor_turned_away, inserted, taken_in, taken_out, draws, draw_of_command, last_draw, log_of, draw_of, laid_out, layout_takes, left_on, ownerless_on, deed_of, board}
 use Rattle.indicatif_board.specs.Members.{Member, is_member, said_of}
 use Rattle.indicatif.specs.Fronts.{of_no_draw, of_a_draw, of_a_clear, of_draw, asked_by, is_late, has_no_bar, bar_answers, CanAnswer, IsMissing, MemoryOrForeign}
-use Rattle.indicatif.specs.Inside.SharedBoards.{SharedCall, SharedDraws, SharedAnswers, on_board, given_by, is_foreign, names_bar, board_answers}
+use Rattle.indicatif_board.specs.LoneLaws.{on_board}
+use Rattle.indicatif.specs.Inside.SharedBoards.{SharedCall, SharedDraws, SharedAnswers, given_by, is_foreign, names_bar, board_answers}
 
 pub or-left : (a b : Bool) → a ≡ true → (a || b) ≡ true
 or-left a b e = rw e refl

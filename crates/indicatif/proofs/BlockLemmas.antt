@@ -35,9 +35,6 @@ module _ {P : Type 0} (told : P → Option Standing) (leads : P → Move → Res
         sizes = subst (AllByRecursion (λ k. (0 < k) × (k ≤ block_length))) (sym sizes) (all_more (λ k. (0 < k) × (k ≤ block_length)) (map (λ x. x.0) b.made) n (some, small) b.sizes);
       }
 
-  pub no_blocks : (p : P) → Blocks told leads p 0 p
-  no_blocks p = record { made = []; along = refl; total = refl; sizes = tt }
-
 module _ {X : Type 0} where
   take_none : (n : ℕ) → take {A = X} n [] ≡ []
   take_none zero = refl

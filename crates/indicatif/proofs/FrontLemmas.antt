@@ -14,7 +14,7 @@ use Rattle.indicatif_bar.specs.Progress.{Progress, new_progress, eta, per_sec, d
 use Rattle.indicatif_bar.specs.declared.state.commands.Change.{Change as Changed}
 use Rattle.indicatif_bar.specs.declared.lone.LoneBar.{LoneBar}
 use Rattle.indicatif_board.specs.Boards.{Id, Tell}
-use Rattle.indicatif_board.specs.BoardValues.{id_of}
+use Rattle.indicatif_board.specs.BarIds.{id_of}
 use Rattle.indicatif.specs.Fronts.{of_no_draw, of_a_draw, has_no_bar, CanAnswer, CanClear, CanDraw, CanMove, CanTurn, CanUpdate, IsMissing}
 use Rattle.indicatif.specs.Inside.AnyBar.{MadeBy, BarMakes, BarTurns, BarUpdates, IsUntold}
 use Rattle.indicatif.specs.Inside.SharedBoards.{SharedDraws}

@@ -1,11 +1,9 @@
 -- Lines of a text with a level before each, line by line.
-use Rattle.std.proofs.Common.{◌≡◌, ℕ, ◌<◌, Bool, true, List, [], ◌∷◌, ◌++◌, length, refl, sym, ◌∙◌, ap, arith, append_assoc, append-nil, eqb, if◌then◌else◌, inl, inr}
-use Rattle.std.specs.Prelude.{flat_map, nat_lt, ◌==◌}
+use Rattle.std.proofs.Common.{◌≡◌, ℕ, ◌<◌, List, [], ◌∷◌, ◌++◌, length, refl, ◌∙◌, ap, arith, append_assoc, eqb, if◌then◌else◌, inl, inr}
+use Rattle.std.specs.Prelude.{flat_map, ◌==◌}
 use Rattle.std.specs.List.{slice_split, onto_first}
 use Rattle.std.proofs.lemmas.List.Splits.{length-slice_split}
-use Rattle.std.proofs.lemmas.List.Concat.{flat_map-append}
 use Rattle.std.proofs.lemmas.Bool.{cases_Bool}
-use Rattle.std.proofs.lemmas.Bool.Decides.{nat_tests}
 
 -- lines with line feeds between them, each but the first behind this front
 abbrev fronted : List ℕ → List (List ℕ) → List ℕ
@@ -42,14 +40,3 @@ laid_some front (line ∷ lines) h = refl
 -- the lines of a text
 pub laid-split : (front text : List ℕ) → laid front (slice_split (λ b. eqb b 0x0a) text) ≡ front ++ flat_map (λ b. if b == 0x0a then 0x0a ∷ front else b ∷ []) text
 laid-split front text = laid_some front (slice_split (λ b. eqb b 0x0a) text) (some_lines text) ∙ ap (λ x. front ++ x) (fronted-split front text)
-
--- one more line
-pub laid-push : (front : List ℕ) (lines : List (List ℕ)) (line : List ℕ) (started : Bool) → started ≡ nat_lt 0 (length lines) →
-    laid front (lines ++ line ∷ []) ≡ laid front lines ++ ((if started then 0x0a ∷ [] else []) ++ (front ++ line))
-laid-push front [] line started e = rw e (ap (λ x. front ++ x) (append-nil line))
-laid-push front (first ∷ lines) line started e =
-    let t : started ≡ true = e ∙ grind (arith, nat_tests) in
-    let more = flat_map (λ l. 0x0a ∷ front ++ l) lines in
-    rw t (ap (λ x. front ++ (first ++ x)) (flat_map-append (λ l. 0x0a ∷ front ++ l) lines (line ∷ []) ∙ ap (λ x. more ++ x) (append-nil (0x0a ∷ front ++ line)))
-    ∙ ap (λ x. front ++ x) (sym (append_assoc first more (0x0a ∷ front ++ line)))
-    ∙ sym (append_assoc front (first ++ more) (0x0a ∷ front ++ line)))

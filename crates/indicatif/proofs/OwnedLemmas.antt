@@ -17,7 +17,7 @@ use Rattle.indicatif.specs.declared.wrappers.owned.OwnedBar.{OwnedBar}
 use Rattle.indicatif.specs.declared.wrappers.wrap.ProgressBarIter.{ProgressBarIter}
 use Rattle.indicatif.specs.Moves.{Standing, MovedAlong, AreOfLoop, Move, Advance, Place, Finish}
 use Rattle.indicatif.specs.Wrap.{CountsItem, NextGives}
-use Rattle.indicatif.specs.Owned.{lone_of, standing_of, command_of_move, Commanded, IsRun}
+use Rattle.indicatif.specs.Owned.{lone_of, standing_of, command_of_move, Commanded, IsRunOfMoves}
 
 -- the moves of a loop
 abbrev pub LoopMade : {P : Type 0} → (P → Move → Result Drawn Refusal → P → Type 0) → ℕ → P → P → Type 0
@@ -70,7 +70,7 @@ module _ {K T C : Type 0} (m : Tracking K) (view : T → TermView) where
         (lone_known view (lone_of along.0), led.0, led.2, others.4),
       )
 
-  pub moves-run : (made : List (Move × Result Drawn Refusal)) (old new : OwnedBar K T C) → MovedAlong (Commanded m view) made old new → IsRun m view made old new
+  pub moves-run : (made : List (Move × Result Drawn Refusal)) (old new : OwnedBar K T C) → MovedAlong (Commanded m view) made old new → IsRunOfMoves m view made old new
   moves-run made old new along s inside =
       let r = run-from made old new along s inside in
       (r.0, r.1, r.2, r.3, r.4, headline (lone_bar m) r.0 (map (λ x. x.1) made) (lone_known view (lone_of old)) s (lone_known view (lone_of new)) r.2 r.4)

@@ -9,7 +9,7 @@ use Rattle.std.proofs.Math.Nat.{mod-add-mod}
 use Rattle.rayon.proofs.ListFacts.{AllZip-append}
 use Rattle.indicatif.specs.Workers.{items_in}
 use Rattle.indicatif.specs.Inside.Pieces.{IsEnded, CountsPieces}
-use Rattle.indicatif.specs.declared.parallel.workers.pieces.Ended.{Ended}
+use Rattle.indicatif.specs.declared.parallel.workers.pieces.EndedPiece.{EndedPiece}
 
 module _ {X Y : Type 0} (R : X → Y → Type 0) where
   -- one item more, with its answer
@@ -50,7 +50,7 @@ module _ {T A : Type 0} (R : T → A → Type 0) (pieces : List (Vec T Global)) 
       (omega (arith, front.0, items, long), zip_one (λ p o. AllZip R p.items o.items) pieces at piece one b.items made.items lt is joined front.1 answered)
 
   -- what the first pieces came to, with the answers of the next
-  pub gathered_more : (ended : Ended A) (at next sum count : ℕ) (one : Vec A Global) (before after : Option (Vec (Vec A Global) Global))
+  pub gathered_more : (ended : EndedPiece A) (at next sum count : ℕ) (one : Vec A Global) (before after : Option (Vec (Vec A Global) Global))
       → IsEnded R pieces ended → ended.piece ≡ at → ended.answers ≡ Some one
       → CountsPieces R (take at pieces) before sum → next ≡ at + 1 → count ≡ (sum + length one.items) % 18446744073709551616
       → IfSome after (λ made. IsSomeAnd before (λ b. made.items ≡ b.items ++ one ∷ []))

@@ -27,23 +27,23 @@ abbrev pub own_columns : ℕ → ℕ
 own_columns told = max (told - 1) 1
 
 -- a target on the terminal behind some writer, whose full rows are ended by the program, on all of it or on one row
-abbrev pub IsOwn : {W : Type 0} → Option (OwnRows (WriterTerm W) × Option Limiter) → Option OwnRow → Facts → Type 0
-IsOwn {W} target row facts = (w : W) × (now : ℕ)
+abbrev pub IsOwnTarget : {W : Type 0} → Option (OwnRows (WriterTerm W) × Option Limiter) → Option OwnRow → Facts → Type 0
+IsOwnTarget {W} target row facts = (w : W) × (now : ℕ)
     × (target ≡ (if hides facts then None else Some (own_rows (term_behind w facts) row, Some (draw_limiter default_rate now))))
 
 -- a target on all of a terminal behind some writer, whose full rows are ended by the program: rows have one column less than the terminal was said to have
 abbrev pub IsOnStream : {W : Type 0} → Option (OwnRows (WriterTerm W) × Option Limiter) → ℕ → Facts → Type 0
-IsOnStream target told facts = (facts.cols ≡ own_columns told) × IsOwn target None facts
+IsOnStream target told facts = (facts.cols ≡ own_columns told) × IsOwnTarget target None facts
 
 -- a target on a terminal of known size behind some writer: the terminal ends full rows
-abbrev pub IsSized : {W : Type 0} → Option (OwnRows (WriterTerm W) × Option Limiter) → Facts → Type 0
-IsSized {W} target facts = (w : W) × (now : ℕ)
+abbrev pub IsSizedTarget : {W : Type 0} → Option (OwnRows (WriterTerm W) × Option Limiter) → Facts → Type 0
+IsSizedTarget {W} target facts = (w : W) × (now : ℕ)
     × (target ≡ (if hides facts then None else Some (left_rows (term_behind w facts), Some (draw_limiter default_rate now))))
 
 -- a target on standard error, whose full rows are ended by the program
 abbrev pub IsOwnStderr : Option (StderrTerm × Option Limiter) → Option OwnRow → Facts → Type 0
 IsOwnStderr target row facts = (on : Option (OwnRows (WriterTerm (BufWriter (UntilGone Stderr) Global)) × Option Limiter))
-    × IsOwn on row facts × (target ≡ stderr_target on)
+    × IsOwnTarget on row facts × (target ≡ stderr_target on)
 
 -- a target on all of standard error: rows have one column less than it was said to have
 abbrev pub IsOnStderr : Option (StderrTerm × Option Limiter) → ℕ → Facts → Type 0
@@ -53,4 +53,4 @@ IsOnStderr target told facts = (on : Option (OwnRows (WriterTerm (BufWriter (Unt
 -- a target on standard error of known size
 abbrev pub IsSizedStderr : Option (StderrTerm × Option Limiter) → Facts → Type 0
 IsSizedStderr target facts = (on : Option (OwnRows (WriterTerm (BufWriter (UntilGone Stderr) Global)) × Option Limiter))
-    × IsSized on facts × (target ≡ stderr_target on)
+    × IsSizedTarget on facts × (target ≡ stderr_target on)

@@ -53,8 +53,8 @@ Commanded m view old (Place place) answer new = (now : ℕ) × Obeys m view (lon
 Commanded m view old Finish answer new = (now : ℕ) × ObeysOrNot m view (lone_of old) (lone_of new) FinishUsingStyle now answer
 
 -- whatever state the bar was in, these moves with their answers are a run of its commands, each at some moment; so the headline holds of them
-abbrev pub IsRun : {K T C : Type 0} → Tracking K → (T → TermView) → List (Move × Result Drawn Refusal) → OwnedBar K T C → OwnedBar K T C → Type 0
-IsRun {K} m view made old new =
+abbrev pub IsRunOfMoves : {K T C : Type 0} → Tracking K → (T → TermView) → List (Move × Result Drawn Refusal) → OwnedBar K T C → OwnedBar K T C → Type 0
+IsRunOfMoves {K} m view made old new =
     (s : LoneState (BarRecord K)) → LoneIsIn (lone_of old) s →
     let answers = map (λ x. x.1) made in let before = lone_known view (lone_of old) in let now = lone_known view (lone_of new) in
     (calls : List (LoneCall (Command K) × ℕ)) × (map (λ call. call.0) calls ≡ map (λ x. Obey (command_of_move x.0)) made)

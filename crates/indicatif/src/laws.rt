@@ -5,7 +5,7 @@ ghost use Rattle.indicatif_text.specs.declared.refusal.Drawn.{Drawn};
 ghost use Rattle.indicatif_text.specs.declared.refusal.Refusal.{Refusal};
 ghost use Rattle.indicatif_text.specs.declared.refusal.Refusal.TheVariants.{Memory};
 ghost use Rattle.indicatif.specs.Moves.{after_bar_move, MovedAlong, AreOfLoop, Move, Advance, Finish};
-ghost use Rattle.indicatif.specs.Owned.{Commanded, IsRun};
+ghost use Rattle.indicatif.specs.Owned.{Commanded, IsRunOfMoves};
 ghost use Rattle.indicatif.specs.Parallel.{Blocks};
 ghost use Rattle.indicatif.specs.declared.wrappers.owned.OwnedBar.{OwnedBar};
 ghost use Rattle.indicatif.specs.Wrap.{inner_of, last_draw_of, StaysAtItsEnd};
@@ -68,7 +68,7 @@ pub fn a_wrapped_end_stays<I: Iterator, P: Moves + Drop>()
 /// holds of it.
 pub fn moves_are_a_run<K: Tracks, T: TermLike + Drop, C>()
     ensures { (made : List (Move × Result Drawn Refusal)) (old new : OwnedBar K T C) →
-        MovedAlong (Commanded K.means T.view) made old new → IsRun K.means T.view made old new }
+        MovedAlong (Commanded K.means T.view) made old new → IsRunOfMoves K.means T.view made old new }
 {}
 
 /// A bar whose position can be read advances by the number of a list's items when threads work on the list with it.

@@ -12,7 +12,7 @@ ghost use Rattle.indicatif_text.specs.declared.template.TemplateError.{TemplateE
 ghost use Rattle.indicatif_text.specs.Template.{Parses, IsRefused, refusal_of};
 ghost use Rattle.indicatif_term.specs.OwnRows.{own_rows};
 ghost use Rattle.indicatif_bar.specs.Builders.{first_style};
-ghost use Rattle.indicatif.specs.Machine.{IsBehind, IsTermBehind, IsOwn, IsOnStream, IsSized, IsOwnStderr, IsOnStderr, IsSizedStderr, own_columns};
+ghost use Rattle.indicatif.specs.Machine.{IsBehind, IsTermBehind, IsOwnTarget, IsOnStream, IsSizedTarget, IsOwnStderr, IsOnStderr, IsSizedStderr, own_columns};
 
 mod made;
 mod stderr_term;
@@ -199,7 +199,7 @@ pub type TerminalSetup<W> = Setup<Term<BufWriter<UntilGone<W>>>, MachineClock<Ho
 /// The terminal behind standard output or another stream, as `on_stdout` and `on_stream` make it. `on_stderr` makes a `StderrTerm`.
 ///
 /// ```
-/// fn shown<R: Shares>(bar: &ProgressBar<StreamTerm<Stdout>, MachineClock<HostRuntime>, R>) -> bool {
+/// fn is_shown<R: Shares>(bar: &ProgressBar<StreamTerm<Stdout>, MachineClock<HostRuntime>, R>) -> bool {
 ///     !bar.is_hidden()
 /// }
 /// ```
@@ -346,7 +346,7 @@ fn own_target<R: AllocGlobal + time::Clock + Copy, W: Write + Drop>(
     facts: Facts,
     row: Option<OwnRow>,
 ) -> Result<ProgressDrawTarget<StreamTerm<W>>, Refusal>
-    ensures target { IfOk result (λ target. IsOwn target row facts) }
+    ensures target { IfOk result (λ target. IsOwnTarget target row facts) }
     ensures memory { IfErr result (λ e. e ≡ Refusal.Memory) }
 {
     let mut clock = MachineClock::new(*rt);
@@ -404,7 +404,7 @@ pub fn sized_target<R: Env + AllocGlobal + time::Clock + Copy, W: Write + IsTerm
     rows: u16,
     cols: u16,
 ) -> Result<ProgressDrawTarget<StreamTerm<W>>, Refusal>
-    ensures target { IfOk result (λ target. (facts : Facts) × (facts.rows ≡ rows) × (facts.cols ≡ cols) × IsSized target facts) }
+    ensures target { IfOk result (λ target. (facts : Facts) × (facts.rows ≡ rows) × (facts.cols ≡ cols) × IsSizedTarget target facts) }
     ensures zero_size { (result ≡ Err Refusal.ZeroSize) ↔ ((rows ≡ 0) ⊎ (cols ≡ 0)) }
     ensures no_other { IfErr result (λ e. (e ≡ Refusal.ZeroSize) ⊎ (e ≡ Refusal.Memory)) }
 {

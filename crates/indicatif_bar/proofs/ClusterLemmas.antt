@@ -233,7 +233,7 @@ cluster_texts width (cs ∷ pieces) (first, rest) e some =
     let parts = and_parts (text_columns (encode_utf8_all cs) == width) (list_all (λ c. text_columns c == width) (map encode_utf8_all pieces)) e in
     (cluster_text width cs first (eqb-true (text_columns (encode_utf8_all cs)) width parts.0) some, cluster_texts width pieces rest parts.1 some)
 
--- the clusters of a text, all of so many columns, are plain texts
+-- the clusters of a text, all with the same number of columns, are plain texts
 pub clusters_are_plain : (width : ℕ) (text : List ℕ) → IsUtf8 text → list_all (λ c. text_columns c == width) (clusters_of text) ≡ true → 0 < width → All IsPlainText (clusters_of text)
 unfolding segments
 clusters_are_plain width text u e some =

@@ -1,4 +1,4 @@
--- What the texts of a line are made of: a text so many times, blanks, the parts of a bar.
+-- What the texts of a line are made of: a repeated text, blanks, the parts of a bar.
 use Rattle.std.proofs.Common.{◌≡◌, ℕ, zero, suc, ◌-◌, ◌*◌, ◌/◌, ◌%◌, Bool, ◌++◌, ◌+◌, drop, List, [], ◌∷◌, append-nil, append_assoc, refl, sym, ◌∙◌, ap, true, false, if◌then◌else◌, length, length-append, take, arith, map, subst, ◌≤◌}
 use Rattle.std.specs.List.{concat, slice_range}
 use Rattle.std.specs.Str.{IsUtf8, IsCharBoundary}
@@ -23,7 +23,7 @@ pub last_sequence : (0x1B ∷ codes "[0m") ≡ sequence_of 0
 unfolding digits
 last_sequence = refl
 
--- ---- a text so many times
+-- ---- a repeated text
 
 pub times_more : (n : ℕ) (text : List ℕ) → times (n + 1) text ≡ times n text ++ text
 times_more zero text = append-nil text

@@ -22,7 +22,7 @@ use Rattle.indicatif_bar.specs.LoneBars.{LoneIsIn, LoneIsNowhere, lone_bar, Lone
 use Rattle.indicatif_bar.specs.Stages.{IsStaged}
 use Rattle.indicatif_bar.specs.Shown.{PutsFrame, DrewBy, DrewOn, WritesLinesOn}
 use Rattle.indicatif_term.specs.declared.target.lines.Segment.{Segment}
-use Rattle.indicatif_bar.specs.Inside.Writings.{IsLaidOut}
+use Rattle.indicatif_bar.specs.Inside.Writings.{StandInSegment}
 use Rattle.indicatif_bar.specs.Inside.Lone.{IsTold, IsToldOrNot}
 use Rattle.indicatif_bar.specs.declared.ask.Ask.{Ask}
 use Rattle.indicatif_bar.specs.declared.ask.Ask.TheVariants.{Forced}
@@ -31,8 +31,9 @@ use Rattle.indicatif_bar.proofs.OutcomeLemmas.{drew, drew_none, drawn_answer, ou
 
 -- what an engine made of a frame in which the bar's lines stand is what it makes of the bar's frame: where nothing is written, it
 -- doesn't look at the frame
-pub puts_laid : {T : Type 0} (view : T → TermView) (writing : Writing) (lines : List (List ℕ)) (segment : Segment) (old new : Engine T) (r : Result Unit Refusal) → IsLaidOut writing lines segment →
-    PutsFrame view writing false 0 (bar_lines segment ∷ []) old new r → PutsFrame view writing false 0 (record { bar = 0; lines = map chars lines } ∷ []) old new r
+pub puts_laid : {T : Type 0} (view : T → TermView) (writing : Writing) (lines : List (List ℕ)) (segment : Segment) (old new : Engine T) (r : Result Unit Refusal) →
+    StandInSegment writing lines segment → PutsFrame view writing false 0 (bar_lines segment ∷ []) old new r →
+    PutsFrame view writing false 0 (record { bar = 0; lines = map chars lines } ∷ []) old new r
 puts_laid view Frame lines segment old new r laid p = subst (λ b. PutsFrame view Frame false 0 (b ∷ []) old new r) laid p
 puts_laid view (TextAndFrame text) lines segment old new r laid p = subst (λ b. PutsFrame view (TextAndFrame text) false 0 (b ∷ []) old new r) laid p
 puts_laid view NoFrame lines segment old new r laid p =

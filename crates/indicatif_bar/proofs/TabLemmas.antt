@@ -10,7 +10,7 @@ use Rattle.std.specs.Result.{OnErr}
 use Rattle.std.proofs.Common.{Result, Ok, Err}
 use Rattle.indicatif_bar.specs.Tabs.{expanded, is_some_text, has_tab, TabsAreGone, OthersStay}
 
--- parts with so many spaces between them
+-- parts with a number of spaces between them
 abbrev pub joined : ℕ → List (List ℕ) → List ℕ
 joined w [] = []
 joined w (part ∷ parts) = part ++ flat_map (λ p. replicate w 0x20 ++ p) parts

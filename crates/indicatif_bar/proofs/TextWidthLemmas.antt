@@ -23,7 +23,7 @@ use Rattle.indicatif_text.proofs.RangeWidthLemmas.{ranges_fit, no_character_is_a
 use Rattle.indicatif_bar.specs.Layout.{text_columns, spaces, text_range, truncated, surrounded, padded, times}
 use Rattle.indicatif_bar.specs.StyleLaws.{IsPlainText, PaddedFills, NeverNarrower, NeverWider}
 
--- a plain text of so many columns
+-- a plain text with this number of columns
 pub record Takes (n : ℕ) (text : List ℕ) : Type 0 where
   pub utf8 : IsUtf8 text
   pub plain : is_plain (chars text) ≡ true

@@ -89,8 +89,8 @@ module _ (style : BarStyle ℕ) where
       (per_sec slow.progress (2 * one_second) ≡ rate) × ((per_sec back.progress (3 * one_second)).steps ≡ 0) × (eta back.progress (3 * one_second) ≡ 0)
 
   -- positions wrap; lengths stop at both ends, and no length stays none
-  abbrev pub Ends : Type 0
-  Ends = ((after_all (plain_record None) ((Dec 1, 0) ∷ [])).progress.position ≡ greatest_u64)
+  abbrev pub WrapsAndStops : Type 0
+  WrapsAndStops = ((after_all (plain_record None) ((Dec 1, 0) ∷ [])).progress.position ≡ greatest_u64)
       × ((after_all (plain_record None) ((SetPosition greatest_u64, 0) ∷ (Inc 2, 0) ∷ [])).progress.position ≡ 1)
       × ((after_all (plain_record None) ((SetLength greatest_u64, 0) ∷ (IncLength 1, 0) ∷ [])).progress.len ≡ Some greatest_u64)
       × ((after_all (plain_record None) ((SetLength 3, 0) ∷ (DecLength 5, 0) ∷ [])).progress.len ≡ Some 0)

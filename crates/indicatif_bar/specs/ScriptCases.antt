@@ -71,16 +71,16 @@ HiddenSize =
 -- ---- rows that last
 
 -- 3 rows of 4 columns, `abcd` and `ef`, the cursor there
-abbrev pub two_rows : ℕ → ℕ → Screen
-two_rows row column = record { columns = 4; height = 3; rows = rows_of_lines 4 (codes "abcd" ∷ codes "ef" ∷ []) ++ blank_row 4 ∷ []; row = row; column = column }
+abbrev pub two_rows_at : ℕ → ℕ → Screen
+two_rows_at row column = record { columns = 4; height = 3; rows = rows_of_lines 4 (codes "abcd" ∷ codes "ef" ∷ []) ++ blank_row 4 ∷ []; row = row; column = column }
 
 -- of the first two rows both stand above the front of the third row, and above a cursor that waits at the end of the second; above a cursor within the second row that row does not. What stands is
 -- wrapped; the same size changes nothing
-abbrev pub Standing : Type 0
-Standing =
-    (rows_that_stand 2 (two_rows 2 0) ≡ 2)
-    × (rows_that_stand 2 (two_rows 1 4) ≡ 2)
-    × (rows_that_stand 2 (two_rows 1 2) ≡ 1)
-    × (rows_then 2 3 2 (two_rows 1 4) ≡ rows_of_lines 2 (codes "ab" ∷ codes "cd" ∷ codes "ef" ∷ []))
-    × (rows_then 2 3 2 (two_rows 1 2) ≡ rows_of_lines 2 (codes "ab" ∷ codes "cd" ∷ []))
-    × (rows_then 4 3 2 (two_rows 1 2) ≡ rows_of_lines 4 (codes "abcd" ∷ codes "ef" ∷ []))
+abbrev pub HowManyStand : Type 0
+HowManyStand =
+    (rows_that_stand 2 (two_rows_at 2 0) ≡ 2)
+    × (rows_that_stand 2 (two_rows_at 1 4) ≡ 2)
+    × (rows_that_stand 2 (two_rows_at 1 2) ≡ 1)
+    × (rows_then 2 3 2 (two_rows_at 1 4) ≡ rows_of_lines 2 (codes "ab" ∷ codes "cd" ∷ codes "ef" ∷ []))
+    × (rows_then 2 3 2 (two_rows_at 1 2) ≡ rows_of_lines 2 (codes "ab" ∷ codes "cd" ∷ []))
+    × (rows_then 4 3 2 (two_rows_at 1 2) ≡ rows_of_lines 4 (codes "abcd" ∷ codes "ef" ∷ []))

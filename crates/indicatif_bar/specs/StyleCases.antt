@@ -14,8 +14,8 @@ use Rattle.indicatif_bar.specs.Styles.{BarStyle, lines, is_empty_style}
 use Rattle.indicatif_bar.specs.Builders.{tick_fault, progress_fault, clusters_of, characters_of}
 
 -- a tracker whose text is itself
-abbrev pub texts : Tracking (List ℕ)
-texts = telling (λ k p now. k)
+abbrev pub text_itself : Tracking (List ℕ)
+text_itself = telling (λ k p now. k)
 
 abbrev pub key : List ℕ → TemplatePart
 key name = KeyText name plain_layout
@@ -36,7 +36,7 @@ abbrev pub saying : List ℕ → Progress
 saying text = record (new_progress None 0) { message = text }
 
 abbrev pub shows : BarStyle (List ℕ) → Progress → ℕ → List (List ℕ)
-shows style p columns = lines texts style p 0 columns
+shows style p columns = lines text_itself style p 0 columns
 
 abbrev pub foo : BarStyle (List ℕ)
 foo = record (one (KeyText (codes "foo") (record plain_layout { align = Center; width = Some 5; style = Some (style_of (codes "red.on_blue")) }))) { keys = (codes "foo", codes "XXX") ∷ [] }
@@ -89,8 +89,8 @@ TickCases = let strings = characters_of (codes "12F") in (tick_string strings 5 
 -- a rate, whose width is also the number of its decimals
 abbrev pub RateCases : Type 0
 RateCases = let p = record (reached 3 None) { samples = recorded (first_samples 0) 3 2000000000 } in
-    (lines texts (one (key_wide (codes "per_sec") 8)) p 2000000000 80 ≡ codes "1.5/s   " ∷ [])
-    × (lines texts (one (key_wide (codes "per_sec") 0)) p 2000000000 80 ≡ codes "2/s" ∷ [])
+    (lines text_itself (one (key_wide (codes "per_sec") 8)) p 2000000000 80 ≡ codes "1.5/s   " ∷ [])
+    × (lines text_itself (one (key_wide (codes "per_sec") 0)) p 2000000000 80 ≡ codes "2/s" ∷ [])
 
 -- line breaks, and an unknown key
 abbrev pub LineCases : Type 0
@@ -101,19 +101,19 @@ LineCases = (shows (style_with (LiteralText (codes "a") ∷ LineBreak ∷ Litera
     × (shows (one (key (codes "msg"))) (saying (codes "a" ++ (10 ∷ []) ++ codes "b")) 80 ≡ codes "a" ∷ codes "b" ∷ [])
 
 -- whether it shows nothing with an empty prefix and message
-abbrev pub is_empty : BarStyle (List ℕ) → Bool
-is_empty style = is_empty_style style (reached 1 (Some 8))
+abbrev pub shows_nothing : BarStyle (List ℕ) → Bool
+shows_nothing style = is_empty_style style (reached 1 (Some 8))
 
 abbrev pub red : BarStyle (List ℕ)
 red = one (KeyText (codes "msg") (record plain_layout { style = Some (style_of (codes "red")) }))
 
 -- a message that is empty, an unknown key, a bar of no columns; and what still shows: colours, blanks, a line break, a tracker
 abbrev pub EmptyCases : Type 0
-EmptyCases = (is_empty (style_with (key (codes "msg") ∷ key (codes "prefix") ∷ key (codes "no_such_key") ∷ [])) ≡ true) × (is_empty (one (key_wide (codes "bar") 0)) ≡ true)
-    × (is_empty (one (key (codes "bar"))) ≡ false) × (is_empty red ≡ true) × (is_empty (record red { colours = true }) ≡ false)
+EmptyCases = (shows_nothing (style_with (key (codes "msg") ∷ key (codes "prefix") ∷ key (codes "no_such_key") ∷ [])) ≡ true) × (shows_nothing (one (key_wide (codes "bar") 0)) ≡ true)
+    × (shows_nothing (one (key (codes "bar"))) ≡ false) × (shows_nothing red ≡ true) × (shows_nothing (record red { colours = true }) ≡ false)
     × (shows (record red { colours = true }) (reached 1 (Some 8)) 80 ≡ (escape ++ codes "[31m" ++ escape ++ codes "[0m") ∷ [])
-    × (is_empty (one (key_wide (codes "msg") 1)) ≡ false) × (is_empty (one LineBreak) ≡ false)
-    × (is_empty (record (one (key (codes "msg"))) { keys = (codes "msg", []) ∷ [] }) ≡ false)
+    × (shows_nothing (one (key_wide (codes "msg") 1)) ≡ false) × (shows_nothing (one LineBreak) ≡ false)
+    × (shows_nothing (record (one (key (codes "msg"))) { keys = (codes "msg", []) ∷ [] }) ≡ false)
 
 -- the refusals of builders
 abbrev pub FaultCases : Type 0

@@ -1,9 +1,9 @@
 //! Worked cases of the definitions: each clause computes.
 ghost use Rattle.std.specs.Prelude.{ℕ};
 ghost use Rattle.indicatif_bar.specs.Styles.{BarStyle};
-ghost use Rattle.indicatif_bar.specs.CommandCases.{Fractions, Greatest, Rates, TwelveSteps, RateAndEta, Asks, ResetRates, Ends, ElapsedTimes, TabWidths, Finishes, Resets};
+ghost use Rattle.indicatif_bar.specs.CommandCases.{Fractions, Greatest, Rates, TwelveSteps, RateAndEta, Asks, ResetRates, WrapsAndStops, ElapsedTimes, TabWidths, Finishes, Resets};
 ghost use Rattle.indicatif_bar.specs.StyleCases.{TrackersCases, WideBarCases, PercentCases, MessageCases, BarCases, TickCases, RateCases, LineCases, EmptyCases, FaultCases};
-ghost use Rattle.indicatif_bar.specs.ScriptCases.{Dragged, ScrolledAway, LogsCut, HiddenSize, Standing};
+ghost use Rattle.indicatif_bar.specs.ScriptCases.{Dragged, ScrolledAway, LogsCut, HiddenSize, HowManyStand};
 ghost use Rattle.indicatif_bar.specs.Cases.{Lines, ShorterMessage, EmptyMessage, WideCharacter, NoColumn, Nowhere, LogsAbove, WideLog, Cleared, LateElapsed, BrokenOff, BrokenBytes, EmptiedRow, LimitedDraws};
 
 /// The lines of messages.
@@ -30,7 +30,7 @@ pub fn scripts()
     ensures scrolled_away { ScrolledAway }
     ensures logs_cut { LogsCut }
     ensures hidden_size { HiddenSize }
-    ensures standing { Standing }
+    ensures standing { HowManyStand }
 {}
 
 /// What a call that the terminal broke off leaves, and the next one.
@@ -58,7 +58,7 @@ pub fn commands()
     ensures rate_and_eta { (style : BarStyle ℕ) → RateAndEta style }
     ensures asks { (style : BarStyle ℕ) → Asks style }
     ensures reset_rates { (style : BarStyle ℕ) → ResetRates style }
-    ensures ends { (style : BarStyle ℕ) → Ends style }
+    ensures ends { (style : BarStyle ℕ) → WrapsAndStops style }
     ensures elapsed_times { (style : BarStyle ℕ) → ElapsedTimes style }
     ensures tab_widths { (style : BarStyle ℕ) → TabWidths style }
     ensures finishes { (style : BarStyle ℕ) → Finishes style }

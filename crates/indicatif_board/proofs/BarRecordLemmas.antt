@@ -2,7 +2,6 @@
 use Rattle.std.proofs.Common.{is_some, set, get_or, subst, Option, Some, None, Result, Err, inl, inr, ◌≡◌, ℕ, zero, suc, ◌+◌, ◌<◌, ◌≤◌, true, false, not, List, [], ◌∷◌, map, drop, length, refl, sym, ◌∙◌, ap, arith, if◌then◌else◌}
 use Rattle.std.specs.Prelude.{◌==◌, ◌≢◌, IfErr, IsTrue}
 use Rattle.std.specs.List.{prefix_len, position_or_len, insert, remove}
-use Rattle.std.specs.VecDeque.{deque_len}
 use Rattle.std.proofs.lemmas.Bool.{cases_Bool, eqb-true, eq-eqb, ne_eqb}
 use Rattle.std.proofs.lemmas.List.{length-map}
 use Rattle.indicatif_term.specs.declared.target.lines.Segment.{Segment}
@@ -254,7 +253,7 @@ module _ {K : Type 0} (number at : ℕ) (order : List ℕ) (members : List (Memb
           ap (λ o. record_in other o members') order_is ∙ ap (record_in other (remove order at)) members_are
           ∙ ap (λ k. record_in other (remove order k) (remove members k)) here ∙ others_removed number other order members apart even
 
-    -- so many dropped bars left the head
+    -- a number of dropped bars left the head
     pub left_record : at ≡ prefix_len (λ m. m.dropped) members → order' ≡ drop at order → members' ≡ drop at members → occurrences number order ≤ 1 →
         record_in number order' members' ≡ record_in number order members
     left_record count order_is members_are once =
@@ -306,10 +305,6 @@ none_seated at (Old id) e b = refl
 module _ {K : Type 0} (b : ShownBars K) where
   even_on : length b.members.items ≡ length b.table.order
   even_on = evenly b.frame.items b.table.order b.members.items (omega (arith, b.even, b.members.ok, b.frame.ok)) b.seated
-
-  -- as many bars as numbers
-  pub seats_on : deque_len b.members ≡ length b.table.order
-  seats_on = omega (arith, b.members.ok, even_on)
 
   -- a bar that isn't dropped stands there
   pub stands : (number at : ℕ) (item : Member K) → at ≡ seat_of number b.table.order → at < length b.members.items → item ≡ get_or b.members.items at item → item.dropped ≡ false →

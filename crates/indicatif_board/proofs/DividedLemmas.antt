@@ -1,8 +1,8 @@
 -- What came of one worker: that worker itself, or what came of its halves; and sums over workers that are joined.
-use Rattle.std.proofs.Common.{◌≡◌, ◌+◌, ◌/◌, ◌≤◌, List, [], ◌∷◌, ◌++◌, refl, arith}
+use Rattle.std.proofs.Common.{◌≡◌, ◌+◌, ◌/◌, ◌≤◌, List, ◌∷◌, ◌++◌, arith}
 use Rattle.std.proofs.Math.Nat.{div-le_self}
 use Rattle.std.proofs.lemmas.List.Sums.{sum_by-append, sum_by-cons}
-use Rattle.std.proofs.lemmas.List.Elements.{All-append, All-cons, All-nil}
+use Rattle.std.proofs.lemmas.List.Elements.{All-append}
 use Rattle.indicatif_board.specs.Done.{Worker, IsDivided, split_into, own_half, given_half, shares_of, added_by}
 
 -- the first of some workers, and the rest
@@ -11,14 +11,6 @@ shares_of-cons = sum_by-cons (λ v. v.account.parts)
 
 pub added_by-cons : (w : Worker) (ws : List Worker) → added_by (w ∷ ws) ≡ w.account.added + added_by ws
 added_by-cons = sum_by-cons (λ v. v.account.added)
-
-pub IsDivided-one : (w : Worker) → IsDivided w (w ∷ [])
-IsDivided-one w = record {
-  same_sum = All-cons (λ v. v.adds_to ≡ w.adds_to) w [] refl (All-nil (λ v. v.adds_to ≡ w.adds_to));
-  share = omega (arith, shares_of-cons w []);
-  adds = omega (arith, added_by-cons w []);
-  sights = All-cons (λ v. v.account.seen ≡ w.account.seen) w [] refl (All-nil (λ v. v.account.seen ≡ w.account.seen));
-}
 
 pub IsDivided-halves : (w : Worker) (xs ys : List Worker)
     → IsDivided (split_into (own_half w.account) w) xs

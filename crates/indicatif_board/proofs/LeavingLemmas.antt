@@ -43,9 +43,6 @@ more_left a b c first next =
 pub same_left : (a b : SlotTable) → b ≡ a → LeavesHead a b
 same_left a b e = subst (LeavesHead a) (sym e) (none_left a)
 
-pub left_after : (a b c : SlotTable) → b ≡ a → LeavesHead b c → LeavesHead a c
-left_after a b c e left = subst (λ t. LeavesHead t c) e left
-
 -- the first one alone
 pub first_left : (a b : SlotTable) → b ≡ unseated 0 a → LeavesHead a b
 first_left a b e = (1, e)

@@ -13,7 +13,7 @@ use Rattle.indicatif_bar.specs.Runs.{CallMade, lines_by}
 use Rattle.indicatif_bar.specs.Shown.{WritesLinesOn}
 use Rattle.indicatif_bar.specs.Lone.{LoneState, LoneCall, Obey, Log, Clear, draw_of_call, deed_unless, refused_at_once, lone}
 use Rattle.indicatif_board.specs.Boards.{BoardKind, BoardState, says, drawn_of_said, turned_away, or_refused, draws, board}
-use Rattle.indicatif_board.specs.LoneLaws.{first_bar, with_one, call_on_board, on_board, OneIsTakenIn, LoneRunsAreBoardRuns}
+use Rattle.indicatif_board.specs.LoneLaws.{first_bar, with_one, on_board, timed_on_board, OneIsTakenIn, LoneRunsAreBoardRuns}
 
 pub one_taken_in : {B : Type 0} → OneIsTakenIn B
 one_taken_in mark bar limiter = refl
@@ -114,7 +114,7 @@ module _ {B C : Type 0} (kind : BoardKind B C) (mark : ℕ) (target : Target) wh
 
   -- the board's deed is the lone bar's
   deed_is : (call : LoneCall C) (now : ℕ) (s : LoneState B) (stored : List (List ℕ)) →
-      (board kind mark).deed target (call_on_board mark call) now (with_one stored s)
+      (board kind mark).deed target (on_board (first_bar mark) call) now (with_one stored s)
       ≡ or_refused (refused_at_once kind.bars call now s.bar)
       (draws (drawn_on (lays_for call now s) stored (laid_for call now s stored) (draw_of_call kind.bars target call now s))) (with_one stored s)
   deed_is (Obey command) now s stored = rw (is_meant stored s) refl
@@ -124,7 +124,7 @@ module _ {B C : Type 0} (kind : BoardKind B C) (mark : ℕ) (target : Target) wh
 module _ {B C : Type 0} (kind : BoardKind B C) where
   call_carried : (mark : ℕ) (call : LoneCall C) (now : ℕ) (old new : Option TermView) (s next : LoneState B) (answer : Result Drawn Refusal) (stored : List (List ℕ)) →
       CallMade (lone kind.bars) old new (call, now) s answer next →
-      (kept : List (List ℕ)) × CallMade (board kind mark) old new (on_board mark (call, now)) (with_one stored s) (says answer) (with_one kept next)
+      (kept : List (List ℕ)) × CallMade (board kind mark) old new (timed_on_board mark (call, now)) (with_one stored s) (says answer) (with_one kept next)
   call_carried mark call now old new s next answer stored made =
       let target = target_of old in
       let why = refused_at_once kind.bars call now s.bar in
@@ -137,7 +137,7 @@ module _ {B C : Type 0} (kind : BoardKind B C) where
         led.0,
         record {
           leads = subst (λ deed. Leads (board kind mark) target (with_one stored s) deed (says answer) (with_one led.0 next)) (sym is) led.1;
-          writes = subst (λ r. WritesLinesOn old new (lines_by ((board kind mark).deed target (call_on_board mark call) now (with_one stored s))) s.lists next.lists r)
+          writes = subst (λ r. WritesLinesOn old new (lines_by ((board kind mark).deed target (on_board (first_bar mark) call) now (with_one stored s))) s.lists next.lists r)
               (sym (drawn_of_said answer))
               (subst (λ ls. WritesLinesOn old new ls s.lists next.lists answer) lines made.writes);
         },

@@ -17,7 +17,7 @@ use Rattle.indicatif_bar.specs.Machines.{Target}
 use Rattle.indicatif_board.specs.Boards.{BoardState, Id, Location, index_of, taken_in, turned_away, bar_changed}
 use Rattle.indicatif_text.specs.declared.refusal.Refusal.TheVariants.{ForeignBar, NotMember}
 use Rattle.indicatif_board.specs.Members.{Member, place_of, leaders, frame_of, order_of, changed_at, new_member, is_member, without, said_of}
-use Rattle.indicatif_board.specs.ShownBars.{Holds}
+use Rattle.indicatif_board.specs.ShownBars.{HoldsState}
 use Rattle.indicatif_board.specs.Inside.ShownBars.{HasPlace, named_laid_out, named_layout_takes}
 use Rattle.indicatif_board.specs.declared.members.Member.{Member as MemberValue}
 
@@ -85,10 +85,10 @@ segment_of m = record { bar = m.number; lines = m.stored }
 
 module _ {K : Type 0} (tracks : Tracking K) (frame : List Segment) (members : List (MemberValue K)) (made : ℕ) (bottom : Bool) (s : BoardState (BarRecord K))
     (target : Target) (now width : ℕ) (at : ℕ) (item : MemberValue K) (old : Segment) (items : Vec LineType Global)
-    (columns : target.columns ≡ width) (holds : Holds frame members made bottom s)
+    (columns : target.columns ≡ width) (holds : HoldsState frame members made bottom s)
     (item_is : item ≡ get_or members at item) (old_is : old ≡ get_or frame at old) (lines_are : map line_text items.items ≡ lines_of_bar tracks item.bar now width) where
   laid_some : (number : ℕ) → at ≡ place_of number s.members → at < length s.members →
-      Holds (set frame at (record { bar = old.bar; lines = items })) members made bottom (named_laid_out tracks target now (Some number) s)
+      HoldsState (set frame at (record { bar = old.bar; lines = items })) members made bottom (named_laid_out tracks target now (Some number) s)
   laid_some number here within =
       let ms = s.members in
       let m = get_or ms at (new_member 0 item.bar) in
@@ -116,12 +116,12 @@ module _ {K : Type 0} (tracks : Tracking K) (frame : List Segment) (members : Li
       }
 
   laid_named : (number : Option ℕ) → HasPlace number (Some at) s.members →
-      Holds (set frame at (record { bar = old.bar; lines = items })) members made bottom (named_laid_out tracks target now number s)
+      HoldsState (set frame at (record { bar = old.bar; lines = items })) members made bottom (named_laid_out tracks target now number s)
   laid_named None placed = absurd placed
   laid_named (Some n) placed = laid_some n placed.0 placed.1
 
   pub laid_at : (number bar : Option ℕ) → bar ≡ Some at → HasPlace number bar s.members →
-      Holds (set frame at (record { bar = old.bar; lines = items })) members made bottom (named_laid_out tracks target now number s)
+      HoldsState (set frame at (record { bar = old.bar; lines = items })) members made bottom (named_laid_out tracks target now number s)
   laid_at number bar e placed = laid_named number (subst (λ b. HasPlace number b s.members) e placed)
 
 -- ---- who is a member
@@ -152,7 +152,7 @@ turned : {K : Type 0} → (mark : ℕ) (id : Id) (s : BoardState (BarRecord K)) 
 turned mark id s b same e = rw (eq-eqb id.mark mark same, e) refl
 
 module _ {K : Type 0} (frame : List Segment) (members : List (MemberValue K)) (made : ℕ) (bottom : Bool) (mark : ℕ) (id : Id) (s : BoardState (BarRecord K))
-    (at : ℕ) (same : id.mark ≡ mark) (holds : Holds frame members made bottom s)
+    (at : ℕ) (same : id.mark ≡ mark) (holds : HoldsState frame members made bottom s)
     (at_is : at ≡ position_or_len (λ x. x.bar == id.number) frame) where
   pub placed_at : at ≡ place_of id.number s.members
   placed_at = at_is ∙ place_is frame s.members id.number holds.frame_is
@@ -177,8 +177,8 @@ module _ {K : Type 0} (frame : List Segment) (members : List (MemberValue K)) (m
 -- a bar told something at its place
 told_by : {K : Type 0} → (f : BarRecord K → BarRecord K) (frame : List Segment) (members : List (MemberValue K)) (made : ℕ) (bottom : Bool) (mark : ℕ)
     (s : BoardState (BarRecord K)) (number at : ℕ) (item : MemberValue K) (bar : BarRecord K) →
-    Holds frame members made bottom s → at ≡ place_of number s.members → at < length s.members → item ≡ get_or members at item → bar ≡ f item.bar →
-    Holds frame (set members at (record { bar = bar; dropped = item.dropped })) made bottom (bar_changed number f s)
+    HoldsState frame members made bottom s → at ≡ place_of number s.members → at < length s.members → item ≡ get_or members at item → bar ≡ f item.bar →
+    HoldsState frame (set members at (record { bar = bar; dropped = item.dropped })) made bottom (bar_changed number f s)
 told_by {K = K} f frame members made bottom mark s number at item bar holds here within item_is bar_is =
     let ms = s.members in
     let change = λ (m : Member (BarRecord K)). let x : Member (BarRecord K) = record m { bar = f m.bar } in x in
@@ -202,29 +202,29 @@ told_by {K = K} f frame members made bottom mark s number at item bar holds here
 -- the same of a member whose bar alone has changed
 pub told_at : {K : Type 0} → (f : BarRecord K → BarRecord K) (frame : List Segment) (members : List (MemberValue K)) (made : ℕ) (bottom : Bool) (mark : ℕ)
     (s : BoardState (BarRecord K)) (number at : ℕ) (item next : MemberValue K) → next ≡ record item { bar = next.bar } →
-    Holds frame members made bottom s → at ≡ place_of number s.members → at < length s.members → item ≡ get_or members at item → next.bar ≡ f item.bar →
-    Holds frame (set members at next) made bottom (bar_changed number f s)
+    HoldsState frame members made bottom s → at ≡ place_of number s.members → at < length s.members → item ≡ get_or members at item → next.bar ≡ f item.bar →
+    HoldsState frame (set members at next) made bottom (bar_changed number f s)
 told_at f frame members made bottom mark s number at item next stays holds here within item_is bar_is =
-    subst (λ m. Holds frame (set members at m) made bottom (bar_changed number f s)) (sym stays)
+    subst (λ m. HoldsState frame (set members at m) made bottom (bar_changed number f s)) (sym stays)
     (told_by f frame members made bottom mark s number at item next.bar holds here within item_is bar_is)
 
 -- a changed bar that is as it was
 same_by : {K : Type 0} → (frame : List Segment) (members : List (MemberValue K)) (made : ℕ) (bottom : Bool) (s : BoardState (BarRecord K)) (at : ℕ)
     (item : MemberValue K) (bar : BarRecord K) →
-    Holds frame members made bottom s → at < length s.members → item ≡ get_or members at item → bar ≡ item.bar →
-    Holds frame (set members at (record { bar = bar; dropped = item.dropped })) made bottom s
+    HoldsState frame members made bottom s → at < length s.members → item ≡ get_or members at item → bar ≡ item.bar →
+    HoldsState frame (set members at (record { bar = bar; dropped = item.dropped })) made bottom s
 same_by {K = K} frame members made bottom s at item bar holds within item_is bar_is =
     let item' : MemberValue K = record { bar = bar; dropped = item.dropped } in
     let same : item' ≡ get_or members at item = ap (λ z. let x : MemberValue K = record { bar = z; dropped = item.dropped } in x) bar_is ∙ item_is in
     let size : length members ≡ length s.members = ap length holds.members_are ∙ length-map s.members member_of in
-    subst (λ xs. Holds frame xs made bottom s) (sym (ap (set members at) same ∙ set-own members at item (omega (arith, size, within)))) holds
+    subst (λ xs. HoldsState frame xs made bottom s) (sym (ap (set members at) same ∙ set-own members at item (omega (arith, size, within)))) holds
 
 pub same_at : {K : Type 0} → (frame : List Segment) (members : List (MemberValue K)) (made : ℕ) (bottom : Bool) (s : BoardState (BarRecord K)) (at : ℕ)
     (item next : MemberValue K) → next ≡ record item { bar = next.bar } →
-    Holds frame members made bottom s → at < length s.members → item ≡ get_or members at item → next.bar ≡ item.bar →
-    Holds frame (set members at next) made bottom s
+    HoldsState frame members made bottom s → at < length s.members → item ≡ get_or members at item → next.bar ≡ item.bar →
+    HoldsState frame (set members at next) made bottom s
 same_at frame members made bottom s at item next stays holds within item_is bar_is =
-    subst (λ m. Holds frame (set members at m) made bottom s) (sym stays) (same_by frame members made bottom s at item next.bar holds within item_is bar_is)
+    subst (λ m. HoldsState frame (set members at m) made bottom s) (sym stays) (same_by frame members made bottom s at item next.bar holds within item_is bar_is)
 
 -- what is said of each bar alike is said of one that is there
 pub said_there : {B X : Type 0} (other x : X) (number : ℕ) (ms : List (Member B)) → place_of number ms < length ms → said_of other (λ b. x) number ms ≡ x
@@ -270,7 +270,7 @@ laid_limiter tracks target now (Some number) s = refl
 
 -- another limiter, and other rows
 pub held_with : {K : Type 0} → (frame : List Segment) (members : List (MemberValue K)) (made : ℕ) (bottom : Bool) (s : BoardState (BarRecord K)) (limiter : Option Limiter) (l : Lists) →
-    Holds frame members made bottom s → Holds frame members made bottom (record s { limiter = limiter; lists = l })
+    HoldsState frame members made bottom s → HoldsState frame members made bottom (record s { limiter = limiter; lists = l })
 held_with frame members made bottom s limiter l holds = record {
   members_are = holds.members_are;
   frame_is = holds.frame_is;
@@ -292,8 +292,8 @@ map-inserted f (y ∷ xs) (suc i) x = ap (λ zs. f y ∷ zs) (map-inserted f xs 
 -- a new bar at its place
 pub taken_holds : {K : Type 0} → (frame frame' : List Segment) (members members' : List (MemberValue K)) (number after : ℕ) (bottom : Bool) (s : BoardState
     (BarRecord K)) (spot : Location) (at : ℕ) (bar : BarRecord K) (lines : Vec LineType Global) →
-    Holds frame members number bottom s → at ≡ index_of spot s.members → lines.items ≡ [] → frame' ≡ insert frame at (record { bar = number; lines = lines }) →
-    members' ≡ insert members at (record { bar = bar; dropped = false }) → after ≡ number + 1 → Holds frame' members' after bottom (taken_in spot bar s)
+    HoldsState frame members number bottom s → at ≡ index_of spot s.members → lines.items ≡ [] → frame' ≡ insert frame at (record { bar = number; lines = lines }) →
+    members' ≡ insert members at (record { bar = bar; dropped = false }) → after ≡ number + 1 → HoldsState frame' members' after bottom (taken_in spot bar s)
 taken_holds {K = K} frame frame' members members' number after bottom s spot at bar lines holds here none frame_is members_are after_is =
     let ms = s.members in
     let item : MemberValue K = record { bar = bar; dropped = false } in
@@ -311,7 +311,7 @@ taken_holds {K = K} frame frame' members members' number after bottom s spot at 
 
 -- as many bars stand in the board as in its state
 pub members_length : {K : Type 0} → (frame : List Segment) (members : List (MemberValue K)) (made : ℕ) (bottom : Bool) (s : BoardState (BarRecord K)) →
-    Holds frame members made bottom s → length members ≡ length s.members
+    HoldsState frame members made bottom s → length members ≡ length s.members
 members_length frame members made bottom s holds = ap length holds.members_are ∙ length-map s.members member_of
 
 -- ---- removals
@@ -329,8 +329,8 @@ pub map-removed : {X Y : Type 0} (f : X → Y) (xs : List X) (i : ℕ) → remov
 map-removed f xs i = ap (λ zs. zs ++ drop (suc i) (map f xs)) (take-map f i xs) ∙ ap (λ zs. map f (take i xs) ++ zs) (drop-map f (suc i) xs) ∙ joined-map f (take i xs) (drop (suc i) xs)
 
 removed_holds : {K : Type 0} → (frame : List Segment) (members : List (MemberValue K)) (made : ℕ) (bottom : Bool) (s : BoardState (BarRecord K)) (number at : ℕ) →
-    Holds frame members made bottom s → at ≡ place_of number s.members →
-    Holds (remove frame at) (remove members at) made bottom (record s { members = without number s.members })
+    HoldsState frame members made bottom s → at ≡ place_of number s.members →
+    HoldsState (remove frame at) (remove members at) made bottom (record s { members = without number s.members })
 removed_holds frame members made bottom s number at holds here = record {
   members_are = ap (λ xs. remove xs at) holds.members_are ∙ map-removed member_of s.members at ∙ ap (λ k. map member_of (remove s.members k)) here;
   frame_is = sym (map-removed bar_lines frame at) ∙ ap (λ xs. remove xs at) holds.frame_is ∙ map-removed segment_of s.members at ∙ ap (λ k. frame_of (remove s.members k)) here;
@@ -372,8 +372,8 @@ lays_at tracks members s (Some n) bar at item same bar_is placed within item_is 
 
 -- a bar taken out
 pub removed_with : {K : Type 0} → (frame frame' : List Segment) (members members' : List (MemberValue K)) (made : ℕ) (bottom : Bool) (s : BoardState
-    (BarRecord K)) (number at : ℕ) → Holds frame members made bottom s →
-    at ≡ place_of number s.members → frame' ≡ remove frame at → members' ≡ remove members at → Holds frame' members' made bottom (record s { members = without number s.members })
+    (BarRecord K)) (number at : ℕ) → HoldsState frame members made bottom s →
+    at ≡ place_of number s.members → frame' ≡ remove frame at → members' ≡ remove members at → HoldsState frame' members' made bottom (record s { members = without number s.members })
 removed_with frame frame' members members' made bottom s number at holds here frame_is members_are =
     let held = removed_holds frame members made bottom s number at holds here in
     record {

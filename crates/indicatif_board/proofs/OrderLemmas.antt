@@ -17,7 +17,7 @@ use Rattle.indicatif_bar.specs.declared.ask.Ask.TheVariants.{No, Forced}
 use Rattle.indicatif_board.specs.Members.{Member, is_member, is_head, without, said_of, order_of, place_of, new_member, leaders, changed_at}
 use Rattle.indicatif_board.specs.Boards.{BoardState, BoardKind, Call, Insert, Remove, Drop, Log, BarLog, Clear, Redraw, Align, Tell, Answer, Given, Refused, Id, Location, Entrant, New, Old, opening_board, turned_away, anchor_turned_away, or_refused, inserted, index_of, taken_in, taken_out, draws, draw_of, bar_changed, laid_out, layout_takes, left_by, left_on, ownerless_on, board}
 use Rattle.indicatif_board.specs.Slots.{occurrences}
-use Rattle.indicatif_board.specs.OrderLaws.{RunsPreserve, StandsOnce, IsGone, with_new, new_bars, new_numbers, NumbersCount, NumbersAreNew}
+use Rattle.indicatif_board.specs.OrderLaws.{RunsPreserve, StandsOnce, HasLeft, with_new, new_bars, new_numbers, NumbersCount, NumbersAreNew}
 use Rattle.indicatif_board.proofs.MemberLemmas.{place-changed, map-inserted, map-removed, drop-map}
 use Rattle.indicatif_board.proofs.SlotLemmas.{ones_other, ones_most, occurrences-front, occurrences-inserted, occurrences-removed, occurrences-cut}
 use Rattle.indicatif_bar.proofs.PreservingLemmas.{IsPreserved, leads_preserve}
@@ -190,7 +190,7 @@ gone_lasts number = record {
   go_first = λ order made count is. record { was_given = is.was_given; is_out = omega (arith, occurrences-cut number count order, is.is_out) };
 }
 
-pub gone_kept : {B C : Type 0} (kind : BoardKind B C) (mark number : ℕ) → RunsPreserve (board kind mark) (IsGone number)
+pub gone_kept : {B C : Type 0} (kind : BoardKind B C) (mark number : ℕ) → RunsPreserve (board kind mark) (HasLeft number)
 gone_kept kind mark number calls answers old s new next run is =
     let after = order_kept kind mark (Gone number) (gone_lasts number) (gone_comes number) calls answers old s new next run (record { was_given = is.was_given; is_out = is.is_out }) in
     record { was_given = after.was_given; is_out = after.is_out }

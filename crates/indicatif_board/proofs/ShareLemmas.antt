@@ -1,4 +1,4 @@
--- A share that was halved so many times in a row still has parts, and each half can be halved as often as is left.
+-- A share that was halved a number of times in a row still has parts, and each half can be halved as often as is left.
 use Rattle.std.proofs.Common.{◌≡◌, ℕ, suc, ◌+◌, ◌-◌, ◌*◌, ◌/◌, ◌^◌, ◌<◌, ◌≤◌, ap, ◌∙◌, arith}
 use Rattle.std.proofs.Math.Nat.{pow-succ'}
 use Rattle.std.proofs.lemmas.Nat.{pow_pos}

@@ -127,7 +127,7 @@ front_fits h (s ∷ a) b left right most =
     (λ fits. let less : h - length s.rows ≤ length a = omega (arith, most, row) in rw fits (ap (λ ss. s ∷ ss) (front_fits (h - length s.rows) a b left.1 right less)))
     (λ over. rw over refl)
 
--- so many bars at the front are all, or have as many lines as the terminal has rows
+-- a number of bars at the front are all, or have as many lines as the terminal has rows
 abbrev pub IsEnough : ℕ → ℕ → List BarLines → Type 0
 IsEnough h n frame = (n ≡ length frame) ⊎ (h ≤ length (all_lines (take n frame)))
 
@@ -204,7 +204,7 @@ front_plain n text frame plain =
     let both : (are_plain (text ++ front) && are_plain rest) ≡ true = sym (list_all-append is_plain (text ++ front) rest) ∙ ap are_plain (sym whole) ∙ plain in
     (and_parts (are_plain (text ++ front)) (are_plain rest) both).0
 
--- so many bars at the front are enough for what is written on a terminal of h rows
+-- a number of bars at the front are enough for what is written on a terminal of h rows
 abbrev pub SeesEnough : ℕ → Writing → ℕ → ℕ → List BarLines → Type 0
 SeesEnough h writing gone n frame = let first = drawn_from writing gone in (first ≤ n) × IsEnough h (n - first) (drop first frame)
 

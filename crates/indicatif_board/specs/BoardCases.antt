@@ -274,8 +274,8 @@ abbrev pub its_drop : PlainStage → Deed (BoardState PlainBar) Answer
 its_drop at_finish = (board plain_bars 1).deed (terminal_of_size 4 10) (drop_it 0) 0 (one_shown at_finish)
 
 -- it has no owner and stays, although it is the first, with these lines
-abbrev pub stays : PlainStage → List (List ℕ) → List (Member PlainBar)
-stays at_finish lines =
+abbrev pub stays_unowned : PlainStage → List (List ℕ) → List (Member PlainBar)
+stays_unowned at_finish lines =
     let m : Member PlainBar = record { number = 0; bar = record { text = codes "a"; stage = at_finish; at_finish = at_finish }; stored = lines; dropped = true } in m ∷ []
 
 -- if the terminal fails, its rows are forgotten; if memory is refused, they are unchanged; a bar that finishes hidden isn't refused memory, since it has no lines
@@ -283,8 +283,8 @@ abbrev pub DropRefused : Type 0
 DropRefused =
     let machine = board plain_bars 1 in
     let target = terminal_of_size 4 10 in
-    ((kind : ErrorKind) → Leads machine target (one_shown Gone) (its_drop Gone) (Refused (Failure kind)) (record (one_shown Gone) { members = stays Gone []; lists = forgotten_lists }))
-    × Leads machine target (one_shown Shown) (its_drop Shown) (Refused Memory) (record (one_shown Shown) { members = stays Shown (codes "a" ∷ []) })
+    ((kind : ErrorKind) → Leads machine target (one_shown Gone) (its_drop Gone) (Refused (Failure kind)) (record (one_shown Gone) { members = stays_unowned Gone []; lists = forgotten_lists }))
+    × Leads machine target (one_shown Shown) (its_drop Shown) (Refused Memory) (record (one_shown Shown) { members = stays_unowned Shown (codes "a" ∷ []) })
     × (TakesMemory machine target (its_drop Gone) → ⊥)
 
 -- ---- a draw that the terminal breaks off

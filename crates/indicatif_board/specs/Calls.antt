@@ -6,7 +6,7 @@ use Rattle.indicatif_bar.specs.Tabs.{is_some_text}
 use Rattle.indicatif_bar.specs.Commands.{BarRecord, Command, command_as, copy_takes_memory}
 use Rattle.indicatif_term.specs.Target.{is_bottom}
 use Rattle.indicatif_board.specs.Boards.{Entrant, New, Old, Location, End, Index, FromBack, Before, After, Id, Call, Insert, Remove, Drop, Log, BarLog, Clear, Redraw, Align, Tell, Answer, Given, Accepted, Drew, Refused}
-use Rattle.indicatif_board.specs.BoardValues.{id_of}
+use Rattle.indicatif_board.specs.BarIds.{id_of}
 use Rattle.indicatif_board.specs.declared.bar_id.BarId.{BarId}
 use Rattle.indicatif_board.specs.declared.calls.Candidate.{Candidate}
 use Rattle.indicatif_board.specs.declared.calls.Candidate.TheVariants.{New as NewCandidate, Member as OldCandidate}

@@ -5,7 +5,7 @@ pub mod SlotCases
 pub mod Boards
 pub mod BoardCases
 pub mod BoardBars
-pub mod BoardValues
+pub mod BarIds
 pub mod Calls
 pub mod ShownBars
 pub mod Multi

@@ -23,15 +23,15 @@ with_one stored s = record {
   lists = s.lists;
 }
 
--- a lone bar's call, as one of that board: a log is the bar's own
-abbrev pub call_on_board : {B C : Type 0} → ℕ → LoneCall C → Call B C
-call_on_board mark (Obey command) = Tell (first_bar mark) command
-call_on_board mark (Log text) = BarLog (first_bar mark) text
-call_on_board mark ClearLone = Clear
+-- a bar's call, as a call of its board: a log is the bar's own
+abbrev pub on_board : {B C : Type 0} → Id → LoneCall C → Call B C
+on_board id (Obey command) = Tell id command
+on_board id (Log text) = BarLog id text
+on_board id ClearLone = Clear
 
--- a call that is a value with its moment, as its definition
-abbrev pub on_board : {B C : Type 0} → ℕ → LoneCall C × ℕ → Call B C × ℕ
-on_board mark call = (call_on_board mark call.0, call.1)
+-- a lone bar's call with its moment, as one of that board
+abbrev pub timed_on_board : {B C : Type 0} → ℕ → LoneCall C × ℕ → Call B C × ℕ
+timed_on_board mark call = (on_board (first_bar mark) call.0, call.1)
 
 -- the insertion of a first bar makes such a board, as a lone bar begins
 abbrev pub OneIsTakenIn : Type 0 → Type 0
@@ -43,4 +43,4 @@ abbrev pub LoneRunsAreBoardRuns : {B C : Type 0} → BoardKind B C → Type 0
 LoneRunsAreBoardRuns {B} {C} kind =
     (mark : ℕ) (calls : List (LoneCall C × ℕ)) (answers : List (Result Drawn Refusal)) (old : Option TermView) (s : LoneState B) (new : Option TermView) (next : LoneState B)
     (stored : List (List ℕ)) → Runs (lone kind.bars) calls answers old s new next →
-    (stored_then : List (List ℕ)) × Runs (board kind mark) (map (on_board mark) calls) (map says answers) old (with_one stored s) new (with_one stored_then next)
+    (stored_then : List (List ℕ)) × Runs (board kind mark) (map (timed_on_board mark) calls) (map says answers) old (with_one stored s) new (with_one stored_then next)

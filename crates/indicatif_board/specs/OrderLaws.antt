@@ -23,7 +23,7 @@ module _ {B : Type 0} where
     pub given : (number : ℕ) → s.made ≤ number → occurrences number (order_of s.members) ≡ 0
 
   -- an inserted bar has left the order
-  pub record IsGone (number : ℕ) (s : BoardState B) : Type 0 where
+  pub record HasLeft (number : ℕ) (s : BoardState B) : Type 0 where
     pub was_given : number < s.made
     pub is_out : occurrences number (order_of s.members) ≡ 0
 

@@ -10,7 +10,7 @@ use Rattle.indicatif_board.specs.declared.members.Member.{Member as MemberValue}
 use Rattle.indicatif_board.specs.declared.shown_bars.ShownBars.{ShownBars}
 
 -- these lists hold the members, numbers and lines of a state
-pub record Holds {K : Type 0} (frame : List Segment) (members : List (MemberValue K)) (made : ℕ) (bottom : Bool) (s : BoardState (BarRecord K)) : Type 0 where
+pub record HoldsState {K : Type 0} (frame : List Segment) (members : List (MemberValue K)) (made : ℕ) (bottom : Bool) (s : BoardState (BarRecord K)) : Type 0 where
   pub members_are : members ≡ map (λ m. record { bar = m.bar; dropped = m.dropped }) s.members
   pub frame_is : map bar_lines frame ≡ frame_of s.members
   pub made_is : made ≡ s.made
@@ -18,7 +18,7 @@ pub record Holds {K : Type 0} (frame : List Segment) (members : List (MemberValu
 
 -- they are shown as in this state
 abbrev pub AreShownAs : {K : Type 0} → ShownBars K → BoardState (BarRecord K) → Type 0
-AreShownAs b s = Holds b.frame.items b.members.items b.table.made (is_bottom b.alignment) s
+AreShownAs b s = HoldsState b.frame.items b.members.items b.table.made (is_bottom b.alignment) s
 
 -- ---- records by their numbers
 

@@ -18,7 +18,7 @@ ghost use Rattle.indicatif_board.specs.LimitLaws.{IsAllowed};
 ghost use Rattle.indicatif_board.specs.Receipts.{HeldStays, HeldRowsStand, HeldRowsStandInOrder};
 ghost use Rattle.indicatif_board.specs.LoneLaws.{OneIsTakenIn, LoneRunsAreBoardRuns};
 ghost use Rattle.indicatif_board.specs.PlainBoardLaws.{BoardRunsArePlain};
-ghost use Rattle.indicatif_board.specs.OrderLaws.{RunsPreserve, StandsOnce, IsGone, NumbersCount, NumbersAreNew};
+ghost use Rattle.indicatif_board.specs.OrderLaws.{RunsPreserve, StandsOnce, HasLeft, NumbersCount, NumbersAreNew};
 ghost use Rattle.indicatif_board.specs.Slots.{SlotTable, IsSeated, slot_of, seated, unseated, head_unseated, occurrences};
 
 use indicatif_bar::style::Tracks;
@@ -153,7 +153,7 @@ pub fn each_bar_stands_once<B, C>()
 pub fn numbers_are_never_used_again<B, C>()
     ensures counted { (kind : BoardKind B C) (mark : ℕ) → NumbersCount kind mark }
     ensures new { (kind : BoardKind B C) (mark : ℕ) → NumbersAreNew kind mark }
-    ensures gone { (kind : BoardKind B C) (mark number : ℕ) → RunsPreserve (board kind mark) (IsGone number) }
+    ensures gone { (kind : BoardKind B C) (mark number : ℕ) → RunsPreserve (board kind mark) (HasLeft number) }
 {}
 
 /// A bar has a slot exactly if it stands in the order, and no two bars have the same.

@@ -17,7 +17,7 @@ ghost use Rattle.indicatif_bar.specs.Shown.{DrewOn};
 ghost use Rattle.indicatif_bar.specs.Stages.{writing_as};
 ghost use Rattle.indicatif_board.specs.BoardBars.{board_bars};
 ghost use Rattle.indicatif_board.specs.Boards.{BoardState, Tell, Log, BarLog, Clear, Redraw, Align, Accepted, opening_board, says, turned_away, draw_of, board};
-ghost use Rattle.indicatif_board.specs.BoardValues.{id_of};
+ghost use Rattle.indicatif_board.specs.BarIds.{id_of};
 ghost use Rattle.indicatif_board.specs.Members.{order_of, said_of};
 ghost use Rattle.indicatif_board.specs.Slots.{slot_of, occurrences, IsSeated};
 ghost use Rattle.indicatif_board.specs.Inside.ShownBars.{HasPlace, named_laid_out, named_layout_takes};

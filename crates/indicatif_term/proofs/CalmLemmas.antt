@@ -21,7 +21,7 @@ use Rattle.indicatif_term.specs.Inside.Inks.{RESET, AreColours}
 use Rattle.indicatif_term.specs.Inside.RowEdits.{Edit, Stay, Write, Close, Open, IsNarrowChar, IsWritable, edit_bytes, row_bytes}
 use Rattle.indicatif_term.specs.Inside.MoveBytes.{next_row, rows_down, back_bytes, reach_bytes, lines_bytes}
 use Rattle.indicatif_term.proofs.PaintingLemmas.{paint_bytes, IsDrawable, AreDrawable}
-use Rattle.indicatif_term.specs.Inside.Changing.{Change, Leave, Within, Whole, PlacedLine, placed_height, placed_lines, emptied_bytes, step_bytes, step_down, walk_bytes, frame_bytes, filled_whole, ending_by, ending, AreSitting, Becomes, all_stay, free_behind, ends_plainly}
+use Rattle.indicatif_term.specs.Inside.Changing.{LineChange, Leave, Within, Whole, PlacedLine, placed_height, placed_lines, emptied_bytes, step_bytes, step_down, walk_bytes, frame_bytes, filled_whole, ending_by, ending, AreSitting, Becomes, all_stay, free_behind, ends_plainly}
 use Rattle.indicatif_term.proofs.AmongLemmas.{rewrite_bytes, change_bytes}
 use Rattle.indicatif_term.specs.Inside.Fills.{last_of}
 use Rattle.indicatif_term.proofs.ColourLemmas.{sequence_colours, reset_is}
@@ -215,7 +215,7 @@ within_calm : (k : ℕ) (es : List Edit) (down rows : ℕ) (line : List ℕ) →
 within_calm k es down rows line c =
     calm_append (move_bytes DOWN (down + rows - 1)) (row_bytes k es) (down_calm (down + rows - 1)) (calm_append (0x0D ∷ []) (edit_bytes k es) return_calm c)
 
-step_calm : (w : ℕ) (change : Change) (down rows : ℕ) (line : List ℕ) (stood : List (List Cell)) → IsCalm line → Becomes w change stood line → IsCalm (step_bytes change down rows line)
+step_calm : (w : ℕ) (change : LineChange) (down rows : ℕ) (line : List ℕ) (stood : List (List Cell)) → IsCalm line → Becomes w change stood line → IsCalm (step_bytes change down rows line)
 step_calm w Leave down rows line stood c b = calm_none
 step_calm w (Within k es) down rows line stood c b = let r = b.renews b.before refl in within_calm k es down rows line (edits_calm k es r.writable)
 step_calm w Whole down rows line stood c b = whole_calm down rows line c
@@ -248,7 +248,7 @@ last_one line e =
     let high = leb-true c 0x7E q.1 in
     narrow_char c (plain_width c (leb-true 0x20 c q.0, high)) (omega (arith, high))
 
-ending_calm : (w : ℕ) (change : Change) (p : PlacedLine) → p.change ≡ change → IsCalm p.line → HasCalmSteps p → HasCalmSteps (ending_by change w p)
+ending_calm : (w : ℕ) (change : LineChange) (p : PlacedLine) → p.change ≡ change → IsCalm p.line → HasCalmSteps p → HasCalmSteps (ending_by change w p)
 ending_calm w Leave p is c all down = elim (cases_Bool (nat_lt p.last w)) [
   | inl free ↦ rw free (again_calm w 0x20 down p.rows p.line space_narrow)
   | inr full ↦ elim (cases_Bool (ends_plainly p.line)) [

@@ -15,7 +15,7 @@ use Rattle.indicatif_term.specs.Inside.Fills.{last_of}
 use Rattle.indicatif_term.specs.Inside.Places.{IsWithin}
 use Rattle.indicatif_term.specs.Inside.Plans.{frame_lines, IsPlan}
 use Rattle.indicatif_term.specs.Inside.Counts.{IsFresh}
-use Rattle.indicatif_term.specs.Inside.Remembered.{CanMove, HasRoom, Stands}
+use Rattle.indicatif_term.specs.Inside.Remembered.{CanMoveOver, HasRoom, Stands}
 use Rattle.indicatif_term.specs.Inside.Writings.{writing_bytes, CanWrite, IsMovedOver, IsAmong, IsChosen}
 use Rattle.indicatif_term.specs.declared.engine.beside.Room.{Room}
 use Rattle.indicatif_term.specs.declared.engine.counts.Counts.{Counts}
@@ -81,7 +81,7 @@ module _ (counts : Counts) (failed : Bool) (shown : Remembered) (v w h pass blan
   abbrev whole : Writing
   whole = record { anew = failed; fresh = f; below = counts.below; taken = counts.live; manner = Among 0; width = v; ends_below = next.below; fill = fill }
 
-  by_over : CanMove counts failed shown.width next v ls → IsMovedOver whole q → IsDrawn
+  by_over : CanMoveOver counts failed shown.width next v ls → IsMovedOver whole q → IsDrawn
   by_over can is =
       let set = λ (b : Bool). writing_bytes
       (record { anew = failed; fresh = is.fresh; below = counts.below; taken = 0; manner = Over counts.live; width = v; ends_below = b; fill = 0 }) [] ls in

@@ -11,7 +11,7 @@ use Rattle.unicode_width.specs.Width.{char_width}
 use Rattle.indicatif_text.specs.Columns.{Glyph, width_of, glyph_width, glyphs_of, columns_in}
 use Rattle.indicatif_term.specs.Pictures.{is_empty}
 use Rattle.indicatif_term.specs.Resizes.{has_place}
-use Rattle.indicatif_term.specs.Inside.Recutting.{glyph_text, guarded_char, guarded, piece_text, is_space, without_spaces, fitting_count, fits_alone, keeps, IsFitting}
+use Rattle.indicatif_term.specs.Inside.Recutting.{glyph_text, guarded_char, guarded, glyphs_text, is_space, without_spaces, fitting_count, fits_alone, keeps, IsFitting}
 use Rattle.indicatif_term.proofs.WrittenLineLemmas.{has_no_width, joiners_before, joiners_before-cons}
 
 -- ---- glyphs, from the front
@@ -236,33 +236,33 @@ module _ (w c : ℕ) (cs : List ℕ) where
     ]
   ]
 
-kept_both : (w : ℕ) (cs : List ℕ) → (kept_text w false cs ≡ piece_text (placed w cs)) × (kept_text w true cs ≡ guarded (joiners_before cs) ++ piece_text (placed w cs))
+kept_both : (w : ℕ) (cs : List ℕ) → (kept_text w false cs ≡ glyphs_text (placed w cs)) × (kept_text w true cs ≡ guarded (joiners_before cs) ++ glyphs_text (placed w cs))
 kept_both w [] = (refl, refl)
 kept_both w (c ∷ cs) =
     let r = kept_both w cs in
     let ms = joiners_before cs in
-    let p = piece_text (placed w cs) in
+    let p = glyphs_text (placed w cs) in
     elim (cases_Bool (has_no_width c)) [
       | inl none ↦
-          let same : p ≡ piece_text (placed w (c ∷ cs)) = ap piece_text (sym (placed_joiner w c cs none)) in
+          let same : p ≡ glyphs_text (placed w (c ∷ cs)) = ap glyphs_text (sym (placed_joiner w c cs none)) in
           let joiners : c ∷ ms ≡ joiners_before (c ∷ cs) = sym (joiners_before-cons c cs ∙ ap (λ b. cond b (c ∷ ms) []) none) in (
             kept_by w c cs false false (keeps_joiner w c cs false none) ∙ r.0 ∙ same,
             kept_by w c cs true true (keeps_joiner w c cs true none) ∙ ap (λ x. guarded_char c ++ x) r.1 ∙ sym (append_assoc (guarded_char c) (guarded ms) p)
                 ∙ ap (λ xs. guarded xs ++ p) joiners ∙ ap (λ x. guarded (joiners_before (c ∷ cs)) ++ x) same,
           )
       | inr some ↦
-          let q = piece_text (placed w (c ∷ cs)) in
+          let q = glyphs_text (placed w (c ∷ cs)) in
           let none_joined : q ≡ guarded (joiners_before (c ∷ cs)) ++ q = ap (λ xs. guarded xs ++ q) (sym (joiners_before-cons c cs ∙ ap (λ b. cond b (c ∷ ms) []) some)) in
           let all : (b : Bool) → kept_text w b (c ∷ cs) ≡ q = λ b. elim (cases_Bool (fits_alone w c)) [
             | inl fits ↦
                 kept_by w c cs b true (keeps_base w c cs b some ∙ fits) ∙ ap (λ x. guarded_char c ++ x) r.1 ∙ sym (append_assoc (guarded_char c) (guarded ms) p)
-                ∙ sym (flat_map-append guarded_char (c ∷ ms) (flat_map glyph_text (placed w cs))) ∙ ap piece_text (sym (placed_base w c cs some fits))
-            | inr wide ↦ kept_by w c cs b false (keeps_base w c cs b some ∙ wide) ∙ r.0 ∙ ap piece_text (sym (placed_none w c cs some wide))
+                ∙ sym (flat_map-append guarded_char (c ∷ ms) (flat_map glyph_text (placed w cs))) ∙ ap glyphs_text (sym (placed_base w c cs some fits))
+            | inr wide ↦ kept_by w c cs b false (keeps_base w c cs b some ∙ wide) ∙ r.0 ∙ ap glyphs_text (sym (placed_none w c cs some wide))
           ] in
           (all false, all true ∙ none_joined)
     ]
 
-pub all_kept : (w : ℕ) (cs : List ℕ) → kept_text w false cs ≡ piece_text (placed w cs)
+pub all_kept : (w : ℕ) (cs : List ℕ) → kept_text w false cs ≡ glyphs_text (placed w cs)
 all_kept w cs = (kept_both w cs).0
 
 -- one more character of a list

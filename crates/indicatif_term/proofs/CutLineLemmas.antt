@@ -13,7 +13,7 @@ use Rattle.indicatif_text.specs.Columns.{Cell, Glyph, columns_in, glyphs_of, pie
 use Rattle.indicatif_term.specs.Resizes.{has_place, recut, recut_all}
 use Rattle.indicatif_term.specs.Standing.{texts, standing_rows, AreLines}
 use Rattle.indicatif_term.specs.Inside.Inks as inks
-use Rattle.indicatif_term.specs.Inside.Recutting.{IsFitting, piece_text, without_spaces, fitting_count, new_pieces, cut_pieces, cut_line, cut_lines, LineShown, shown_line, shown_lines, row_line, line_bars, cut_bars, Gains, HasMore}
+use Rattle.indicatif_term.specs.Inside.Recutting.{IsFitting, glyphs_text, without_spaces, fitting_count, new_pieces, cut_pieces, cut_line, cut_lines, LineShown, shown_line, shown_lines, row_line, line_bars, cut_bars, Gains, HasMore}
 use Rattle.indicatif_term.specs.declared.engine.remembered.StandingLine.{StandingLine}
 use Rattle.indicatif_term.specs.declared.engine.recutting.CutLines.{CutLines}
 use Rattle.indicatif_term.proofs.CutPieceLemmas.{more_pieces, more_some, first_piece, all_filtered, all_unspaced, all_in_pieces, IsNarrow, narrow_pieces, only_piece, all_placed, placed_taken}
@@ -26,14 +26,14 @@ pub record IsCut (w : ℕ) (gs : List Glyph) : Type 0 where
   pub read : AllByRecursion IsRead gs
   pub narrow : columns_in gs ≤ w
 
-own_piece : (w : ℕ) (gs : List Glyph) → IsCut w gs → pieces_of w (glyphs_of (visible (piece_text gs))) ≡ gs ∷ []
+own_piece : (w : ℕ) (gs : List Glyph) → IsCut w gs → pieces_of w (glyphs_of (visible (glyphs_text gs))) ≡ gs ∷ []
 own_piece w gs c = ap (pieces_of w) (piece_glyphs gs c.read) ∙ only_piece w gs c.narrow
 
-own_row : (w : ℕ) (gs : List Glyph) → IsCut w gs → rows_of w (piece_text gs) ≡ row_of w gs ∷ []
+own_row : (w : ℕ) (gs : List Glyph) → IsCut w gs → rows_of w (glyphs_text gs) ≡ row_of w gs ∷ []
 unfolding rows_of
 own_row w gs c = ap (map (row_of w)) (own_piece w gs c)
 
-own_last : (w : ℕ) (gs : List Glyph) → IsCut w gs → last_columns w (piece_text gs) ≡ columns_in gs
+own_last : (w : ℕ) (gs : List Glyph) → IsCut w gs → last_columns w (glyphs_text gs) ≡ columns_in gs
 unfolding last_columns
 own_last w gs c = ap columns_of_last (own_piece w gs c)
 

@@ -50,16 +50,6 @@ pieces_split w piece (g ∷ gs) = elim (cases_Bool (has_place w g)) [
 pub first_piece : (w : ℕ) (gs : List Glyph) → pieces_of w (filter (has_place w) gs) ≡ filter (has_place w) (take (fitting_count w 0 gs) gs) ∷ more_pieces w (drop (fitting_count w 0 gs) gs)
 first_piece w gs = pieces_split w [] gs
 
-pub fitting_within : (w c : ℕ) (gs : List Glyph) → fitting_count w c gs ≤ length gs
-fitting_within w c [] = omega arith
-fitting_within w c (g ∷ gs) = elim (cases_Bool (has_place w g)) [
-  | inl e ↦ elim (cases_Bool (nat_le (c + glyph_width g) w)) [
-    | inl room ↦ rw (e, room) (let i : fitting_count w (c + glyph_width g) gs ≤ length gs = fitting_within w (c + glyph_width g) gs in omega (arith, i))
-    | inr full ↦ rw (e, full) (omega arith)
-  ]
-  | inr e ↦ rw e (let i : fitting_count w c gs ≤ length gs = fitting_within w c gs in omega (arith, i))
-]
-
 -- the columns of those that go into a row
 pub fitting_columns : (w c : ℕ) (gs : List Glyph) → c ≤ w → c + columns_in (filter (has_place w) (take (fitting_count w c gs) gs)) ≤ w
 fitting_columns w c [] h = omega arith

@@ -8,7 +8,7 @@ use Rattle.unicode_width.specs.Width.{char_width}
 use Rattle.indicatif_text.specs.Columns.{Cell, Blank, Written, Continued, Glyph, width_of, glyph_width, glyph_cells, glyphs_of, columns_in, row_of, visible, visible_from, colour_length, has_wide}
 use Rattle.indicatif_term.specs.Pictures.{is_blank, is_empty, trimmed}
 use Rattle.indicatif_term.specs.Resizes.{glyph_at, glyphs_in, has_place}
-use Rattle.indicatif_term.specs.Inside.Recutting.{glyph_text, guarded, piece_text, is_space, without_spaces}
+use Rattle.indicatif_term.specs.Inside.Recutting.{glyph_text, guarded, glyphs_text, is_space, without_spaces}
 use Rattle.indicatif_term.specs.Inside.Rows.{whole_row}
 use Rattle.indicatif_term.proofs.KeptRowLemmas.{text_kept}
 use Rattle.indicatif_term.proofs.WrittenLineLemmas.{has_no_width, joiners_before, joiners_before-cons}
@@ -75,11 +75,11 @@ read_back (g ∷ gs) all =
     rw e (ap (λ ms. let x : Glyph = record { base = g.base; joiners = ms } in x ∷ glyphs_of (g.joiners ++ more)) joiners ∙ ap (λ xs. g ∷ xs) rest)
 
 -- the glyphs of a row's text
-pub piece_seen : (gs : List Glyph) → visible (piece_text gs) ≡ flat_map glyph_text gs
+pub piece_seen : (gs : List Glyph) → visible (glyphs_text gs) ≡ flat_map glyph_text gs
 unfolding visible
 piece_seen gs = visible_guarded (flat_map glyph_text gs)
 
-pub piece_glyphs : (gs : List Glyph) → AllByRecursion IsRead gs → glyphs_of (visible (piece_text gs)) ≡ gs
+pub piece_glyphs : (gs : List Glyph) → AllByRecursion IsRead gs → glyphs_of (visible (glyphs_text gs)) ≡ gs
 piece_glyphs gs all = ap glyphs_of (piece_seen gs) ∙ read_back gs all
 
 -- ---- none is wide
@@ -101,7 +101,7 @@ narrow_text w (g ∷ gs) all h =
     let e : nat_lt w (width_of g.base) ≡ false = le-ltb w (width_of g.base) (omega (arith, sum, h)) in
     rw e (narrow_joiners w g.joiners (flat_map glyph_text gs) all.0.joiners ∙ narrow_text w gs all.1 (omega (arith, sum, h)))
 
-pub piece_narrow : (w : ℕ) (gs : List Glyph) → AllByRecursion IsRead gs → columns_in gs ≤ w → has_wide w (piece_text gs) ≡ false
+pub piece_narrow : (w : ℕ) (gs : List Glyph) → AllByRecursion IsRead gs → columns_in gs ≤ w → has_wide w (glyphs_text gs) ≡ false
 unfolding has_wide
 piece_narrow w gs all h = ap (some_wider w) (piece_seen gs) ∙ narrow_text w gs all h
 

@@ -11,7 +11,7 @@ use Rattle.indicatif_term.specs.Screen.{is_continued}
 use Rattle.indicatif_term.specs.Shows.{look}
 use Rattle.indicatif_term.proofs.GlyphLemmas.{length_cells, columns_push}
 use Rattle.indicatif_term.proofs.WrittenLineLemmas.{joiners_before, joiners_before-cons, has_no_width}
-use Rattle.indicatif_term.specs.Inside.RowEdits.{Edit, Stay, Write, Close, Open, IsOwn, edit_columns, narrow, edited, Renews, Lead, filled, Tails, Turns}
+use Rattle.indicatif_term.specs.Inside.RowEdits.{Edit, Stay, Write, Close, Open, IsOwn, edit_columns, narrow, edited, Renews, Lead, padded_chars, Tails, Turns}
 use Rattle.indicatif_term.proofs.CellEditLemmas.{narrow_cells}
 
 abbrev pub IsOne : ℕ → Type 0
@@ -106,12 +106,12 @@ spaces_look : (m : ℕ) → map look (map narrow (replicate m 0x20)) ≡ replica
 spaces_look zero = refl
 spaces_look (suc m) = ap (λ x. Blank ∷ x) (spaces_look m)
 
-filled_length : (n : ℕ) (own : List ℕ) → length own ≤ n → length (filled n own) ≡ n
+filled_length : (n : ℕ) (own : List ℕ) → length own ≤ n → length (padded_chars n own) ≡ n
 filled_length n own few = omega (arith, length-append own (replicate (n - length own) 0x20), length-replicate {A = ℕ} (n - length own) 0x20)
 
 -- spaces look as what is free
 filled_looks : (w k n : ℕ) (own : List ℕ) → length own ≤ n → k + n ≤ w →
-    map look (map narrow (filled n own)) ++ replicate (w - (k + n)) Blank ≡ map look (map narrow own ++ replicate (w - (k + length own)) Blank)
+    map look (map narrow (padded_chars n own)) ++ replicate (w - (k + n)) Blank ≡ map look (map narrow own ++ replicate (w - (k + length own)) Blank)
 filled_looks w k n own few room =
     let m = n - length own in
     let rest = w - (k + n) in
@@ -182,10 +182,10 @@ module _ (w k : ℕ) (es : List Edit) (old new : List ℕ) (t : Turns w k es old
   afterwards = line_cells w k p.same p.news
 
   abbrev olds : List ℕ
-  olds = filled n p.olds
+  olds = padded_chars n p.olds
 
   abbrev news : List ℕ
-  news = filled n p.news
+  news = padded_chars n p.news
 
   abbrev blanks : List Cell
   blanks = replicate (w - (k + n)) Blank

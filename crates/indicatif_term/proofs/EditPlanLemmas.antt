@@ -9,7 +9,7 @@ use Rattle.std.proofs.lemmas.Slice.Eq.{bytes_eq-Decides}
 use Rattle.unicode_width.specs.Width.{char_width}
 use Rattle.indicatif_text.specs.Columns.{visible}
 use Rattle.indicatif_term.specs.Inside.Inks.{Painted, in_colours, Ink, NONE, colours_of, same_ink, Inked, in_ink, is_alike, as_painted, characters, padded, AreColours}
-use Rattle.indicatif_term.specs.Inside.RowEdits.{Edit, Write, IsNarrowChar, IsWritable, edit_columns, edit_gap, filled, Lead, Tails, Turns, closed, opened, recoloured, plan, repainted, edit_colours}
+use Rattle.indicatif_term.specs.Inside.RowEdits.{Edit, Write, IsNarrowChar, IsWritable, edit_columns, edit_gap, padded_chars, Lead, Tails, Turns, closed, opened, recoloured, plan, repainted, edit_colours}
 use Rattle.indicatif_term.proofs.InkLemmas.{CanBeOpened, none_opens, upon, padded_length, padded_characters}
 
 is_space : IsNarrowChar 0x20
@@ -209,10 +209,10 @@ lines_turn w k n ends old new p os ns oc nc all =
     let b : length (padded n ns) ≡ n = padded_length n ns few' in
     let es = plan ends NONE (padded n os) (padded n ns) in
     let many : edit_columns es ≡ n = plan_columns ends NONE (padded n os) (padded n ns) (a ∙ sym b) ∙ b in
-    let olds : characters (padded n os) ≡ filled n p.olds = padded_characters n os ∙ ap (filled n) oc in
-    let news : characters (padded n ns) ≡ filled n p.news = padded_characters n ns ∙ ap (filled n) nc in
-    let leads : Lead es (filled n p.olds) (filled n p.news) =
-    subst (λ x. Lead es x (filled n p.news)) olds (subst (λ x. Lead es (characters (padded n os)) x) news (plan_leads ends NONE (padded n os) (padded n ns) (a ∙ sym b))) in
+    let olds : characters (padded n os) ≡ padded_chars n p.olds = padded_characters n os ∙ ap (padded_chars n) oc in
+    let news : characters (padded n ns) ≡ padded_chars n p.news = padded_characters n ns ∙ ap (padded_chars n) nc in
+    let leads : Lead es (padded_chars n p.olds) (padded_chars n p.news) =
+    subst (λ x. Lead es x (padded_chars n p.news)) olds (subst (λ x. Lead es (characters (padded n os)) x) news (plan_leads ends NONE (padded n os) (padded n ns) (a ∙ sym b))) in
     record {
       part = record {
         same = p.same;
@@ -228,5 +228,5 @@ lines_turn w k n ends old new p os ns oc nc all =
         new_narrow = p.new_narrow;
       };
       writable = plan_writable ends NONE (padded n os) (padded n ns) (all_padded (n - length ns) ns all);
-      lead = subst (λ m. Lead es (filled m p.olds) (filled m p.news)) (sym many) leads;
+      lead = subst (λ m. Lead es (padded_chars m p.olds) (padded_chars m p.news)) (sym many) leads;
     }

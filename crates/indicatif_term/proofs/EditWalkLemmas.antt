@@ -16,7 +16,7 @@ use Rattle.indicatif_term.proofs.PaintingLemmas.{IsDrawable, AreDrawable, restan
 use Rattle.indicatif_term.proofs.SkipStepLemmas.{unfronted, falls, changed_leads, changed_column}
 use Rattle.indicatif_term.proofs.DrawingLemmas.{looks_split}
 use Rattle.indicatif_term.specs.Inside.RowEdits.{Edit, row_bytes, edited_row, Renews}
-use Rattle.indicatif_term.specs.Inside.Changing.{changed_bytes, Change, Leave, Within, Whole, PlacedLine, step_bytes, step_down, walk_bytes, walk_down, placed_height, placed_lines, frame_bytes, Fits, Becomes, Sits, AreSitting, Ends, step_rows, walk_rows}
+use Rattle.indicatif_term.specs.Inside.Changing.{changed_bytes, LineChange, Leave, Within, Whole, PlacedLine, step_bytes, step_down, walk_bytes, walk_down, placed_height, placed_lines, frame_bytes, EditsLead, Becomes, Sits, AreSitting, Ends, step_rows, walk_rows}
 use Rattle.indicatif_term.proofs.EditStandLemmas.{edit_leads, edit_column}
 
 -- ---- lines one below another
@@ -79,7 +79,7 @@ record Parts (w k n : ℕ) (es : List Edit) (old : List (List Cell)) (line : Lis
   renews : Renews w k es r wanted
   looks : looks_of (upper ++ edited_row k es r ∷ []) ≡ looks_of (rows_of w (chars line))
 
-parts : (w k n : ℕ) (es : List Edit) (old : List (List Cell)) (line : List ℕ) → n ≤ length old → n ≡ length (rows_of w (chars line)) → Fits w k es (take n (looks_of old)) line →
+parts : (w k n : ℕ) (es : List Edit) (old : List (List Cell)) (line : List ℕ) → n ≤ length old → n ≡ length (rows_of w (chars line)) → EditsLead w k es (take n (looks_of old)) line →
     Parts w k n es old line
 parts w k n es old line within many f =
     let m = length f.front in
@@ -113,7 +113,7 @@ parts w k n es old line within many f =
           ∙ sym (looks-append f.front (f.afterwards ∷ [])) ∙ ap looks_of (sym f.line_is);
     }
 
-step_looks : (w : ℕ) (c : Change) (n : ℕ) (line : List ℕ) (old : List (List Cell)) → n ≤ length old → n ≡ length (rows_of w (chars line)) → Becomes w c (take n (looks_of old)) line →
+step_looks : (w : ℕ) (c : LineChange) (n : ℕ) (line : List ℕ) (old : List (List Cell)) → n ≤ length old → n ≡ length (rows_of w (chars line)) → Becomes w c (take n (looks_of old)) line →
     looks_of (step_rows w c n line old) ≡ looks_of (rows_of w (chars line))
 step_looks w Leave n line old within many b = sym (take-map (map look) n old) ∙ b
 step_looks w (Within k es) n line old within many b = let p = parts w k n es old line within many b in ap looks_of p.rows ∙ p.looks
@@ -122,7 +122,7 @@ step_looks w Whole n line old within many b = refl
 same_length : (a b : List (List Cell)) → looks_of a ≡ looks_of b → length a ≡ length b
 same_length a b e = sym (length-map a (map look)) ∙ ap length e ∙ length-map b (map look)
 
-step_length : (w : ℕ) (c : Change) (n : ℕ) (line : List ℕ) (old : List (List Cell)) → n ≤ length old → n ≡ length (rows_of w (chars line)) → Becomes w c (take n (looks_of old)) line →
+step_length : (w : ℕ) (c : LineChange) (n : ℕ) (line : List ℕ) (old : List (List Cell)) → n ≤ length old → n ≡ length (rows_of w (chars line)) → Becomes w c (take n (looks_of old)) line →
     length (step_rows w c n line old) ≡ n
 step_length w c n line old within many b = same_length (step_rows w c n line old) (rows_of w (chars line)) (step_looks w c n line old within many b) ∙ sym many
 
@@ -149,7 +149,7 @@ walk_length w (p ∷ ps) old s k =
       walk_length w ps (drop p.rows old) (come_on w p.rows old ps s.1) (omega (arith, length-drop p.rows old)),
     )
 
-step_low : (c : Change) (down n : ℕ) → 0 < n → step_down c down n ≤ down + n
+step_low : (c : LineChange) (down n : ℕ) → 0 < n → step_down c down n ≤ down + n
 step_low Leave down n some = omega arith
 step_low (Within k es) down n some = omega arith
 step_low Whole down n some = omega arith
@@ -167,7 +167,7 @@ walk_low w down (p ∷ ps) looks s =
 
 module _ (w h : ℕ) (opening : Screen) (above : List (List Cell)) where
   -- the bytes of one line
-  step_leads : (c : Change) (n : ℕ) (line : List ℕ) (old more : List (List Cell)) (down row reach : ℕ) (front : Bool) (t : Terminal) → w ≤ GREATEST →
+  step_leads : (c : LineChange) (n : ℕ) (line : List ℕ) (old more : List (List Cell)) (down row reach : ℕ) (front : Bool) (t : Terminal) → w ≤ GREATEST →
       n ≡ length (rows_of w (chars line)) → Becomes w c (take n (looks_of old)) line → IsDrawable w line →
       n ≤ length old → down + n ≤ GREATEST → reach ≤ length above + h → row + down ≡ length above + length more → length above ≤ suc row →
       Stands w h opening (above ++ (more ++ old)) row reach front t →
@@ -201,7 +201,7 @@ module _ (w h : ℕ) (opening : Screen) (above : List (List Cell)) where
       (restand w h opening above t _ _ _ _ reach reach front front (ap (λ x. above ++ (more ++ x)) (sym (take-append-drop n old))) refl refl refl s))
 
   -- the last line's leave the cursor at the end of its row
-  step_column : (c : Change) (n : ℕ) (line : List ℕ) (old more : List (List Cell)) (down row reach : ℕ) (front : Bool) (t : Terminal) → w ≤ GREATEST →
+  step_column : (c : LineChange) (n : ℕ) (line : List ℕ) (old more : List (List Cell)) (down row reach : ℕ) (front : Bool) (t : Terminal) → w ≤ GREATEST →
       n ≡ length (rows_of w (chars line)) → Becomes w c (take n (looks_of old)) line → Ends w c line → IsDrawable w line →
       n ≤ length old → down + n ≤ GREATEST → reach ≤ length above + h → row + down ≡ length above + length more → length above ≤ suc row →
       Stands w h opening (above ++ (more ++ old)) row reach front t →
@@ -319,7 +319,7 @@ module _ (w h : ℕ) (opening : Screen) (above : List (List Cell)) where
             ∙ ap (lines_rows w) (sym (map-append (λ (q : PlacedLine). q.line) ps (p ∷ []))));
         column = ap (λ u. u.screen.column) (after-append t up (walk_bytes 0 qs) ∙ ap (after t') split ∙ after-append t' (walk_bytes 0 ps) bytes) ∙ column;
       } where
-        ended : (c : Change) (down n a u old : ℕ) → Ends w c p.line → u + n ≡ old → a + u + n - step_down c down n ≡ a + old - 1
+        ended : (c : LineChange) (down n a u old : ℕ) → Ends w c p.line → u + n ≡ old → a + u + n - step_down c down n ≡ a + old - 1
         ended Leave down n a u old e k = absurd e
         ended (Within i es) down n a u old e k = omega arith
         ended Whole down n a u old e k = omega arith

@@ -5,7 +5,7 @@ use Rattle.std.proofs.lemmas.Bool.{cases_Bool, ltb-true, ltb-false}
 use Rattle.std.proofs.lemmas.List.{take_at, drop_at, map-append, length-map}
 use Rattle.indicatif_text.specs.Columns.{Cell, rows_of}
 use Rattle.indicatif_term.specs.Shows.{look, looks_of}
-use Rattle.indicatif_term.specs.Inside.Changing.{Change, Leave, Within, Whole, PlacedLine, filled_whole, ended_by, ending_by, ending, Becomes, Ends, Sits, ends_plainly}
+use Rattle.indicatif_term.specs.Inside.Changing.{LineChange, Leave, Within, Whole, PlacedLine, filled_whole, ended_by, ending_by, ending, Becomes, Ends, Sits, ends_plainly}
 use Rattle.indicatif_term.proofs.FillLemmas.{spaces}
 use Rattle.indicatif_term.proofs.FilledLineLemmas.{filled_line}
 use Rattle.indicatif_term.proofs.LastLineLemmas.{fill_width}
@@ -113,7 +113,7 @@ module _ (w : ℕ) (looks : List (List Cell)) (p : PlacedLine) (pos : 0 < w) (d 
   waited_ends true e = record { rows_is = refl; sits = s; drawable = d; ends = e refl; looks = refl }
   waited_ends false e = whole_ends
 
-  by_change : (c : Change) → p.change ≡ c → Becomes w c (take p.rows looks) p.line → Ending w looks p (ending_by c w p)
+  by_change : (c : LineChange) → p.change ≡ c → Becomes w c (take p.rows looks) p.line → Ending w looks p (ending_by c w p)
   by_change Leave e b = left_ends b
   by_change (Within k es) e b = waited_ends p.waits s.waiting
   by_change Whole e b = whole_ends

@@ -18,7 +18,7 @@ use Rattle.indicatif_term.specs.Calls.{TermView, Writes, move_bytes, clear_bytes
 use Rattle.indicatif_term.specs.Shows.{resting}
 use Rattle.indicatif_term.specs.Modes.{ModeTerminal, mode_after, performed_with, is_own, HasNoOwn}
 use Rattle.indicatif_term.specs.Inside.Scanners.{reader_after, all_with}
-use Rattle.indicatif_term.specs.Inside.EndedRows.{StayAlong, Held, Within, WithinTo, WithinIf, Carries, Falls, at_column, next_front, rows_moved, front_emptied, all_put, AreShown}
+use Rattle.indicatif_term.specs.Inside.EndedRows.{StayAlong, Held, Within, WithinTo, WithinIf, LeadsBoth, Falls, at_column, next_front, rows_moved, front_emptied, all_put, AreShown}
 use Rattle.indicatif_term.specs.declared.target.ended_rows.EndedRows.{EndedRows}
 use Rattle.indicatif_term.proofs.ReaderLemmas.{Spells, char_read, chars_read, char_list_ops, place_after}
 use Rattle.indicatif_term.proofs.TextLemmas.{not_control, AsksToPut, reads, IsPut, is_put}
@@ -268,7 +268,7 @@ module _ {T : Type 0} (view : T → TermView) {own own' : EndedRows T} (r : Resu
       (down_fits k own.column s x.0.real (ready view x.0) x.0.column)))
 
   pub up_sent : (n : ℕ) → 0 < n → n < 2 ^ 64 → Led view own own' own.column → Writes (move_bytes 0x41 n) (view own.term) (view own'.term) r →
-      Carries view (Within view) (Within view) (rows_moved 0x41 n) own own' r
+      LeadsBoth view (Within view) (Within view) (rows_moved 0x41 n) own own' r
   up_sent n some small led w =
       let bytes = move_bytes 0x41 n in
       let k = min n GREATEST in
@@ -298,7 +298,7 @@ module _ {T : Type 0} (view : T → TermView) {own own' : EndedRows T} (r : Resu
       Falls view (Held view wraps) (Held view wraps) (λ s. s) own own' r
   alone_down wraps n none p = to_weaker view r (λ s m m' x y. subst (λ u. Held view wraps own' u m') (none_moved 0x42 n s (none x.0.alone)) y) p
 
-  pub alone_up : (n : ℕ) → (own.row ≡ None → n ≡ 0) → Carries view (Within view) (Within view) (rows_moved 0x41 n) own own' r → Falls view (Within view) (Within view) (λ s. s) own own' r
+  pub alone_up : (n : ℕ) → (own.row ≡ None → n ≡ 0) → LeadsBoth view (Within view) (Within view) (rows_moved 0x41 n) own own' r → Falls view (Within view) (Within view) (λ s. s) own own' r
   alone_up n none p =
       let same : (s : Screen) (m m' : ModeTerminal) → Within view own s m → Within view own' (rows_moved 0x41 n s) m' → Within view own' s m' =
       λ s m m' x y. subst (λ u. Within view own' u m') (none_moved 0x41 n s (none x.0.alone)) y in

@@ -7,7 +7,7 @@ use Rattle.indicatif_term.specs.Screen.{Screen}
 use Rattle.indicatif_term.specs.Calls.{TermView, Writes, led_on}
 use Rattle.indicatif_term.specs.OwnRows.{Quietly}
 use Rattle.indicatif_term.specs.Modes.{ModeTerminal, mode_after}
-use Rattle.indicatif_term.specs.Inside.EndedRows.{StayAlong, Carries, Falls}
+use Rattle.indicatif_term.specs.Inside.EndedRows.{StayAlong, LeadsBoth, Falls}
 use Rattle.indicatif_term.specs.declared.target.ended_rows.EndedRows.{EndedRows}
 use Rattle.indicatif_term.proofs.CallTurnLemmas.{told_then, led_on-nil}
 use Rattle.indicatif_term.proofs.OwnRowsLemmas.{unmoved, fails, goes_on}
@@ -40,7 +40,7 @@ module _ {T : Type 0} (view : T → TermView) where
   }
 
   module _ {P Q R : EndedRows T → Screen → ModeTerminal → Type 0} {f g : Screen → Screen} {a b c : EndedRows T} (r : Result Unit Error) where
-    pub then_carries : Falls view P Q f a b (Ok tt) → Carries view Q R g b c r → Carries view P R (λ s. g (f s)) a c r
+    pub then_carries : Falls view P Q f a b (Ok tt) → LeadsBoth view Q R g b c r → LeadsBoth view P R (λ s. g (f s)) a c r
     then_carries p q =
         let first = p.carries in
         record {
@@ -64,7 +64,7 @@ module _ {T : Type 0} (view : T → TermView) where
         }
 
   module _ {P Q Q' : EndedRows T → Screen → ModeTerminal → Type 0} {f g : Screen → Screen} {a b : EndedRows T} {e : Error} where
-    pub carry_fails : (r : Result Unit Error) → IsErrAnd r (λ x. x ≡ e) → Carries view P Q f a b (Err e) → Carries view P Q' g a b r
+    pub carry_fails : (r : Result Unit Error) → IsErrAnd r (λ x. x ≡ e) → LeadsBoth view P Q f a b (Err e) → LeadsBoth view P Q' g a b r
     carry_fails (Ok x) h p = absurd h
     carry_fails (Err x) h p = record { quiet = fails (Err x) h p.quiet; bytes = p.bytes; told_is = p.told_is; stays = p.stays; leads = λ ok. absurd (false≢true ok) }
 
@@ -146,7 +146,7 @@ module _ {T : Type 0} (view : T → TermView) where
   pub carry_sends : {P Q : EndedRows T → Screen → ModeTerminal → Type 0} {f : Screen → Screen} {a b : EndedRows T} (bytes : List ℕ) (r : Result Unit Error) →
       Writes bytes (view a.term) (view b.term) r →
       ((view b.term).columns ≡ (view a.term).columns → (view b.term).faults ≡ (view a.term).faults → (s : Screen) (m : ModeTerminal) → P a s m → Q b (f s) (mode_after m bytes)) →
-      ((s : Screen) (m : ModeTerminal) → P a s m → (n : ℕ) → n ≤ m.terminal.screen.row → StayAlong n m bytes) → Carries view P Q f a b r
+      ((s : Screen) (m : ModeTerminal) → P a s m → (n : ℕ) → n ≤ m.terminal.screen.row → StayAlong n m bytes) → LeadsBoth view P Q f a b r
   carry_sends {a = a} {b = b} bytes (Ok x) w h stay = record {
     quiet = quietly bytes (view a.term) (view b.term) (Ok x) w;
     bytes = bytes;
@@ -163,7 +163,7 @@ module _ {T : Type 0} (view : T → TermView) where
   }
 
   pub carry_weaker : {P Q Q' : EndedRows T → Screen → ModeTerminal → Type 0} {f f' : Screen → Screen} {a b : EndedRows T} (r : Result Unit Error) →
-      ((s : Screen) (m m' : ModeTerminal) → P a s m → Q b (f s) m' → Q' b (f' s) m') → Carries view P Q f a b r → Carries view P Q' f' a b r
+      ((s : Screen) (m m' : ModeTerminal) → P a s m → Q b (f s) m' → Q' b (f' s) m') → LeadsBoth view P Q f a b r → LeadsBoth view P Q' f' a b r
   carry_weaker r h p = record {
     quiet = p.quiet;
     bytes = p.bytes;

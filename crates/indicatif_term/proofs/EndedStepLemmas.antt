@@ -364,7 +364,7 @@ module _ {T : Type 0} (view : T → TermView) where
   pub led_of : {own own' : EndedRows T} {column : ℕ} → own'.row ≡ own.row → own'.faults ≡ own.faults → own'.column ≡ column → own'.place ≡ own.place → Led view own own' column
   led_of row known at place = record { row = row; known = known; at = at; drawing = λ h. ap is_between place ∙ h }
 
-  -- where the row has no room for so many columns, and where it has
+  -- where the row has no room for the columns, and where it has
   pub room_made : (wide : ℕ) {own own' : EndedRows T} {s : Screen} {m m' : ModeTerminal} → (view own.term).columns - own.column < wide → Within view own s m → Within view own' (next_front s) m' →
       WithinRoom view wide own' (with_room wide s) m'
   room_made wide {own' = own'} {s = s} {m' = m'} less x y =

@@ -22,7 +22,7 @@ use Rattle.indicatif_term.specs.Calls.{TermView, Writes, move_bytes, line_bytes,
 use Rattle.indicatif_term.specs.Shows.{resting}
 use Rattle.indicatif_term.specs.Modes.{ModeTerminal, mode_after}
 use Rattle.indicatif_term.specs.EndedRows.{Together, Draws}
-use Rattle.indicatif_term.specs.Inside.EndedRows.{Meets, Within, WithinIf, WithinRoom, Carries, Falls, at_column, next_front, front_emptied, all_put, AreShown, right_column}
+use Rattle.indicatif_term.specs.Inside.EndedRows.{Meets, Within, WithinIf, WithinRoom, LeadsBoth, Falls, at_column, next_front, front_emptied, all_put, AreShown, right_column}
 use Rattle.indicatif_term.specs.declared.target.ended_rows.EndedRows.{EndedRows}
 use Rattle.indicatif_term.proofs.FeedLemmas.{performed_all-append, after-append}
 use Rattle.indicatif_term.proofs.TextLemmas.{AsksToPut, reads}
@@ -143,7 +143,7 @@ module _ {T : Type 0} (view : T → TermView) {X Y : Type 0} {f g : Screen → S
 -- ---- calls
 
 module _ {T : Type 0} (view : T → TermView) {own own' : EndedRows T} (r : Result Unit Error) where
-  pub draws_by : {f : Screen → Screen} (asked : List ℕ) → Carries view (Together view) (Together view) f own own' r →
+  pub draws_by : {f : Screen → Screen} (asked : List ℕ) → LeadsBoth view (Together view) (Together view) f own own' r →
       ((s : Screen) (m : ModeTerminal) → Together view own s m → f s ≡ (after (resting s) asked).screen) → Draws view (asked ∷ []) own own' r
   draws_by asked p is = record {
     bytes = p.bytes;

@@ -1,7 +1,7 @@
 -- A line filled with spaces up to the end of its last row looks as it did, and its row is full.
 use Rattle.std.proofs.Common.{◌≡◌, ℕ, zero, suc, ◌+◌, ◌-◌, ◌<◌, ◌≤◌, Bool, true, false, List, [], ◌∷◌, ◌++◌, length, map, replicate, chars, refl, sym, ◌∙◌, ap, arith, append_assoc, append-nil, Option, Some, None, if◌then◌else◌, inl, inr, eqb, cond}
 use Rattle.std.specs.Prelude.{slice_index, nat_le, ◌&&◌, is_some, unwrap_or, option_map, flat_map}
-use Rattle.std.specs.List.{AllByRecursion, repeat}
+use Rattle.std.specs.List.{AllByRecursion}
 use Rattle.std.specs.Str.{IsUtf8, IsAscii}
 use Rattle.std.proofs.lemmas.Str.{IsUtf8-from_ascii, chars-append, chars-IsAscii}
 use Rattle.std.proofs.lemmas.Bool.{cases_Bool, leb-true, le-leb}
@@ -266,7 +266,3 @@ filled_bytes w at_end (line ∷ []) = simp (append_assoc, append-nil)
 filled_bytes w at_end (line ∷ next ∷ lines) =
     append_assoc ((if at_end then next_row else []) ++ line) (lines_bytes true (next ∷ lines)) (fill_bytes false w (next ∷ lines))
     ∙ ap (λ x. ((if at_end then next_row else []) ++ line) ++ x) (filled_bytes w true (next ∷ lines))
-
-pub repeated_space : (n : ℕ) → repeat n (0x20 ∷ []) ≡ spaces n
-repeated_space zero = refl
-repeated_space (suc n) = ap (λ cs. 0x20 ∷ cs) (repeated_space n)

@@ -1,6 +1,6 @@
 -- The lines of a drawing look the same with the last one filled, and can be drawn as well.
 use Rattle.std.proofs.Common.{◌≡◌, ℕ, zero, suc, ◌<◌, Bool, true, false, List, [], ◌∷◌, ◌++◌, length, chars, refl, sym, ◌∙◌, ap, append_assoc, append-nil, not}
-use Rattle.std.specs.Prelude.{IsFalse, nat_lt, is_some, ◌&&◌, ◌==◌, map}
+use Rattle.std.specs.Prelude.{nat_lt, is_some, ◌&&◌, ◌==◌, map}
 use Rattle.std.specs.List.{list_any, list_all}
 use Rattle.std.proofs.lemmas.Str.{IsUtf8-append}
 use Rattle.std.proofs.lemmas.Bool.{le-ltb}
@@ -10,7 +10,6 @@ use Rattle.unicode_width.specs.Width.{char_width}
 use Rattle.indicatif_text.specs.Columns.{Cell, width_of, visible, last_columns, rows_of, is_plain, has_wide}
 use Rattle.indicatif_term.specs.Inside.MoveBytes.{back_bytes, lines_bytes}
 use Rattle.indicatif_term.proofs.PaintingLemmas.{paint_bytes, IsDrawable, AreDrawable}
-use Rattle.indicatif_term.specs.Inside.Fills.{last_or_none}
 use Rattle.indicatif_term.proofs.LastLineLemmas.{fill_bytes, fill_width}
 use Rattle.indicatif_term.specs.Shows.{look, looks_of}
 use Rattle.indicatif_term.proofs.FillLemmas.{spaces, spaces_utf8, filled_chars, filled_text, with_fill, IsFull, filled_length, filled_bytes}
@@ -113,9 +112,3 @@ filled_paint w below false taken lines =
     ∙ append_assoc back (lines_bytes at_end lines) (fill_bytes false w lines)
     ∙ ap (λ x. back ++ x) (filled_bytes w at_end lines)
     ∙ sym (append-nil (back ++ lines_bytes at_end (refilled false w lines)))
-
--- of lines that can be drawn the last can be
-pub last_narrow : (w : ℕ) (lines : List (List ℕ)) → IsFalse (has_wide w (chars [])) → AreDrawable w lines → IsFalse (has_wide w (chars (last_or_none lines)))
-last_narrow w [] n d = n
-last_narrow w (line ∷ []) n d = d.0.narrow
-last_narrow w (line ∷ next ∷ lines) n d = last_narrow w (next ∷ lines) n d.1

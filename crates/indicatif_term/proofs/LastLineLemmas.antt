@@ -1,6 +1,5 @@
 -- Which line is the last of lists put together, and the spaces that fill its last row.
-use Rattle.std.proofs.Common.{◌≡◌, ℕ, ◌-◌, ◌<◌, Bool, true, false, List, [], ◌∷◌, ◌++◌, length, replicate, refl, subst, arith, Option, Some, None}
-use Rattle.std.specs.List.{AllByRecursion}
+use Rattle.std.proofs.Common.{◌≡◌, ℕ, ◌-◌, ◌<◌, Bool, true, false, List, [], ◌∷◌, ◌++◌, length, replicate, refl, arith, Option, Some, None}
 use Rattle.indicatif_term.specs.Inside.Fills.{last_of, line_end}
 
 -- the columns that are free behind a line in its last row
@@ -34,8 +33,3 @@ pub last_append : (xs ys : List (List ℕ)) → 0 < length ys → last_of (xs ++
 last_append [] ys h = refl
 last_append (x ∷ []) ys h = last_skip x ys h
 last_append (x ∷ z ∷ xs) ys h = last_append (z ∷ xs) ys h
-
-pub all_last : (P : List ℕ → Type 0) (xs : List (List ℕ)) (y : List ℕ) → AllByRecursion P xs → last_of xs ≡ Some y → P y
-all_last P [] y all e = cc
-all_last P (x ∷ []) y all e = let same : x ≡ y = cc in subst P same all.0
-all_last P (x ∷ z ∷ xs) y all e = all_last P (z ∷ xs) y all.1 e

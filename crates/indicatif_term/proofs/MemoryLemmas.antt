@@ -9,7 +9,7 @@ use Rattle.indicatif_term.specs.Inside.Scanners.{performed_all}
 use Rattle.indicatif_term.specs.Feeding.{ops_of}
 use Rattle.std.specs.declared.io.ErrorKind.TheVariants.{OutOfMemory}
 use Rattle.indicatif_term.specs.Calls.{LeadsOn, BreaksOff, State, move_bytes}
-use Rattle.indicatif_term.specs.Memory.{MemoryTerm, view_of}
+use Rattle.indicatif_term.specs.Cells.{MemoryTerm, view_of}
 use Rattle.indicatif_term.specs.Inside.Feeding.{ReadsBeginning}
 use Rattle.indicatif_term.proofs.FeedLemmas.{after_screen, after-append, after-nil}
 

@@ -78,7 +78,7 @@ module _ (w h : ℕ) (opening : Screen) (above : List (List Cell)) where
       (relead w h opening above (after t (next_row ++ clear_bytes)) (rows_down n) _ _ _ _ _ _ true true (ap (λ x. above ++ x) (append_assoc more (blank_row w ∷ []) blanks))
       (omega arith) (omega arith) refl rest)
 
-  -- so many rows reached, from the row so far below the cursor's on, and up again: nothing else changes
+  -- a number of rows reached, from a row below the cursor's on, and up again: nothing else changes
   pub reach_leads : (down n row reach : ℕ) (front : Bool) (t : Terminal) → length above ≤ suc row → length above ≤ reach → (0 < n → row + down + 1 ≡ reach) → (0 < n → reach + n ≤ row + h) →
       down + n ≤ GREATEST → Stands w h opening (above ++ []) row reach front t → StandsAfter w h opening above t (reach_bytes down n) (above ++ []) row (reach + n) front
   reach_leads down zero row reach front t low within last room few s = relead w h opening above t [] _ _ _ _ _ _ front front refl refl (omega arith) refl

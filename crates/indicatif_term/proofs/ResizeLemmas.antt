@@ -288,9 +288,6 @@ module _ (w h w' h' : ℕ) (opening : Screen) (l : Lists) (t : Terminal) (s : Sh
   abbrev b : ℕ
   b = one_if l.below
 
-  blank-rows : List (List Cell)
-  blank-rows = replicate (blank_then h' (u + lists_height l') b) (blank_row w')
-
   by_below : (below : Bool) → l.below ≡ below →
       (opening.row + resting_row l + 1 ≡ length all + one_if below) × (one_if below ≤ s.blank)
       × (row_then w' (made w h (all ++ replicate s.blank (blank_row w)) (opening.row + resting_row l) (resting_column w l)) ≡ u + (if below then lists_height l' else (lists_height l' - 1)))

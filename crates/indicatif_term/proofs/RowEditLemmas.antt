@@ -1,7 +1,7 @@
 -- Emptying, writing and joining cell by cell gives the row that the definitions of an edit give.
 use Rattle.std.proofs.Common.{◌≡◌, ℕ, zero, suc, ◌+◌, ◌<◌, ◌≤◌, Bool, true, false, List, [], ◌∷◌, ◌++◌, length, get_or, set, take, drop, reverse, refl, sym, ◌∙◌, ap, arith, append_assoc, append-nil, add-one, length-append, length-drop}
 use Rattle.std.specs.Prelude.{if◌then◌else◌}
-use Rattle.std.proofs.lemmas.List.{take_more, take-set, drop-set, set_split, reverse-append, reverse-reverse, length-reverse, take-append-drop, drop-drop, take-take, take-append-le, drop-set-lt, take_more_set, length-take-le, take_all, drop_all, set_at}
+use Rattle.std.proofs.lemmas.List.{take_more, set_split, reverse-append, reverse-reverse, length-reverse, drop-drop, take-take, take-append-le, length-take-le, take_all, drop_all, set_at}
 use Rattle.std.proofs.Math.Seq.{drop-cons, drop-append_seam, take-append_seam, drop-append-add}
 use Rattle.indicatif_text.specs.Columns.{Cell, Blank, Written, Continued}
 use Rattle.indicatif_term.specs.Screen.{is_continued, emptied_front, emptied_glyph, cut_before, written_at, joined_back, joined_at}
@@ -37,12 +37,6 @@ module _ (row : List Cell) (n : ℕ) (x : Cell) (h : n < length row) (e : x ≡ 
 
   -- ---- emptying backwards
 
-  pub back_continued : is_continued x ≡ true → emptied_back (n + 1) row ≡ emptied_back n (set row n Blank)
-  back_continued is =
-      let rest = reverse (take n row) in
-      ap (λ y. reverse (emptied_glyph y) ++ drop (n + 1) row) (reversed_more ∙ ap (λ y. y ∷ rest) (continued_by x is))
-      ∙ turned Blank (emptied_glyph rest) ∙ sym (rw (take-set row n Blank, drop-set row n Blank h) refl)
-
   glyph_of : (y : Cell) (ys : List Cell) → is_continued y ≡ false → emptied_glyph (y ∷ ys) ≡ Blank ∷ ys
   glyph_of Blank ys not = refl
   glyph_of (Written g) ys not = refl
@@ -53,24 +47,6 @@ module _ (row : List Cell) (n : ℕ) (x : Cell) (h : n < length row) (e : x ≡ 
       let rest = reverse (take n row) in
       ap (λ y. reverse y ++ drop (n + 1) row) (ap emptied_glyph reversed_more ∙ glyph_of x rest is)
       ∙ turned Blank rest ∙ ap (λ y. y ++ Blank ∷ drop (n + 1) row) (reverse-reverse (take n row)) ∙ sym (set_here Blank)
-
-  -- ---- emptying onwards
-
-  pub on_continued : is_continued x ≡ true → emptied_on n row ≡ emptied_on (n + 1) (set row n Blank)
-  on_continued is =
-      ap (λ y. take n row ++ emptied_front y) (drop_here ∙ ap (λ y. y ∷ drop (n + 1) row) (continued_by x is))
-      ∙ sym (append_assoc (take n row) (Blank ∷ []) (emptied_front (drop (n + 1) row)))
-      ∙ sym (rw (take_more_set row n Blank h, drop-set-lt (n + 1) row n Blank (omega arith)) refl)
-
-  front_of : (y : Cell) (ys : List Cell) → is_continued y ≡ false → emptied_front (y ∷ ys) ≡ y ∷ ys
-  front_of Blank ys not = refl
-  front_of (Written g) ys not = refl
-  front_of Continued ys not = cc
-
-  pub on_last : is_continued x ≡ false → emptied_on n row ≡ row
-  on_last is =
-      ap (λ y. take n row ++ y) (ap emptied_front drop_here ∙ front_of x (drop (n + 1) row) is ∙ sym drop_here)
-      ∙ take-append-drop n row
 
   -- ---- joining a joiner
 

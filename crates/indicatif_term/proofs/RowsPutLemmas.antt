@@ -195,9 +195,6 @@ module _ (old new now : Screen) (cursor : CursorRows) (put : LastingPut old new 
   upper : length (recut_all new.columns (take old.row old.rows)) + length (recut new.columns (cursor_row old)) ≤ length put_rows
   upper = upper_rows new.columns old within
 
-  pub last_within : cursor.last < length now.rows
-  last_within = omega (arith, put.first_is, put.last_is, height, upper)
-
   pub first_within : cursor.first < length now.rows
   first_within = omega (arith, put.first_is, put.last_is, height, upper, recut_some new.columns (cursor_row old))
 

@@ -9,7 +9,7 @@ use Rattle.indicatif_text.specs.Columns.{Cell, rows_of}
 use Rattle.indicatif_term.specs.Screen.{Screen}
 use Rattle.indicatif_term.specs.Terminal.{Terminal, GREATEST, after}
 use Rattle.indicatif_term.specs.Shows.{look, looks_of}
-use Rattle.indicatif_term.specs.Inside.Changing.{Change, Leave, Within, Whole, PlacedLine, placed_height, placed_lines, frame_bytes, Becomes, AreSitting, stays, all_stay, ending, free_behind}
+use Rattle.indicatif_term.specs.Inside.Changing.{LineChange, Leave, Within, Whole, PlacedLine, placed_height, placed_lines, frame_bytes, Becomes, AreSitting, stays, all_stay, ending, free_behind}
 use Rattle.indicatif_term.proofs.AmongLemmas.{rewrite_bytes, change_bytes}
 use Rattle.indicatif_term.specs.Inside.MoveBytes.{back_bytes, lines_bytes}
 use Rattle.indicatif_term.specs.Inside.Fills.{last_of}
@@ -84,7 +84,7 @@ module _ (w h : ℕ) (opening : Screen) (above : List (List Cell)) where
             ∙ sym (looks-append (rows_of w (chars line)) (lines_rows w (lines ++ y ∷ [])))
 
   -- lines that all stay are what is seen
-  left_looks : (c : Change) (stood : List (List Cell)) (line : List ℕ) → stays c ≡ true → Becomes w c stood line → stood ≡ looks_of (rows_of w (chars line))
+  left_looks : (c : LineChange) (stood : List (List Cell)) (line : List ℕ) → stays c ≡ true → Becomes w c stood line → stood ≡ looks_of (rows_of w (chars line))
   left_looks Leave stood line e b = b
   left_looks (Within k es) stood line e b = absurd (cc)
   left_looks Whole stood line e b = absurd (cc)

@@ -26,7 +26,7 @@ use Rattle.indicatif_term.specs.declared.target.lines.Segment.{Segment}
 use Rattle.indicatif_text.specs.declared.refusal.Refusal.{Refusal}
 use Rattle.indicatif_term.specs.Calls.{TermView}
 use Rattle.indicatif_term.specs.Engines.{Counted, Fits, failure_kind, lists_after}
-use Rattle.indicatif_term.specs.Inside.Remembered.{Draws, Remembers, StandAbove, IsNext}
+use Rattle.indicatif_term.specs.Inside.Remembered.{DrawWrites, Remembers, StandAbove, IsNext}
 use Rattle.indicatif_term.specs.declared.engine.Engine.{Engine}
 use Rattle.indicatif_term.proofs.ShownRowLemmas.{lines_rows, frame_rows, frame_lines_le, frame_chars}
 use Rattle.indicatif_term.proofs.CountLemmas.{settled-rows, passed-rows, same_blanks_log}
@@ -166,8 +166,8 @@ draw_changes w h l c next pass blanks bottom frame plan ls room front last more 
 
 -- ---- what is written, counted
 
-pub counted_by : {T : Type 0} (bytes : List ℕ) (v v' : TermView) (next : Counts) (shown : Remembered) (r : Result Unit Refusal) (new : Engine T) → Remembers next shown r new → Draws bytes v v' r →
-    Counted v v' r
+pub counted_by : {T : Type 0} (bytes : List ℕ) (v v' : TermView) (next : Counts) (shown : Remembered) (r : Result Unit Refusal) (new : Engine T) → Remembers next shown r new →
+    DrawWrites bytes v v' r → Counted v v' r
 counted_by bytes v v' next shown (Ok u) new g q = record { columns_stay = q.columns_are; rows_stay = q.rows_are; faults_are = q.faults_are; kind_is = q.kind_is }
 counted_by bytes v v' next shown (Err x) new g q =
     let broke : is_fault x ≡ true = ap is_fault g.0.1 in

@@ -6,7 +6,7 @@ use Rattle.std.proofs.lemmas.Bool.{cases_Bool, false≢true}
 use Rattle.std.proofs.lemmas.List.{take_more, map-append, take-append-drop}
 use Rattle.indicatif_term.specs.Calls.{TermView, LeadsOn, BreaksOff, UP, DOWN, RIGHT, move_bytes}
 use Rattle.indicatif_term.specs.Inside.MoveBytes.{Sends}
-use Rattle.indicatif_term.specs.Inside.Changing.{Change, Leave, Within, Whole, PlacedLine, placed_height, emptied_bytes, changed_bytes, step_bytes, step_down, walk_bytes, walk_down, frame_bytes, ending, ending_by, last_bytes, stays, all_stay, among_bytes, ends_plainly, last_byte}
+use Rattle.indicatif_term.specs.Inside.Changing.{LineChange, Leave, Within, Whole, PlacedLine, placed_height, emptied_bytes, changed_bytes, step_bytes, step_down, walk_bytes, walk_down, frame_bytes, ending, ending_by, last_bytes, stays, all_stay, among_bytes, ends_plainly, last_byte}
 use Rattle.std.proofs.Math.Utf8.{encode}
 use Rattle.indicatif_term.proofs.LastCharLemmas.{last_is}
 use Rattle.indicatif_term.specs.Inside.Parting.{change_of, IsReady}
@@ -19,7 +19,7 @@ use Rattle.indicatif_term.proofs.AmongLemmas.{among_parts}
 use Rattle.indicatif_term.proofs.RememberedLemmas.{height_push, up_to_last, height_to_last}
 use Rattle.indicatif_term.proofs.EditWalkLemmas.{height-append, walk-append, down-append}
 
-step_low : (c : Change) (down n m : ℕ) → down ≤ m → 1 ≤ m → step_down c down n ≤ m + n
+step_low : (c : LineChange) (down n m : ℕ) → down ≤ m → 1 ≤ m → step_down c down n ≤ m + n
 step_low Leave down n m a b = omega arith
 step_low (Within k es) down n m a b = omega arith
 step_low Whole down n m a b = omega arith
@@ -135,7 +135,7 @@ in_four a b c d = in_three a b (c ++ d) ∙ in_three (a ++ b) c d
 -- the rows of a last line stay as many
 ending_rows : (w : ℕ) (p : PlacedLine) → (ending w p).rows ≡ p.rows
 ending_rows w p = by_change p.change where
-  by_change : (c : Change) → (ending_by c w p).rows ≡ p.rows
+  by_change : (c : LineChange) → (ending_by c w p).rows ≡ p.rows
   by_change Leave = elim (cases_Bool (nat_lt p.last w)) [
     | inl is ↦ rw is refl
     | inr full ↦ elim (cases_Bool (ends_plainly p.line)) [ inl plain ↦ rw (full, plain) refl | inr other ↦ rw (full, other) refl ]
@@ -149,7 +149,7 @@ pub left_bytes : (w down : ℕ) (p : PlacedLine) → p.change ≡ Leave → nat_
 left_bytes w down p e full plain =
     let c = slice_index p.line (length p.line - 1) in
     let front = λ (x : List ℕ). move_bytes DOWN (down + p.rows - 1) ++ ((0x0D ∷ []) ++ (move_bytes RIGHT (w - 1) ++ x)) in
-    let bytes = λ (k : Change). let q = ending_by k w p in step_bytes q.change down q.rows q.line in
+    let bytes = λ (k : LineChange). let q = ending_by k w p in step_bytes q.change down q.rows q.line in
     let left : bytes Leave ≡ front (encode c ++ []) = rw (full, plain) refl in
     ap bytes e ∙ left ∙ ap front (append-nil (encode c) ∙ sym (last_is p.line plain))
 

@@ -6,14 +6,14 @@ ghost use Rattle.indicatif_term.specs.Calls.{move_bytes, line_bytes, clear_bytes
 ghost use Rattle.indicatif_term.specs.Calm.{Character, Colours, Move, Empty, stroke_bytes, is_quiet};
 ghost use Rattle.indicatif_term.specs.Shows.{look, looks_of};
 ghost use Rattle.indicatif_term.specs.Lines.{logged_lines};
-ghost use Rattle.indicatif_term.specs.Memory.{move_text, quoted_char, written_text};
+ghost use Rattle.indicatif_term.specs.Cells.{move_text, quoted_char, written_text};
 ghost use Rattle.indicatif_term.specs.Terminal.{after};
 ghost use Rattle.indicatif_term.specs.CellCases.{contents_after, cursor_after, picture_after, ESC};
 ghost use Rattle.indicatif_term.specs.Cases.{LongLine, ThreeOnTwo, LogAbove, AtTheBottom, KeptScrollsAway, ClearLeavesAbove, FatesOfBars, LogScrolls};
 ghost use Rattle.indicatif_term.specs.ModeCases.{OFF, ON, mode_picture, mode_cursor, wraps_then};
 ghost use Rattle.indicatif_term.specs.Resizes.{resized_terminal};
 ghost use Rattle.indicatif_term.specs.ResizeCases.{fed, picture_at, cursor_at, NotJoined, LiveRowsScrollAway, LogIsCut, RowsBelowDropped, ReachedBelow, KeptRowsScrollAway};
-ghost use Rattle.indicatif_term.specs.Inside.Recutting.{piece_text, texts_then};
+ghost use Rattle.indicatif_term.specs.Inside.Recutting.{glyphs_text, texts_then};
 ghost use Rattle.indicatif_term.specs.Inside.Owned.{run_length, through};
 ghost use Rattle.indicatif_term.specs.Target.{is_dumb};
 ghost use Rattle.indicatif_term.specs.LimiterCases.{TwentyAtOnce, WholeMilliseconds, NoMoreInHand, NoneBefore};
@@ -175,7 +175,7 @@ fn cut_lines()
     ensures spaces { texts_then 9 2 (codes " a b  ") ≡ (codes " a" ∷ codes " b" ∷ []) ∷ [] }
     ensures empty { texts_then 4 2 [] ≡ ([] ∷ []) ∷ [] }
     ensures colours { texts_then 4 3 (ESC ++ codes "[1mabc" ++ ESC ++ codes "[0md") ≡ (codes "abc" ∷ codes "d" ∷ []) ∷ [] }
-    ensures escape { piece_text (record { base = 0x61; joiners = 0x1B ∷ [] } ∷ record { base = 0x5B; joiners = [] } ∷ []) ≡ codes "a" ++ ESC ++ ESC ++ codes "[m[" }
+    ensures escape { glyphs_text (record { base = 0x61; joiners = 0x1B ∷ [] } ∷ record { base = 0x5B; joiners = [] } ∷ []) ≡ codes "a" ++ ESC ++ ESC ++ codes "[m[" }
     ensures too_wide { texts_then 4 1 (codes "a" ++ 0xE5 ∷ 0x9B ∷ 0xBD ∷ codes "b") ≡ (codes "a" ∷ codes "b" ∷ []) ∷ [] }
 {}
 

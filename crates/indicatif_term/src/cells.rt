@@ -13,7 +13,7 @@
 //!   the next, and the rows as texts. In its folder `resizing`: another size.
 //! - `row`: `Row`, a row of cells: what is written into it at a column, which wide characters that empties, and its text without the blanks
 //!   at its end.
-//! - `run`: `Run`, characters of one column that are written into a row together: printable ASCII, or one character repeated.
+//! - `run`: `NarrowRun`, characters of one column that are written into a row together: printable ASCII, or one character repeated.
 //! - `cell`: `Cell`: is it empty, blank, written, or a further cell of a wide character?
 //! - `joiners`: `Joiner`, a zero-width character in the one list of a row: it is stored, and those of a character are found by the last
 //!   one's place.
@@ -26,7 +26,7 @@ ghost use Rattle.indicatif_term.specs.Terminal.{after, blank_terminal};
 ghost use Rattle.indicatif_term.specs.Pictures.{contents_text, has_contents, picture_text};
 ghost use Rattle.indicatif_term.specs.Calls.{Writes, move_bytes, line_bytes, clear_bytes, UP, DOWN, RIGHT, LEFT};
 ghost use Rattle.indicatif_term.specs.Resizes.{Resized, has_size, resized_terminal};
-ghost use Rattle.indicatif_term.specs.Memory.{view_of, Records, move_text, written_text};
+ghost use Rattle.indicatif_term.specs.Cells.{view_of, Records, move_text, written_text};
 ghost use Rattle.indicatif_term.specs.Inside.Feeding.{ReadsBeginning};
 
 mod call_log;
@@ -90,7 +90,7 @@ impl Drop for InMemoryTerm {
 }
 
 impl Model for InMemoryTerm {
-    ghost use Rattle.indicatif_term.specs.Memory.{MemoryTerm};
+    ghost use Rattle.indicatif_term.specs.Cells.{MemoryTerm};
 
     ghost Value = { MemoryTerm };
 

@@ -135,7 +135,7 @@ impl<T: TermLike + Drop> Engine<T> {
     ghost use Rattle.indicatif_term.specs.Lines.{bar_lines, all_lines, are_plain, logged_lines, text_lines, is_fault};
     ghost use Rattle.indicatif_term.specs.Inside.Plans.{frame_lines, text_above};
     ghost use Rattle.indicatif_term.specs.Engines.{engine_moves, engine_term, Fits, is_failure, Answers, Counted, Paints, lists_after};
-    ghost use Rattle.indicatif_term.specs.Inside.Remembered.{Draws, Remembers, IsNext, IsNothing};
+    ghost use Rattle.indicatif_term.specs.Inside.Remembered.{DrawWrites, Remembers, IsNext, IsNothing};
     ghost use Rattle.indicatif_term.specs.Inside.Layouts.{ArePut, CanPut};
     ghost use Rattle.indicatif_term.specs.Inside.Owned.{kept_below};
     ghost use Rattle.indicatif_term.specs.Remembered.{live_lines};
@@ -449,7 +449,7 @@ impl<T: TermLike + Drop> Engine<T> {
     fn rest(&mut self, next: Counts, laid: &mut Laid) -> Result<(), Refusal>
         requires sound { self.old.failed ≡ false }
         requires suits { ∥ ((l : Lists) × Suits next false self.old.shown l) ∥₁ }
-        ensures draws { Draws [] (T.view (engine_term self.old)) (T.view (engine_term self.new)) result }
+        ensures draws { DrawWrites [] (T.view (engine_term self.old)) (T.view (engine_term self.new)) result }
         ensures remembers { Remembers next self.old.shown result self.new }
         ensures moves { engine_moves self.new ≡ engine_moves self.old }
     {
@@ -464,7 +464,7 @@ impl<T: TermLike + Drop> Engine<T> {
         requires sound { self.old.failed ≡ false }
         requires within { from ≤ length self.old.shown.lines }
         requires can { CanWrite writing.now.manner (drop from self.old.shown.lines) }
-        ensures draws { Draws (writing_bytes writing.now (text_above text.entry) (drop from self.old.shown.lines))
+        ensures draws { DrawWrites (writing_bytes writing.now (text_above text.entry) (drop from self.old.shown.lines))
             (T.view (engine_term self.old)) (T.view (engine_term self.new)) result }
         ensures remembers { Remembers self.old.counts self.old.shown result self.new }
         ensures moves { engine_moves self.new ≡ engine_moves self.old }
@@ -483,7 +483,7 @@ impl<T: TermLike + Drop> Engine<T> {
     fn ended(&mut self, written: Result<(), ErrorKind>) -> Result<(), Refusal>
         requires sound { self.old.failed ≡ false }
         ensures draws { (bytes : List ℕ) (v : TermView) → Sends bytes v (T.view (engine_term self.old)) written →
-            Draws bytes v (T.view (engine_term self.new)) result }
+            DrawWrites bytes v (T.view (engine_term self.new)) result }
         ensures remembers { Remembers self.old.counts self.old.shown result self.new }
         ensures moves { engine_moves self.new ≡ engine_moves self.old }
     {
@@ -643,7 +643,7 @@ struct Before {
 }
 
 impl Before {
-    ghost use Rattle.indicatif_term.specs.Inside.Remembered.{HasRoom, CanMove, Stands};
+    ghost use Rattle.indicatif_term.specs.Inside.Remembered.{HasRoom, CanMoveOver, Stands};
     ghost use Rattle.indicatif_term.specs.Inside.Writings.{IsChosen, whole_writing};
     ghost use Rattle.indicatif_term.specs.Inside.Changing.{placed_height};
     ghost use Rattle.indicatif_term.specs.Inside.Places.{IsWithin};
@@ -668,7 +668,7 @@ impl Before {
     /// Whether lines can be written over the live rows by moves alone, if `set_move_cursor` was told so.
     fn can_move(&self, next: &Counts, lines: &[StandingLine], width: usize) -> bool
         requires { self.now.rows ≡ placed_height (placed lines.now) }
-        ensures { IsTrue result → CanMove self.now.counts self.now.failed self.now.width next.now width lines.now }
+        ensures { IsTrue result → CanMoveOver self.now.counts self.now.failed self.now.width next.now width lines.now }
     {
         let live = self.counts.live;
         if !self.moves || self.failed || next.below || lines.is_empty() {

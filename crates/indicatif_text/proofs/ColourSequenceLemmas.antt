@@ -1,10 +1,10 @@
 -- What stands at the front of a text: a colour sequence in bytes as in characters, and characters of as many columns that are passed at once.
 use Rattle.std.proofs.Common.{replicate, ◌*◌, ◌≡◌, ℕ, zero, suc, ◌+◌, ◌-◌, ◌<◌, ◌≤◌, Bool, true, false, List, [], ◌∷◌, ◌++◌, length, take, drop, refl, sym, ◌∙◌, ap, subst, arith, eqb, Option, Some, None, inl, inr, get_or, append-nil, ◌⊎◌, take-append-drop, length-append, append_assoc, if◌then◌else◌, ◌&&◌}
 use Rattle.std.specs.Prelude.{◌==◌, unwrap_or, option_map, chars, is_some}
-use Rattle.std.specs.Str.{IsUtf8, IsAscii, IsCharBoundary}
+use Rattle.std.specs.Str.{IsUtf8, IsAscii}
 use Rattle.std.proofs.Math.Utf8.{encode, encodes}
-use Rattle.std.proofs.Math.Seq.{drop-append-add, drop-append_seam, take-append_seam}
-use Rattle.std.proofs.lemmas.Str.{inside_one, length-encode, len_utf8_bounds, encodes-chars, chars_past_char, chars-append, chars-IsAscii, IsUtf8-from_ascii, IsUtf8-past_char, encode_ascii, IsCharBoundary-at_seam}
+use Rattle.std.proofs.Math.Seq.{drop-append_seam, take-append_seam}
+use Rattle.std.proofs.lemmas.Str.{inside_one, length-encode, len_utf8_bounds, encodes-chars, chars_past_char, chars-append, chars-IsAscii, IsUtf8-from_ascii, IsUtf8-past_char, encode_ascii}
 use Rattle.std.proofs.lemmas.List.{length-take-le, drop_all, length-replicate, take-append-le}
 use Rattle.std.proofs.lemmas.Bool.{cond_both, cases_lt, ne_eqb}
 use Rattle.std.proofs.lemmas.Bool.Decides.{nat_tests}
@@ -28,17 +28,8 @@ module _ (text rest : List ℕ) (count : ℕ) (s : Scanned text count rest) wher
   pub scanned_front : take count text ≡ s.front
   scanned_front = ap (λ n. take n text) (sym s.many) ∙ ap (λ t. take (length s.front) t) s.whole ∙ take-append_seam s.front rest
 
-  pub scanned_rest : drop count text ≡ rest
-  scanned_rest = ap (λ n. drop n text) (sym s.many) ∙ ap (λ t. drop (length s.front) t) s.whole ∙ drop-append_seam s.front rest
-
   pub scanned_ascii : IsAscii (take count text)
   scanned_ascii = subst IsAscii (sym scanned_front) s.ascii
-
-  pub scanned_fits : count ≤ length text
-  scanned_fits = omega (arith, s.many, ap length s.whole, length-append s.front rest)
-
-  pub scanned_boundary : IsCharBoundary text count
-  scanned_boundary = subst (IsCharBoundary text) s.many (IsCharBoundary-at_seam text s.front rest s.whole s.utf8)
 
   pub scanned_chars : chars text ≡ s.front ++ chars rest
   scanned_chars = ap chars s.whole ∙ chars-append s.front rest (IsUtf8-from_ascii s.front s.ascii) ∙ ap (λ x. x ++ chars rest) (chars-IsAscii s.front s.ascii)
@@ -272,7 +263,7 @@ times_more (suc n) unit rest =
     let same : suc (n + 1) ≡ suc n + 1 = omega arith in
     ap (λ x. unit ++ x) (times_more n unit rest) ∙ ap (λ k. times_then k unit rest) same
 
--- so many times, and so many more
+-- a number of times, and a number of times more
 pub times_both : (n m : ℕ) (unit rest : List ℕ) → times_then n unit (times_then m unit rest) ≡ times_then (n + m) unit rest
 times_both zero m unit rest = ap (λ k. times_then k unit rest) (let same : m ≡ zero + m = omega arith in same)
 times_both (suc n) m unit rest =
@@ -287,7 +278,7 @@ take_past : (m : ℕ) (xs ys : List ℕ) → take (length xs + m) (xs ++ ys) ≡
 take_past m [] ys = ap (λ k. take k ys) (let same : 0 + m ≡ m = omega arith in same)
 take_past m (x ∷ xs) ys = ap (λ k. take k (x ∷ (xs ++ ys))) (let same : suc (length xs) + m ≡ suc (length xs + m) = omega arith in same) ∙ ap (λ zs. x ∷ zs) (take_past m xs ys)
 
--- bytes that are those from three before them on are these three so many times
+-- bytes that are those from three before them on repeat these three
 periodic : (n : ℕ) (unit bytes : List ℕ) → length unit ≡ 3 → bytes ≡ take (3 * n) (unit ++ bytes) → bytes ≡ times_then n unit []
 periodic zero unit bytes three e = e
 periodic (suc n) unit bytes three e =
@@ -309,18 +300,7 @@ seventeen unit bytes rest three e fits same =
     let times : front ≡ times_then 16 unit [] = periodic 16 unit front three begins in
     e ∙ ap (λ x. unit ++ x) (sym whole ∙ ap (λ x. x ++ back) times ∙ times_append 16 unit [] back)
 
--- what follows three bytes so many times
-pub times_rest : (n : ℕ) (unit rest : List ℕ) → length unit ≡ 3 → drop (3 * n) (times_then n unit rest) ≡ rest
-times_rest zero unit rest three = refl
-times_rest (suc n) unit rest three =
-    let same : 3 * suc n ≡ length unit + 3 * n = omega (arith, three) in
-    ap (λ k. drop k (unit ++ times_then n unit rest)) same ∙ drop-append-add unit (times_then n unit rest) (3 * n) ∙ times_rest n unit rest three
-
-pub times_length : (n : ℕ) (unit rest : List ℕ) → length unit ≡ 3 → length (times_then n unit rest) ≡ 3 * n + length rest
-times_length zero unit rest three = omega arith
-times_length (suc n) unit rest three = omega (arith, three, length-append unit (times_then n unit rest), times_length n unit rest three)
-
--- the bytes of a character so many times are that character so many times
+-- the bytes of a repeated character are that character, repeated
 pub record RepeatsChar (c n : ℕ) (bs rest : List ℕ) : Type 0 where
   pub chars_are : chars bs ≡ replicate n c ++ chars rest
   pub utf8 : IsUtf8 rest

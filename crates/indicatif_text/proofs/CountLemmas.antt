@@ -6,7 +6,7 @@ use Rattle.std.proofs.lemmas.Fmt.{decimal_digit, decimal_step_wide, length-decim
 use Rattle.std.specs.Fmt.{decimal}
 use Rattle.indicatif_text.specs.Format.{last_digits, with_commas, human_count}
 
--- a comma stands before so many digits
+-- a comma stands before this number of digits
 abbrev pub stands_before : ℕ → Bool
 stands_before n = nat_lt 0 n && (n % 3 == 0)
 

@@ -9,10 +9,10 @@ use Rattle.std.specs.Char.{IsScalar}
 use Rattle.indicatif_text.specs.declared.template.TemplateError.{TemplateError}
 use Rattle.indicatif_text.specs.declared.template.TemplateError.TheVariants.{Memory}
 use Rattle.indicatif_text.specs.Template.{TemplatePart, LiteralText, TemplatePiece, Char, SpacedBrace, Front, Takes, Stops, after_run, front, Refuses, here, IsRefused}
-use Rattle.indicatif_text.specs.declared.template.stored_parts.Kind.TheVariants.{Literal}
+use Rattle.indicatif_text.specs.declared.template.stored_parts.PartKind.TheVariants.{Literal}
 use Rattle.indicatif_text.specs.declared.template.stored_parts.StoredPart.{StoredPart}
-use Rattle.indicatif_text.specs.Inside.StoredParts.{AreIn}
-use Rattle.indicatif_text.specs.Inside.Draft.{Sketch, TakesIn, literal_part, fixed_sketch, closed_sketch, parted_sketch, with_run, added, GoesOn}
+use Rattle.indicatif_text.specs.Inside.StoredParts.{LieIn}
+use Rattle.indicatif_text.specs.Inside.Draft.{Sketch, TakesIn, literal_part, fixed_sketch, closed_sketch, parted_sketch, with_run, added, ReadsOn}
 use Rattle.indicatif_text.specs.Inside.Spans.{is_literal_char}
 use Rattle.indicatif_text.proofs.OptionLemmas.{some_text}
 use Rattle.indicatif_text.proofs.PrefixLemmas.{left_fails}
@@ -43,7 +43,7 @@ parted_literal s bs u some e =
     let part = some_text (List TemplatePart) (λ cs. LiteralText cs ∷ []) literal_part (λ c cs. refl) bs (s.fixed ++ s.run) u e (sym (ne_eqb (length bs) 0 (omega (arith, some)))) in
     ap (λ parts. record { done = s.done ++ parts; fixed = []; run = [] }) part
 
--- ---- a literal text of which so many bytes in front are kept
+-- ---- a literal text of which a number of bytes in front are kept
 
 module _ (bs : List ℕ) (n : ℕ) (u : IsUtf8 bs) (b : IsCharBoundary bs n) where
   -- what is kept and the run are the whole text
@@ -107,21 +107,21 @@ spaced_sketch s opened named spaced fixed key space a b c d =
 -- ---- what is read
 
 -- what a run of literal characters leads to
-pub reads_run : (s t : Sketch) (text run rest : List ℕ) → t ≡ with_run s run → run ≡ take_while is_literal_char text → rest ≡ after_run is_literal_char text → GoesOn s text t rest
+pub reads_run : (s t : Sketch) (text run rest : List ℕ) → t ≡ with_run s run → run ≡ take_while is_literal_char text → rest ≡ after_run is_literal_char text → ReadsOn s text t rest
 reads_run s t text run rest e r a =
     let led = leads_run s text in
-    let by_run : GoesOn s text (with_run s run) (after_run is_literal_char text) = subst (λ x. GoesOn s text (with_run s x) (after_run is_literal_char text)) (sym r) led in
-    let by_sketch : GoesOn s text t (after_run is_literal_char text) = subst (λ x. GoesOn s text x (after_run is_literal_char text)) (sym e) by_run in
-    subst (λ x. GoesOn s text t x) (sym a) by_sketch
+    let by_run : ReadsOn s text (with_run s run) (after_run is_literal_char text) = subst (λ x. ReadsOn s text (with_run s x) (after_run is_literal_char text)) (sym r) led in
+    let by_sketch : ReadsOn s text t (after_run is_literal_char text) = subst (λ x. ReadsOn s text x (after_run is_literal_char text)) (sym e) by_run in
+    subst (λ x. ReadsOn s text t x) (sym a) by_sketch
 
 -- and the piece behind it
-pub reads_piece : (s t u : Sketch) (text behind after rest : List ℕ) (c : ℕ) (p : TemplatePiece) → GoesOn s text t behind → behind ≡ c ∷ after → front c after ≡ Takes rest p
-    → u ≡ added t p → GoesOn s text u rest
+pub reads_piece : (s t u : Sketch) (text behind after rest : List ℕ) (c : ℕ) (p : TemplatePiece) → ReadsOn s text t behind → behind ≡ c ∷ after → front c after ≡ Takes rest p
+    → u ≡ added t p → ReadsOn s text u rest
 reads_piece s t u text behind after rest c p led e f is =
-    let here : GoesOn t (c ∷ after) (added t p) rest = leads_piece t c after rest p f in
-    subst (λ x. GoesOn s text x rest) (sym is) (leads_more (subst (λ x. GoesOn s text t x) e led) here)
+    let here : ReadsOn t (c ∷ after) (added t p) rest = leads_piece t c after rest p f in
+    subst (λ x. ReadsOn s text x rest) (sym is) (leads_more (subst (λ x. ReadsOn s text t x) e led) here)
 
-pub refused_here : (s t : Sketch) (text behind after place : List ℕ) (c : ℕ) (x : TemplateError) → GoesOn s text t behind → behind ≡ c ∷ after → front c after ≡ Stops place x → IsRefused text x
+pub refused_here : (s t : Sketch) (text behind after place : List ℕ) (c : ℕ) (x : TemplateError) → ReadsOn s text t behind → behind ≡ c ∷ after → front c after ≡ Stops place x → IsRefused text x
 refused_here s t text behind after place c x led e f = (place, led.refuses place x (subst (λ m. Refuses m place x) (sym e) (here f)))
 
 pub read_shorter : (text behind after rest : List ℕ) (c : ℕ) (p : TemplatePiece) → behind ≡ after_run is_literal_char text → behind ≡ c ∷ after → front c after ≡ Takes rest p
@@ -129,20 +129,25 @@ pub read_shorter : (text behind after rest : List ℕ) (c : ℕ) (p : TemplatePi
 read_shorter text behind after rest c p a e f =
     omega (arith, rest_shorter c after f, ap length e, ap length a, length-drop (prefix_len is_literal_char text) text)
 
--- what was taken up leads on
-module _ (s t u : Sketch) (text behind after : List ℕ) (c : ℕ) (f : Front TemplatePiece) (same : front c after ≡ f) (led : GoesOn s text t behind) (e : behind ≡ c ∷ after) where
-  pub taken_leads : (r : Result (Bor (List ℕ)) TemplateError) → TakesIn f t u r → IfOk r (λ rest. GoesOn s text u (chars rest.now))
-  taken_leads (Ok rest) h = reads_piece s t u text behind after (chars rest.now) c h.0 led e (same ∙ h.1) h.2
-  taken_leads (Err x) h = tt
+-- what an answer says of a text whose front it was: how the sketch leads on, why it was refused, and that less is left
+pub record IsReadBy (s u : Sketch) (text : List ℕ) (r : Result (Bor (List ℕ)) TemplateError) : Type 0 where
+  pub leads : IfOk r (λ rest. ReadsOn s text u (chars rest.now))
+  pub refused : IfErr r (λ x. (x ≡ Memory) ⊎ IsRefused text x)
+  pub shorter : IfOk r (λ rest. 0 < length text → length (chars rest.now) < length text)
 
-  pub taken_refused : (r : Result (Bor (List ℕ)) TemplateError) → TakesIn f t u r → IfErr r (λ x. (x ≡ Memory) ⊎ IsRefused text x)
-  taken_refused (Ok rest) h = tt
-  taken_refused (Err x) h = elim h [ inl memory ↦ inl memory | inr stops ↦ inr (refused_here s t text behind after stops.0 c x led e (same ∙ stops.1)) ]
-
-  pub taken_shorter : behind ≡ after_run is_literal_char text → (r : Result (Bor (List ℕ)) TemplateError) → TakesIn f t u r →
-      IfOk r (λ rest. 0 < length text → length (chars rest.now) < length text)
-  taken_shorter a (Ok rest) h = λ _. read_shorter text behind after (chars rest.now) c h.0 a e (same ∙ h.1)
-  taken_shorter a (Err x) h = tt
+-- what was taken up behind a run
+pub taken_read : (s t u : Sketch) (text run behind after : List ℕ) (c : ℕ) (f : Front TemplatePiece) → front c after ≡ f → t ≡ with_run s run → run ≡ take_while is_literal_char text
+    → behind ≡ after_run is_literal_char text → behind ≡ c ∷ after → (r : Result (Bor (List ℕ)) TemplateError) → TakesIn f t u r → IsReadBy s u text r
+taken_read s t u text run behind after c f same with_it is left e (Ok rest) h = record {
+  leads = reads_piece s t u text behind after (chars rest.now) c h.0 (reads_run s t text run behind with_it is left) e (same ∙ h.1) h.2;
+  refused = tt;
+  shorter = λ _. read_shorter text behind after (chars rest.now) c h.0 left e (same ∙ h.1);
+}
+taken_read s t u text run behind after c f same with_it is left e (Err x) h = record {
+  leads = tt;
+  refused = elim h [ inl memory ↦ inl memory | inr stops ↦ inr (refused_here s t text behind after stops.0 c x (reads_run s t text run behind with_it is left) e (same ∙ stops.1)) ];
+  shorter = tt;
+}
 
 -- what is taken up of a front is taken up of another that is the same
 pub taken_same : (f g : Front TemplatePiece) (s t : Sketch) (r : Result (Bor (List ℕ)) TemplateError) → f ≡ g → TakesIn f s t r → TakesIn g s t r
@@ -157,7 +162,7 @@ is_line text after c e no_open no_close = only_line c (left_fails is_literal_cha
 
 -- ---- what a draft's bytes fulfil: those of its parts, and where the literal text begins
 
-module _ (bs : List ℕ) (start fixed : ℕ) (u : IsUtf8 bs) (b : IsCharBoundary bs start) (k : IsCharBoundary (drop start bs) fixed) (parts : List StoredPart) (all : AreIn (take start bs) parts) where
+module _ (bs : List ℕ) (start fixed : ℕ) (u : IsUtf8 bs) (b : IsCharBoundary bs start) (k : IsCharBoundary (drop start bs) fixed) (parts : List StoredPart) (all : LieIn (take start bs) parts) where
   -- more text
   pub pushed_front : (more : List ℕ) → take start (bs ++ more) ≡ take start bs
   pushed_front more = take-append-le start bs more b.0
@@ -166,10 +171,10 @@ module _ (bs : List ℕ) (start fixed : ℕ) (u : IsUtf8 bs) (b : IsCharBoundary
   pushed_behind more = drop-append-le start bs more b.0
 
   -- whether memory was refused or not
-  pub pushed_in : (ok : Bool) (after more : List ℕ) → after ≡ (if ok then bs ++ more else bs) → AreIn (take start after) parts
+  pub pushed_in : (ok : Bool) (after more : List ℕ) → after ≡ (if ok then bs ++ more else bs) → LieIn (take start after) parts
   pushed_in ok after more e =
-      subst (λ xs. AreIn (take start xs) parts) (sym e)
-      (cond_both ok (bs ++ more) bs (λ xs. AreIn (take start xs) parts) (λ _. subst (λ x. AreIn x parts) (sym (pushed_front more)) all) (λ _. all))
+      subst (λ xs. LieIn (take start xs) parts) (sym e)
+      (cond_both ok (bs ++ more) bs (λ xs. LieIn (take start xs) parts) (λ _. subst (λ x. LieIn x parts) (sym (pushed_front more)) all) (λ _. all))
 
   pub pushed_whole : (ok : Bool) (after more : List ℕ) → after ≡ (if ok then bs ++ more else bs) → IsUtf8 more → IsCharBoundary (drop start after) fixed
   pushed_whole ok after more e w =

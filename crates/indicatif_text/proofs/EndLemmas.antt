@@ -3,8 +3,8 @@ use Rattle.std.proofs.Common.{◌≡◌, ℕ, zero, suc, ◌<◌, inl, inr, Bool
 use Rattle.std.specs.Prelude.{◌==◌, ◌&&◌, not, bit_and, if◌then◌else◌}
 use Rattle.std.proofs.lemmas.Bool.{cases_Bool, and_parts, eqb-true, eq-eqb, false≢true}
 use Rattle.indicatif_text.specs.declared.spans.TheConstants.{ENDS}
-use Rattle.indicatif_text.specs.declared.spans.Span.{Span}
-use Rattle.indicatif_text.specs.declared.spans.Span.TheVariants.{Literal, Key, Word}
+use Rattle.indicatif_text.specs.declared.spans.CharacterClass.{CharacterClass}
+use Rattle.indicatif_text.specs.declared.spans.CharacterClass.TheVariants.{Literal, Key, Word}
 use Rattle.indicatif_text.specs.declared.spans.Words.TheVariants.{All, Style, Alternative}
 use Rattle.indicatif_text.specs.Inside.Spans.{belongs, bit_of}
 
@@ -37,7 +37,7 @@ from_each p (suc n) k e h =
       | inr other ↦ from_each p n k both.1 (below_last k n h (λ e. false≢true (sym other ∙ eq-eqb k n e)))
     ]
 
-pub ends_right : (run : Span) (byte : ℕ) → byte < 256 → (bit_and (get_or ENDS.now byte 0) (bit_of run) == 0) ≡ belongs run byte
+pub ends_right : (run : CharacterClass) (byte : ℕ) → byte < 256 → (bit_and (get_or ENDS.now byte 0) (bit_of run) == 0) ≡ belongs run byte
 unfolding each_below same
 ends_right Literal byte h = from_same _ _ (from_each (λ b. same (bit_and (get_or ENDS.now b 0) 1 == 0) (belongs Literal b)) 256 byte refl h)
 ends_right Key byte h = from_same _ _ (from_each (λ b. same (bit_and (get_or ENDS.now b 0) 2 == 0) (belongs Key b)) 256 byte refl h)

@@ -2,14 +2,14 @@
 use Rattle.std.proofs.Common.{◌≡◌, ℕ, ◌+◌, ◌-◌, ◌*◌, ◌<◌, ◌≤◌, true, false, List, [], ◌∷◌, refl, sym, ◌∙◌, ap, subst, Some, None}
 use Rattle.std.specs.Prelude.{◌==◌, ◌||◌, filter, take_while, unwrap_or}
 use Rattle.std.specs.Char.{is_ascii_digit}
-use Rattle.std.proofs.Math.Bool.{or-true, or-false}
+use Rattle.std.proofs.Math.Bool.{or-true}
 use Rattle.std.proofs.lemmas.Bool.{false≢true}
 use Rattle.indicatif_text.specs.declared.refusal.TemplateState.{TemplateState}
 use Rattle.indicatif_text.specs.declared.refusal.TemplateState.TheVariants.{Width}
 use Rattle.indicatif_text.specs.declared.template.reading.Mix.{Mix}
-use Rattle.indicatif_text.specs.Inside.Reading.{IsMix, IsMixBefore, TakesUp, number_after}
+use Rattle.indicatif_text.specs.Inside.Reading.{IsMixBefore, TakesUp, number_after}
 use Rattle.indicatif_text.specs.Template.{after_run, is_width_char, is_too_wide, state_after}
-use Rattle.indicatif_text.proofs.PrefixLemmas.{run_more, run_ends, left_more, left_ends}
+use Rattle.indicatif_text.proofs.PrefixLemmas.{run_more, left_more}
 use Rattle.indicatif_text.proofs.OptionLemmas.{number_from_none, stays_wide, exclamation_here, exclamation_later, number_digit, number_other, below_wide}
 
 state_stays : (left : List ℕ) → state_after Width left ≡ Width
@@ -24,15 +24,6 @@ mix_begins state run = record {
   width_is = λ _. sym (number_from_none (filter is_ascii_digit run));
   truncate_is = refl;
   state_is = refl;
-}
-
--- behind the last
-pub mix_ends : (state : TemplateState) (run : List ℕ) (mix : Mix) → IsMixBefore state run mix [] → IsMix state run mix
-mix_ends state run mix b = record {
-  too_large_is = sym (or-false mix.too_large) ∙ ap (λ x. mix.too_large || x) (sym b.fits) ∙ b.too_large_is;
-  width_is = b.width_is;
-  truncate_is = sym (or-false mix.truncate) ∙ b.truncate_is;
-  state_is = b.state_is;
 }
 
 module _ (mix : Mix) (c : ℕ) where
@@ -90,17 +81,3 @@ module _ (state : TemplateState) (text : List ℕ) (mix : Mix) (rest : List ℕ)
 
     pub past_more : is_width_char c ≡ true → after_run is_width_char text ≡ after_run is_width_char cs
     past_more passes = past ∙ ap (after_run is_width_char) e ∙ left_more is_width_char c cs passes
-
-    pub mix_stops : is_width_char c ≡ false → IsMix state (take_while is_width_char text) mix
-    mix_stops fails =
-        mix_ends state (take_while is_width_char text) mix
-        (subst (IsMixBefore state (take_while is_width_char text) mix) (ap (take_while is_width_char) e ∙ run_ends is_width_char c cs fails) b)
-
-    pub past_stops : is_width_char c ≡ false → rest ≡ after_run is_width_char text
-    past_stops fails = sym (past ∙ ap (after_run is_width_char) e ∙ left_ends is_width_char c cs fails ∙ sym e)
-
-  pub mix_at_end : rest ≡ [] → IsMix state (take_while is_width_char text) mix
-  mix_at_end e = mix_ends state (take_while is_width_char text) mix (subst (IsMixBefore state (take_while is_width_char text) mix) (ap (take_while is_width_char) e) b)
-
-  pub past_at_end : rest ≡ [] → rest ≡ after_run is_width_char text
-  past_at_end e = sym (past ∙ ap (after_run is_width_char) e ∙ sym e)

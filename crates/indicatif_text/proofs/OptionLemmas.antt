@@ -19,7 +19,7 @@ use Rattle.indicatif_text.specs.declared.template.TemplateError.TheVariants.{Une
 use Rattle.indicatif_text.proofs.WrappingLemmas.{chars_none}
 use Rattle.indicatif_text.specs.StyleWords.{style_of}
 use Rattle.indicatif_text.specs.Template.{Layout, with_options, plain_layout, alignment_of, aligned, Takes, Stops, after_run, is_alternative_char, alternative_ends, with_alternative, is_style_char, style_ends, with_style, is_width_char, width_ends, with_width, style_named, number_of, is_too_wide, state_after}
-use Rattle.indicatif_text.specs.Inside.Reading.{IsRead, number_after, IsMix}
+use Rattle.indicatif_text.specs.Inside.Reading.{IsFrontRead, number_after, IsMix}
 
 -- a text with no characters has no bytes
 pub some_chars : (bs : List ℕ) → IsUtf8 bs → chars bs ≡ [] → length bs ≡ 0
@@ -188,18 +188,18 @@ unfolding with_options
 options_none text none = ap with_options none ∙ ap (λ r. Takes r plain_layout) (sym none)
 
 pub options_plain : (text : List ℕ) (c : ℕ) (cs : List ℕ) → text ≡ c ∷ cs → alignment_of c ≡ None → (layout : Layout) (r : Result (Bor (List ℕ)) TemplateError) →
-    IsRead (with_width plain_layout Align text) layout r → IsRead (with_options text) layout r
+    IsFrontRead (with_width plain_layout Align text) layout r → IsFrontRead (with_options text) layout r
 unfolding with_options
 options_plain text c cs e none layout r g =
     let same : with_width plain_layout Align text ≡ with_options text = ap (with_width plain_layout Align) e ∙ ap (aligned c cs) (sym none) ∙ ap with_options (sym e) in
-    subst (λ f. IsRead f layout r) same g
+    subst (λ f. IsFrontRead f layout r) same g
 
 pub options_aligned : (text : List ℕ) (c : ℕ) (cs : List ℕ) → text ≡ c ∷ cs → (align : Alignment) → alignment_of c ≡ Some align → (layout : Layout) (r : Result (Bor (List ℕ)) TemplateError) →
-    IsRead (with_width (record plain_layout { align = align }) Width cs) layout r → IsRead (with_options text) layout r
+    IsFrontRead (with_width (record plain_layout { align = align }) Width cs) layout r → IsFrontRead (with_options text) layout r
 unfolding with_options
 options_aligned text c cs e align is layout r g =
     let same : with_width (record plain_layout { align = align }) Width cs ≡ with_options text = ap (aligned c cs) (sym is) ∙ ap with_options (sym e) in
-    subst (λ f. IsRead f layout r) same g
+    subst (λ f. IsFrontRead f layout r) same g
 
 -- a dot alone begins a style
 pub options_styled : (text : List ℕ) (c : ℕ) (cs : List ℕ) → text ≡ c ∷ cs → c ≡ 0x2E → with_options text ≡ with_style plain_layout cs

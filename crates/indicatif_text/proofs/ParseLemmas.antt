@@ -6,7 +6,7 @@ use Rattle.indicatif_text.specs.declared.template.TemplateError.TheVariants.{Mem
 use Rattle.indicatif_text.specs.Template.{TemplatePart, Parses, IsRefused, end, parts_of}
 use Rattle.std.proofs.Math.Nat.{pos_of_ne-zero}
 use Rattle.std.proofs.lemmas.Bool.{eqb-false}
-use Rattle.indicatif_text.specs.Inside.Draft.{Sketch, empty_sketch, GoesOn}
+use Rattle.indicatif_text.specs.Inside.Draft.{Sketch, empty_sketch, ReadsOn}
 use Rattle.indicatif_text.proofs.TokenLemmas.{has_chars}
 use Rattle.indicatif_text.proofs.TemplateLemmas.{never_both, one_list, one_place}
 
@@ -49,7 +49,7 @@ pub is_error : (x : TemplateError) (r : Result (List TemplatePart) TemplateError
 is_error x (Ok y) h = absurd h
 is_error x (Err y) h = ap Err h
 
-pub handed_back : (text rest : List ℕ) (s : Sketch) (x : TemplateError) → GoesOn empty_sketch text s rest → (x ≡ Memory) ⊎ IsRefused rest x → (x ≡ Memory) ⊎ IsRefused text x
+pub handed_back : (text rest : List ℕ) (s : Sketch) (x : TemplateError) → ReadsOn empty_sketch text s rest → (x ≡ Memory) ⊎ IsRefused rest x → (x ≡ Memory) ⊎ IsRefused text x
 handed_back text rest s x leads h = elim h [ inl memory ↦ inl memory | inr t ↦ inr (t.0, leads.refuses t.0 x t.1) ]
 
 pub some_length : (bs : List ℕ) → IsUtf8 bs → false ≡ (length bs == 0) → 0 < length (chars bs)

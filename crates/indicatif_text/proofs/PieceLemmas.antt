@@ -4,7 +4,7 @@ use Rattle.std.specs.Prelude.{chars, MatchOption}
 use Rattle.std.specs.Str.{IsUtf8, IsCharBoundary}
 use Rattle.std.proofs.Math.Utf8.{encode, encodes}
 use Rattle.std.proofs.Math.Seq.{drop-append_seam, take-append_seam}
-use Rattle.std.proofs.lemmas.Str.{chars_past_char, chars-nil, chars-append, encodes-chars, IsUtf8-take, IsCharBoundary-at_seam, IsUtf8-past_char, length-encode, len_utf8_bounds}
+use Rattle.std.proofs.lemmas.Str.{chars_past_char, chars-nil, chars-append, encodes-chars, IsUtf8-take, IsCharBoundary-at_seam, IsUtf8-past_char}
 use Rattle.std.proofs.lemmas.List.{append_cancel_right, nil_from_length}
 use Rattle.indicatif_text.specs.Columns.{colour_length}
 use Rattle.indicatif_text.specs.Pieces.{TextPiece, Colour, Run, joined_to, pieces_from, pieces_of_text}
@@ -86,9 +86,6 @@ passed_more text rest more c p front e =
           ∙ sym (joined_push p.read c (pieces_of_text (chars more)));
       utf8 = IsUtf8-past_char rest more c p.utf8 e;
     }
-
-pub shorter : (rest more : List ℕ) (c : ℕ) → rest ≡ encode c ++ more → length more < length rest
-shorter rest more c e = omega (arith, ap length e, length-append (encode c) more, length-encode c, (len_utf8_bounds c).0)
 
 -- a run that was read up to its end
 module _ (text rest : List ℕ) (p : Passed text rest) (u : IsUtf8 text) where

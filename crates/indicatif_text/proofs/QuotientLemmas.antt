@@ -14,7 +14,7 @@ use Rattle.indicatif_text.specs.Inside.Quotients.{below, raised}
 
 -- ---- one digit more
 
--- what is left of a division at so many decimals
+-- what is left of a division at this number of decimals
 unfoldable pub division_rest : ℕ → ℕ → ℕ → ℕ
 division_rest num den places = num * 10 ^ places % den
 
@@ -45,7 +45,7 @@ pub left_none : (num den : ℕ) → division_rest num den 0 ≡ num % den
 unfolding division_rest
 left_none num den = ap (λ x. x % den) (times_none num)
 
--- the quotient at so many decimals, by the digits
+-- the quotient at this number of decimals, by the digits
 pub round_below : (num den places : ℕ) (up : Bool) → up ≡ rounds_up (below num den places % 2 == 1) (division_rest num den places) den
     → round (num * 10 ^ places) den ≡ raised up (below num den places)
 unfolding round below division_rest

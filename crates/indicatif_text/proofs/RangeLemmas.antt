@@ -73,9 +73,6 @@ seam old new n at u v g =
     let front : take (length old) new ≡ old = ap (take (length old)) g.1 ∙ take_at old (encode_utf8_all g.0) (length old) refl in
     subst (IsCharBoundary new) (sym at) (IsCharBoundary-from_take new (length old) v within (subst IsUtf8 (sym front) u))
 
-pub back : (old new : List ℕ) (n : ℕ) → n ≡ length old → Grows old new → take n new ≡ old
-back old new n at g = ap (λ k. take k new) at ∙ ap (take (length old)) g.1 ∙ take_at old (encode_utf8_all g.0) (length old) refl
-
 -- ---- characters of a run
 
 -- what stands within of a run that is shown

@@ -171,7 +171,7 @@ sequences_stay text start end = sequences_left start end 0 (pieces_of_text text)
 
 -- ---- columns
 
--- so many columns fit from a column on, and within the range
+-- a number of columns fit from a column on, and within the range
 record Fits (start end column n : ℕ) : Type 0 where
   left : n ≤ end - column
   wide : n ≤ end - start

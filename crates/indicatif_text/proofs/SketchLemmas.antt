@@ -6,8 +6,8 @@ use Rattle.std.specs.Char.{is_ascii_whitespace}
 use Rattle.std.proofs.lemmas.Bool.{cases_Bool, cond_both, false≢true}
 use Rattle.indicatif_text.specs.declared.refusal.TemplateState.TheVariants.{MaybeOpen, DoubleClose}
 use Rattle.indicatif_text.specs.declared.template.TemplateError.TheVariants.{Unexpected}
-use Rattle.indicatif_text.specs.Template.{Layout, TemplatePart, LiteralText, LineBreak, KeyText, TemplatePiece, Char, Break, SpacedBrace, Keyed, LastBrace, LastKey, Front, Takes, Stops, after_run, plain_layout, with_options, keyed, unfinished, key_ends, is_key_char, opened, closed, front, Reads, end, piece, later, is_open_run, without_open_run, onto_literal, joined_parts, parts_of, Parses}
-use Rattle.indicatif_text.specs.Inside.Draft.{Sketch, empty_sketch, literal_part, sketched_parts, with_part, added, after_text, completed, GoesOn}
+use Rattle.indicatif_text.specs.Template.{Layout, TemplatePart, LiteralText, LineBreak, KeyText, TemplatePiece, Char, Break, SpacedBrace, Keyed, LastBrace, LastKey, Front, Takes, Stops, after_run, plain_layout, with_options, keyed, unfinished, key_ends, is_key_char, opening_brace, closing_brace, front, Reads, end, piece, later, is_open_run, without_open_run, onto_literal, joined_parts, parts_of, Parses}
+use Rattle.indicatif_text.specs.Inside.Draft.{Sketch, empty_sketch, literal_part, sketched_parts, with_part, added, after_text, completed, ReadsOn}
 use Rattle.indicatif_text.specs.Inside.Spans.{is_literal_char}
 
 -- ---- parts with a text in front
@@ -148,35 +148,36 @@ fits_key_ends key (c ∷ cs) =
     (λ e. cond_both (eqb (length key) 0) (Stops (c ∷ cs) (Unexpected c MaybeOpen)) slot FitsFront (λ f. tt)
     (λ f. cond_both (eqb c 0x7D) (Takes cs (Keyed key plain_layout)) (keyed key (with_options cs)) FitsFront (λ g. tt) (λ g. fits_keyed key (with_options cs))))
 
-fits_opened : (text : List ℕ) → FitsFront (opened text)
+fits_opened : (text : List ℕ) → FitsFront (opening_brace text)
 fits_opened [] = refl
 fits_opened (c ∷ cs) =
     cond_both (eqb c 0x7B) (Takes cs (Char 0x7B)) (key_ends (take_while is_key_char (c ∷ cs)) (after_run is_key_char (c ∷ cs))) FitsFront (λ e. tt)
     (λ e. fits_key_ends (take_while is_key_char (c ∷ cs)) (after_run is_key_char (c ∷ cs)))
 
-fits_closed : (text : List ℕ) → FitsFront (closed text)
+fits_closed : (text : List ℕ) → FitsFront (closing_brace text)
 fits_closed [] = tt
 fits_closed (c ∷ cs) = cond_both (eqb c 0x7D) (Takes cs (Char 0x7D)) (Stops (c ∷ cs) (Unexpected c DoubleClose)) FitsFront (λ e. tt) (λ e. tt)
 
 fits_front : (c : ℕ) (cs : List ℕ) → FitsFront (front c cs)
 unfolding front
 fits_front c cs =
-    let closing : Front TemplatePiece = if c == 0x7D then closed cs else Takes cs (Char c) in
-    cond_both (eqb c 0x0A) (Takes cs Break) (if c == 0x7B then opened cs else closing) FitsFront (λ e. tt)
-    (λ e. cond_both (eqb c 0x7B) (opened cs) closing FitsFront (λ f. fits_opened cs) (λ f. cond_both (eqb c 0x7D) (closed cs) (Takes cs (Char c)) FitsFront (λ g. fits_closed cs) (λ g. tt)))
+    let closing : Front TemplatePiece = if c == 0x7D then closing_brace cs else Takes cs (Char c) in
+    cond_both (eqb c 0x0A) (Takes cs Break) (if c == 0x7B then opening_brace cs else closing) FitsFront (λ e. tt)
+    (λ e. cond_both (eqb c 0x7B) (opening_brace cs) closing FitsFront (λ f. fits_opened cs)
+    (λ f. cond_both (eqb c 0x7D) (closing_brace cs) (Takes cs (Char c)) FitsFront (λ g. fits_closed cs) (λ g. tt)))
 
 -- ---- leading on
 
-pub leads_none : (s : Sketch) (text : List ℕ) → GoesOn s text s text
+pub leads_none : (s : Sketch) (text : List ℕ) → ReadsOn s text s text
 leads_none s text = record { reads = λ ps r. (ps, r, refl); refuses = λ place error t. t }
 
-pub leads_more : {s t u : Sketch} {text middle rest : List ℕ} → GoesOn s text t middle → GoesOn t middle u rest → GoesOn s text u rest
+pub leads_more : {s t u : Sketch} {text middle rest : List ℕ} → ReadsOn s text t middle → ReadsOn t middle u rest → ReadsOn s text u rest
 leads_more a b = record {
   reads = λ ps r. let next = b.reads ps r in let first = a.reads next.0 next.1 in (first.0, first.1, first.2 ∙ next.2);
   refuses = λ place error t. a.refuses place error (b.refuses place error t);
 }
 
-pub leads_piece : (s : Sketch) (c : ℕ) (cs rest : List ℕ) (p : TemplatePiece) → front c cs ≡ Takes rest p → GoesOn s (c ∷ cs) (added s p) rest
+pub leads_piece : (s : Sketch) (c : ℕ) (cs rest : List ℕ) (p : TemplatePiece) → front c cs ≡ Takes rest p → ReadsOn s (c ∷ cs) (added s p) rest
 leads_piece s c cs rest p e =
     let fit : Fits p rest = subst FitsFront e (fits_front c cs) in
     record { reads = λ ps r. (p ∷ ps, piece e r, completed_step s p rest ps fit r); refuses = λ place error t. later e t }
@@ -189,23 +190,23 @@ by_tests false false false a b c d e = refl
 
 pub literal_front : (c : ℕ) (cs : List ℕ) → is_literal_char c ≡ true → front c cs ≡ Takes cs (Char c)
 unfolding front
-literal_front c cs e = by_tests (eqb c 0x0A) (eqb c 0x7B) (eqb c 0x7D) (Takes cs Break) (opened cs) (closed cs) (Takes cs (Char c)) e
+literal_front c cs e = by_tests (eqb c 0x0A) (eqb c 0x7B) (eqb c 0x7D) (Takes cs Break) (opening_brace cs) (closing_brace cs) (Takes cs (Char c)) e
 
-pub leads_run : (s : Sketch) (text : List ℕ) → GoesOn s text (record s { run = s.run ++ take_while is_literal_char text }) (after_run is_literal_char text)
-leads_run s [] = subst (λ run. GoesOn s [] (record s { run = run }) []) (sym (append-nil s.run)) (leads_none s [])
+pub leads_run : (s : Sketch) (text : List ℕ) → ReadsOn s text (record s { run = s.run ++ take_while is_literal_char text }) (after_run is_literal_char text)
+leads_run s [] = subst (λ run. ReadsOn s [] (record s { run = run }) []) (sym (append-nil s.run)) (leads_none s [])
 leads_run s (c ∷ cs) = elim (cases_Bool (is_literal_char c)) [
   | inl plain ↦
       let one : 1 + prefix_len is_literal_char cs ≡ suc (prefix_len is_literal_char cs) = omega arith in
       let next = leads_run (record s { run = s.run ++ c ∷ [] }) cs in
       let joined = append_assoc s.run (c ∷ []) (take_while is_literal_char cs) in
       let whole = leads_more (leads_piece s c cs cs (Char c) (literal_front c cs plain)) next in
-      rw (plain, one) (subst (λ run. GoesOn s (c ∷ cs) (record s { run = run }) (after_run is_literal_char cs)) joined whole)
-  | inr marker ↦ rw marker (subst (λ run. GoesOn s (c ∷ cs) (record s { run = run }) (c ∷ cs)) (sym (append-nil s.run)) (leads_none s (c ∷ cs)))
+      rw (plain, one) (subst (λ run. ReadsOn s (c ∷ cs) (record s { run = run }) (after_run is_literal_char cs)) joined whole)
+  | inr marker ↦ rw marker (subst (λ run. ReadsOn s (c ∷ cs) (record s { run = run }) (c ∷ cs)) (sym (append-nil s.run)) (leads_none s (c ∷ cs)))
 ]
 
 -- a text that was led to its end is a template
-pub leads_parse : (text rest : List ℕ) (s : Sketch) → rest ≡ [] → GoesOn empty_sketch text s rest → Parses text (sketched_parts s)
+pub leads_parse : (text rest : List ℕ) (s : Sketch) → rest ≡ [] → ReadsOn empty_sketch text s rest → Parses text (sketched_parts s)
 leads_parse text rest s none leads =
-    let whole : GoesOn empty_sketch text s [] = subst (GoesOn empty_sketch text s) none leads in
+    let whole : ReadsOn empty_sketch text s [] = subst (ReadsOn empty_sketch text s) none leads in
     let all = whole.reads [] end in
     record { pieces = all.0; reads = all.1; makes = sym (completed_empty all.0) ∙ all.2 ∙ completed_nil s }

@@ -6,8 +6,8 @@ use Rattle.std.proofs.Math.Utf8.{encode, encodes, scalar, scalars}
 use Rattle.std.proofs.Math.Seq.{take-append-add, drop-append-add}
 use Rattle.std.proofs.lemmas.Bool.{cases_Bool, cases_lt, and_parts, and_from}
 use Rattle.std.proofs.lemmas.Bool.Decides.{nat_tests}
-use Rattle.indicatif_text.specs.declared.spans.Span.{Span}
-use Rattle.indicatif_text.specs.declared.spans.Span.TheVariants.{Literal, Key, Word}
+use Rattle.indicatif_text.specs.declared.spans.CharacterClass.{CharacterClass}
+use Rattle.indicatif_text.specs.declared.spans.CharacterClass.TheVariants.{Literal, Key, Word}
 use Rattle.indicatif_text.specs.declared.spans.Words.TheVariants.{All, Style, Alternative}
 use Rattle.std.proofs.lemmas.List.Sums.{prefix_len-le-length}
 use Rattle.std.proofs.lemmas.Str.{encode_ascii, inside_one, length-encode, len_utf8_bounds, chars-encodes, scalars-chars, encodes-chars, IsCharBoundary-from_drop}
@@ -102,7 +102,7 @@ module _ (p : ℕ → Bool) (past_ascii : (c : ℕ) → 128 ≤ c → p c ≡ p 
     run_boundary = IsCharBoundary-from_drop bs (prefix_len p bs) (prefix_len-le-length p bs) rest_utf8
 
 -- characters past ASCII belong to a run or don't, all of them
-pub past_ascii : (run : Span) (c : ℕ) → 128 ≤ c → belongs run c ≡ belongs run 128
+pub past_ascii : (run : CharacterClass) (c : ℕ) → 128 ≤ c → belongs run c ≡ belongs run 128
 past_ascii Literal c h = grind (arith, nat_tests)
 past_ascii Key c h = grind (arith, nat_tests)
 past_ascii (Word All) c h = grind (arith, nat_tests)

@@ -18,7 +18,7 @@ use Rattle.indicatif_text.specs.StyleWords.{opening_of, colour_place, colour_wor
 use Rattle.indicatif_text.specs.declared.spans.Words.{Words}
 use Rattle.indicatif_text.specs.declared.spans.Words.TheVariants as words
 use Rattle.indicatif_text.specs.Inside.Spans.{in_words}
-use Rattle.indicatif_text.specs.Inside.StyleWords.{Adds, foreground_after, closing_of, is_word_char}
+use Rattle.indicatif_text.specs.Inside.StyleWords.{AddsWord, foreground_after, closing_of, is_word_char}
 use Rattle.indicatif_text.specs.Template.{after_run}
 use Rattle.indicatif_text.proofs.PrefixLemmas.{run_more, run_ends, left_more, left_ends, left_fails, both, word_within, left_within, left_past}
 
@@ -123,7 +123,7 @@ unset : (s b : Bool) → b ≡ false → s ≡ (s || b)
 unset s b e = sym (ap (λ x. s || x) e ∙ or-false s)
 
 -- the word of a colour is the foreground, and no more
-pub adds_colour : (s : Style) (colour : BasicColour) (word : List ℕ) → Some (colour_place colour) ≡ position (bytes_eq word) colour_words → Adds s word (record s { foreground = Some colour })
+pub adds_colour : (s : Style) (colour : BasicColour) (word : List ℕ) → Some (colour_place colour) ≡ position (bytes_eq word) colour_words → AddsWord s word (record s { foreground = Some colour })
 adds_colour s colour word e =
     let a = alone word (colour_place colour) (sym e) in
     record {
@@ -160,7 +160,7 @@ or_more : (s t b h : Bool) → t ≡ (s || b) → (s || (b || h)) ≡ (t || h)
 or_more true t b h e = ap (λ x. x || h) (sym e)
 or_more false t b h e = ap (λ x. x || h) (sym e)
 
-gathers_more : (all : List (List ℕ)) (s t : Style) (word : List ℕ) (left : List (List ℕ)) → Gathers all s (word ∷ left) → Adds s word t → Gathers all t left
+gathers_more : (all : List (List ℕ)) (s t : Style) (word : List ℕ) (left : List (List ℕ)) → Gathers all s (word ∷ left) → AddsWord s word t → Gathers all t left
 gathers_more all s t word left g a = record {
   foreground = g.foreground ∙ last_by_words (foreground_number s) (colour_number 30 colour_words word) (filter_map (colour_number 30 colour_words) left)
       ∙ ap (λ o. last_or o (filter_map (colour_number 30 colour_words) left)) (sym a.foreground);
@@ -189,7 +189,7 @@ words_front (c ∷ cs) = elim (cases_Bool (eqb c 0x2E)) [
 ]
 
 pub gathers_word : (all : List (List ℕ)) (s t : Style) (text word rest : List ℕ) → Gathers all s (style_words text) → word ≡ take_while is_word_char text → rest ≡ after_run is_word_char text →
-    Adds s word t → Gathers all t (words_left rest)
+    AddsWord s word t → Gathers all t (words_left rest)
 gathers_word all s t text word rest g w r a =
     let parts : style_words text ≡ word ∷ words_left rest = words_front text ∙ cc (w, r) in
     gathers_more all s t word (words_left rest) (subst (Gathers all s) parts g) a
@@ -233,7 +233,7 @@ pub record StyleRead (p : ℕ → Bool) (text : List ℕ) (s : Style) (rest : Li
 
 module _ (p : ℕ → Bool) (text : List ℕ) where
   word_read : (s t : Style) (words word more : List ℕ) → Gathers (style_words (take_while p text)) s (style_words (take_while p words)) → after_run p text ≡ after_run p words →
-      word ≡ take_while (both p is_word_char) words → more ≡ after_run (both p is_word_char) words → Adds s word t → WordsRead p text t more
+      word ≡ take_while (both p is_word_char) words → more ≡ after_run (both p is_word_char) words → AddsWord s word t → WordsRead p text t more
   word_read s t words word more g past w m a = record {
     gathers =
         gathers_word (style_words (take_while p text)) s t (take_while p words) word (take_while p more) g
@@ -242,12 +242,12 @@ module _ (p : ℕ → Bool) (text : List ℕ) where
     stops = λ c cs e. left_fails (both p is_word_char) words c cs (sym m ∙ e);
   }
 
-  pub first_read : (t : Style) (word more : List ℕ) → word ≡ take_while (both p is_word_char) text → more ≡ after_run (both p is_word_char) text → Adds plain word t → WordsRead p text t more
+  pub first_read : (t : Style) (word more : List ℕ) → word ≡ take_while (both p is_word_char) text → more ≡ after_run (both p is_word_char) text → AddsWord plain word t → WordsRead p text t more
   first_read t word more w m a =
       word_read plain t text word more (record { foreground = refl; background = refl; bold = refl; dim = refl; underlined = refl; blink = refl; reverse = refl; hidden = refl }) refl w m a
 
   pub next_read : p 0x2E ≡ true → (s t : Style) (rest words word more : List ℕ) (c : ℕ) → WordsRead p text s rest → rest ≡ c ∷ words → c ≡ 0x2E →
-      word ≡ take_while (both p is_word_char) words → more ≡ after_run (both p is_word_char) words → Adds s word t → WordsRead p text t more
+      word ≡ take_while (both p is_word_char) words → more ≡ after_run (both p is_word_char) words → AddsWord s word t → WordsRead p text t more
   next_read dot s t rest words word more c r e is w m a =
       let passes : p c ≡ true = ap p is ∙ dot in
       let gathered : Gathers (style_words (take_while p text)) s (style_words (take_while p words)) =

@@ -10,7 +10,7 @@ use Rattle.indicatif_text.specs.declared.refusal.TemplateState.TheVariants.{Mayb
 use Rattle.indicatif_text.specs.declared.template.Alignment.{Alignment}
 use Rattle.indicatif_text.specs.declared.template.TemplateError.{TemplateError}
 use Rattle.indicatif_text.specs.declared.template.TemplateError.TheVariants.{Unexpected, WidthTooLarge}
-use Rattle.indicatif_text.specs.Template.{Layout, TemplatePart, TemplatePiece, Char, Break, SpacedBrace, Keyed, plain_layout, Front, Takes, Stops, after_run, alternative_ends, with_alternative, is_alternative_char, is_style_char, is_width_char, number_of, state_after, style_named, style_ends, with_style, width_ends, with_width, with_options, is_too_wide, alignment_of, aligned, keyed, key_ends, opened, closed, front, Reads, end, piece, Refuses, here, later, Parses, parts_of, is_key_char}
+use Rattle.indicatif_text.specs.Template.{Layout, TemplatePart, TemplatePiece, Char, Break, SpacedBrace, Keyed, plain_layout, Front, Takes, Stops, after_run, alternative_ends, with_alternative, is_alternative_char, is_style_char, is_width_char, number_of, state_after, style_named, style_ends, with_style, width_ends, with_width, with_options, is_too_wide, alignment_of, aligned, keyed, key_ends, opening_brace, closing_brace, front, Reads, end, piece, Refuses, here, later, Parses, parts_of, is_key_char}
 use Rattle.indicatif_text.specs.TemplateLaws.{OneOfBoth, NeverBoth, OneList, OnePlace}
 
 -- what reads makes the parts of its pieces
@@ -50,7 +50,7 @@ refuses_one (later e t) (later {place} {error} d u) = refuses_one t (subst (λ r
 
 -- ---- what is left is shorter
 
--- what is left after something in front has at most so many characters
+-- what is left after something in front has at most this number of characters
 abbrev Within : {A : Type 0} → ℕ → Front A → Type 0
 Within n (Takes rest what) = length rest ≤ n
 Within n (Stops place error) = ⊤
@@ -121,13 +121,13 @@ within_key_ends key (c ∷ cs) =
     (λ f. cond_both (eqb c 0x7D) (Takes cs (Keyed key plain_layout)) (keyed key (with_options cs)) P (λ g. omega arith)
     (λ g. within_keyed key _ (with_options cs) (wider (omega arith) _ (within_options cs)))))
 
-within_opened : (text : List ℕ) → Within (length text) (opened text)
+within_opened : (text : List ℕ) → Within (length text) (opening_brace text)
 within_opened [] = omega arith
 within_opened (c ∷ cs) =
     cond_both (eqb c 0x7B) (Takes cs (Char 0x7B)) (key_ends (take_while is_key_char (c ∷ cs)) (after_run is_key_char (c ∷ cs))) (Within (suc (length cs))) (λ e. omega arith)
     (λ e. wider (run_shorter is_key_char (c ∷ cs)) _ (within_key_ends (take_while is_key_char (c ∷ cs)) (after_run is_key_char (c ∷ cs))))
 
-within_closed : (text : List ℕ) → Within (length text) (closed text)
+within_closed : (text : List ℕ) → Within (length text) (closing_brace text)
 within_closed [] = omega arith
 within_closed (c ∷ cs) =
     cond_both (eqb c 0x7D) (Takes cs (Char 0x7D)) (Stops (c ∷ cs) (Unexpected c DoubleClose)) (Within (suc (length cs))) (λ e. omega arith) (λ e. tt)
@@ -136,10 +136,10 @@ pub within_front : (c : ℕ) (cs : List ℕ) → Within (length cs) (front c cs)
 unfolding front
 within_front c cs =
     let P : Front TemplatePiece → Type 0 = Within (length cs) in
-    let closing : Front TemplatePiece = if c == 0x7D then closed cs else Takes cs (Char c) in
-    cond_both (eqb c 0x0A) (Takes cs Break) (if c == 0x7B then opened cs else closing) P (λ e. omega arith)
-    (λ e. cond_both (eqb c 0x7B) (opened cs) closing P (λ f. within_opened cs)
-    (λ f. cond_both (eqb c 0x7D) (closed cs) (Takes cs (Char c)) P (λ g. within_closed cs) (λ g. omega arith)))
+    let closing : Front TemplatePiece = if c == 0x7D then closing_brace cs else Takes cs (Char c) in
+    cond_both (eqb c 0x0A) (Takes cs Break) (if c == 0x7B then opening_brace cs else closing) P (λ e. omega arith)
+    (λ e. cond_both (eqb c 0x7B) (opening_brace cs) closing P (λ f. within_opened cs)
+    (λ f. cond_both (eqb c 0x7D) (closing_brace cs) (Takes cs (Char c)) P (λ g. within_closed cs) (λ g. omega arith)))
 
 pub rest_shorter : (c : ℕ) (cs : List ℕ) {rest : List ℕ} {p : TemplatePiece} → front c cs ≡ Takes rest p → length rest ≤ length cs
 rest_shorter c cs {rest} {p} e = let w : Within (length cs) (Takes rest p) = subst (Within (length cs)) e (within_front c cs) in w

@@ -7,7 +7,7 @@ use Rattle.std.proofs.lemmas.List.{nil_from_length}
 use Rattle.indicatif_text.proofs.OptionLemmas.{is_no_text, some_chars}
 use Rattle.indicatif_text.specs.declared.refusal.TemplateState.TheVariants.{MaybeOpen, DoubleClose}
 use Rattle.indicatif_text.specs.declared.template.TemplateError.TheVariants.{Unexpected}
-use Rattle.indicatif_text.specs.Template.{Char, Break, SpacedBrace, Keyed, LastBrace, Takes, Stops, after_run, plain_layout, with_options, keyed, unfinished, key_ends, is_key_char, opened, closed, front}
+use Rattle.indicatif_text.specs.Template.{Char, Break, SpacedBrace, Keyed, LastBrace, Takes, Stops, after_run, plain_layout, with_options, keyed, unfinished, key_ends, is_key_char, opening_brace, closing_brace, front}
 
 pub no_chars : (bs : List ℕ) → true ≡ (length bs == 0) → (length (chars bs) == 0) ≡ true
 no_chars bs e = ap (λ cs. length cs == 0) (is_no_text bs e)
@@ -39,41 +39,41 @@ module _ (key after : List ℕ) (c : ℕ) (cs : List ℕ) (e : after ≡ c ∷ c
       ap (key_ends key) e ∙ rw (other, some, test) refl
 
 pub opened_key : (text key after : List ℕ) (c : ℕ) (cs : List ℕ) → text ≡ c ∷ cs → (c ≡ 0x7B → ⊥) → key ≡ take_while is_key_char text → after ≡ after_run is_key_char text →
-    key_ends key after ≡ opened text
+    key_ends key after ≡ opening_brace text
 opened_key text key after c cs e other k a =
     let test : eqb c 0x7B ≡ false = ne_eqb c 0x7B other in
-    let same : opened (c ∷ cs) ≡ key_ends (take_while is_key_char (c ∷ cs)) (after_run is_key_char (c ∷ cs)) = rw test refl in
+    let same : opening_brace (c ∷ cs) ≡ key_ends (take_while is_key_char (c ∷ cs)) (after_run is_key_char (c ∷ cs)) = rw test refl in
     let parts : key_ends key after ≡ key_ends (take_while is_key_char text) (after_run is_key_char text) = cc (k, a) in
-    parts ∙ ap (λ t. key_ends (take_while is_key_char t) (after_run is_key_char t)) e ∙ sym same ∙ ap opened (sym e)
+    parts ∙ ap (λ t. key_ends (take_while is_key_char t) (after_run is_key_char t)) e ∙ sym same ∙ ap opening_brace (sym e)
 
-pub closed_wrong : (text : List ℕ) (c : ℕ) (cs : List ℕ) → text ≡ c ∷ cs → (c ≡ 0x7D → ⊥) → closed text ≡ Stops (c ∷ cs) (Unexpected c DoubleClose)
-closed_wrong text c cs e other = let test : eqb c 0x7D ≡ false = ne_eqb c 0x7D other in ap closed e ∙ rw test refl
+pub closed_wrong : (text : List ℕ) (c : ℕ) (cs : List ℕ) → text ≡ c ∷ cs → (c ≡ 0x7D → ⊥) → closing_brace text ≡ Stops (c ∷ cs) (Unexpected c DoubleClose)
+closed_wrong text c cs e other = let test : eqb c 0x7D ≡ false = ne_eqb c 0x7D other in ap closing_brace e ∙ rw test refl
 
-pub closed_end : (text : List ℕ) → text ≡ [] → closed text ≡ Takes text (Char 0x7D)
-closed_end text e = ap closed e ∙ ap (λ r. Takes r (Char 0x7D)) (sym e)
+pub closed_end : (text : List ℕ) → text ≡ [] → closing_brace text ≡ Takes text (Char 0x7D)
+closed_end text e = ap closing_brace e ∙ ap (λ r. Takes r (Char 0x7D)) (sym e)
 
-pub closed_doubled : (text : List ℕ) (c : ℕ) (cs : List ℕ) → text ≡ c ∷ cs → c ≡ 0x7D → closed text ≡ Takes cs (Char 0x7D)
-closed_doubled text c cs e brace = let test : eqb c 0x7D ≡ true = eq-eqb c 0x7D brace in ap closed e ∙ rw test refl
+pub closed_doubled : (text : List ℕ) (c : ℕ) (cs : List ℕ) → text ≡ c ∷ cs → c ≡ 0x7D → closing_brace text ≡ Takes cs (Char 0x7D)
+closed_doubled text c cs e brace = let test : eqb c 0x7D ≡ true = eq-eqb c 0x7D brace in ap closing_brace e ∙ rw test refl
 
-pub opened_end : (text : List ℕ) → text ≡ [] → opened text ≡ Takes text LastBrace
-opened_end text e = ap opened e ∙ ap (λ r. Takes r LastBrace) (sym e)
+pub opened_end : (text : List ℕ) → text ≡ [] → opening_brace text ≡ Takes text LastBrace
+opened_end text e = ap opening_brace e ∙ ap (λ r. Takes r LastBrace) (sym e)
 
-pub opened_doubled : (text : List ℕ) (c : ℕ) (cs : List ℕ) → text ≡ c ∷ cs → c ≡ 0x7B → opened text ≡ Takes cs (Char 0x7B)
-opened_doubled text c cs e brace = let test : eqb c 0x7B ≡ true = eq-eqb c 0x7B brace in ap opened e ∙ rw test refl
+pub opened_doubled : (text : List ℕ) (c : ℕ) (cs : List ℕ) → text ≡ c ∷ cs → c ≡ 0x7B → opening_brace text ≡ Takes cs (Char 0x7B)
+opened_doubled text c cs e brace = let test : eqb c 0x7B ≡ true = eq-eqb c 0x7B brace in ap opening_brace e ∙ rw test refl
 
 module _ (c : ℕ) (cs : List ℕ) where
   pub front_break : c ≡ 0x0A → front c cs ≡ Takes cs Break
   unfolding front
   front_break e = let test : eqb c 0x0A ≡ true = eq-eqb c 0x0A e in rw test refl
 
-  pub front_opened : c ≡ 0x7B → front c cs ≡ opened cs
+  pub front_opened : c ≡ 0x7B → front c cs ≡ opening_brace cs
   unfolding front
   front_opened e =
       let first : eqb c 0x0A ≡ false = ne_eqb c 0x0A (λ h. absurd (omega (arith, e, h))) in
       let test : eqb c 0x7B ≡ true = eq-eqb c 0x7B e in
       rw (first, test) refl
 
-  pub front_closed : c ≡ 0x7D → front c cs ≡ closed cs
+  pub front_closed : c ≡ 0x7D → front c cs ≡ closing_brace cs
   unfolding front
   front_closed e =
       let first : eqb c 0x0A ≡ false = ne_eqb c 0x0A (λ h. absurd (omega (arith, e, h))) in

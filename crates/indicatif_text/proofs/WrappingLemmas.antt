@@ -1,10 +1,10 @@
 -- That rows counted by runs of characters that take as many columns each are the rows of the line.
-use Rattle.std.proofs.Common.{◌≡◌, ℕ, zero, suc, ◌*◌, ◌+◌, ◌<◌, ◌≤◌, Bool, true, false, List, [], ◌∷◌, ◌++◌, ◌||◌, length, refl, sym, ◌∙◌, ap, subst, arith, eqb, length-append, inl, inr, if◌then◌else◌}
+use Rattle.std.proofs.Common.{◌≡◌, ℕ, zero, suc, ◌*◌, ◌+◌, ◌<◌, ◌≤◌, Bool, true, false, List, [], ◌∷◌, ◌++◌, ◌||◌, length, refl, sym, ◌∙◌, ap, subst, arith, eqb, inl, inr, if◌then◌else◌}
 use Rattle.std.specs.Prelude.{All, nat_le, nat_lt, take_while, ◌==◌, chars}
 use Rattle.std.specs.List.{list_any}
 use Rattle.std.specs.Str.{IsUtf8}
 use Rattle.std.proofs.Math.Utf8.{encode}
-use Rattle.std.proofs.lemmas.Str.{chars_past_char, IsUtf8-past_char, chars-nil, length-encode, len_utf8_bounds}
+use Rattle.std.proofs.lemmas.Str.{chars_past_char, IsUtf8-past_char, chars-nil}
 use Rattle.std.proofs.lemmas.List.{length-map, nil_from_length}
 use Rattle.std.proofs.lemmas.List.Sums.{sum_by_push}
 use Rattle.std.proofs.lemmas.Bool.{cases_Bool, eqb-true, cond_both, le-leb, lt-leb, ne_eqb, lt-ltb, le-ltb}
@@ -15,7 +15,7 @@ use Rattle.indicatif_text.specs.Columns.{Glyph, width_of, glyph_width, glyphs_of
 
 -- ---- rows by columns
 
--- how many rows visible characters take, where so many columns of the first are taken
+-- how many rows visible characters take, where a number of columns of the first is taken
 abbrev pub heights : ℕ → ℕ → List ℕ → ℕ
 heights w n [] = 1
 heights w n (c ∷ cs) =
@@ -84,7 +84,7 @@ reads_whole w line =
 
 -- ---- a run, at once
 
--- the same rows but for so many whole ones before
+-- the same rows but for a number of whole ones before
 record Ahead (w n rows m : ℕ) (before after : List ℕ) : Type 0 where
   taller : heights w n before ≡ rows + heights w m after
   same_last : lasts w n before ≡ lasts w m after
@@ -203,9 +203,6 @@ module _ (bs rest : List ℕ) (c : ℕ) (u : IsUtf8 bs) (e : bs ≡ encode c ++ 
 
   pub past_utf8 : IsUtf8 rest
   past_utf8 = IsUtf8-past_char bs rest c u e
-
-  pub past_shorter : length rest < length bs
-  past_shorter = omega (arith, ap length e, length-append (encode c) rest, length-encode c, (len_utf8_bounds c).0)
 
 pub chars_none : (bs : List ℕ) → length bs ≡ 0 → chars bs ≡ []
 chars_none bs e = ap chars (nil_from_length bs e) ∙ chars-nil

@@ -181,21 +181,21 @@ key_ends key (c ∷ cs) =
     else keyed key (with_options cs)
 
 -- what an opening brace begins, by the characters after it
-abbrev pub opened : List ℕ → Front TemplatePiece
-opened [] = Takes [] LastBrace
-opened (c ∷ cs) =
+abbrev pub opening_brace : List ℕ → Front TemplatePiece
+opening_brace [] = Takes [] LastBrace
+opening_brace (c ∷ cs) =
     if c == 0x7B then Takes cs (Char 0x7B)
     else key_ends (take_while is_key_char (c ∷ cs)) (after_run is_key_char (c ∷ cs))
 
 -- what a closing brace begins, by the characters after it
-abbrev pub closed : List ℕ → Front TemplatePiece
-closed [] = Takes [] (Char 0x7D)
-closed (c ∷ cs) = if c == 0x7D then Takes cs (Char 0x7D) else Stops (c ∷ cs) (Unexpected c DoubleClose)
+abbrev pub closing_brace : List ℕ → Front TemplatePiece
+closing_brace [] = Takes [] (Char 0x7D)
+closing_brace (c ∷ cs) = if c == 0x7D then Takes cs (Char 0x7D) else Stops (c ∷ cs) (Unexpected c DoubleClose)
 
 -- the front of a text, by its first character and the others
 unfoldable pub front : ℕ → List ℕ → Front TemplatePiece
 front c cs =
-    if c == 0x0A then Takes cs Break else if c == 0x7B then opened cs else if c == 0x7D then closed cs else Takes cs (Char c)
+    if c == 0x0A then Takes cs Break else if c == 0x7B then opening_brace cs else if c == 0x7D then closing_brace cs else Takes cs (Char c)
 
 -- ---- whole texts
 

@@ -8,7 +8,7 @@ pub use crate::moment::{Clock, Moment, StepClock};
 pub use crate::pieces::{Piece, Pieces, colour_len, is_parameter, is_parameter_byte};
 pub use crate::range::write_ansi_range;
 pub use crate::refusal::{Drawn, Refusal, TemplateState};
-use crate::runs::{LastWidth, Run, Runs};
+use crate::runs::{LastWidth, WidthRun, WidthRuns};
 pub use crate::style_words::Style;
 use unicode_width::UnicodeWidthChar;
 
@@ -51,7 +51,7 @@ pub fn pieces(text: &str) -> Pieces<'_>
 pub fn columns(text: &str) -> usize
     ensures { result ≡ columns_of (chars text.now) }
 {
-    let mut rest = Runs::of(text);
+    let mut rest = WidthRuns::of(text);
     let mut last = LastWidth::new();
     let mut columns: usize = 0;
     'rest: while let Some(run) = rest.next_run(&mut last) {
@@ -115,7 +115,7 @@ fn measured(line: &str, width: usize) -> Option<Metrics>
     let mut height: usize = 1;
     let mut column: usize = 0;
     let mut last = LastWidth::new();
-    let mut rest = Runs::of(line);
+    let mut rest = WidthRuns::of(line);
     'rest: while let Some(run) = rest.next_run(&mut last) {
         if run.columns > width {
             return None;
@@ -154,7 +154,7 @@ struct RowSoFar {
 impl RowSoFar {
     /// How many rows further on a terminal, and at which column, a run ends.
     #[inline(always)]
-    fn after(self, run: Run) -> (usize, usize)
+    fn after(self, run: WidthRun) -> (usize, usize)
         requires fits { run.columns ≤ self.width }
         requires within { self.column ≤ self.width }
         ensures ends { EndsAt self.width self.column run.columns run.count result.0 result.1 }

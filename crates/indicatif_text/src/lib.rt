@@ -16,9 +16,9 @@
 //!
 //! Private, for those above:
 //!
-//! - `runs`: visible characters of the same width, taken off the front of a text (`Runs`): how many bytes of printable ASCII stand there,
+//! - `runs`: visible characters of the same width, taken off the front of a text (`WidthRuns`): how many bytes of printable ASCII stand there,
 //!   and how often are three bytes repeated?
-//! - `spans`: the longest front of a text that belongs to a literal text, a key or a style's word (`Span`, `split_span`), by a table of the
+//! - `spans`: the longest front of a text that belongs to a literal text, a key or a style's word (`CharacterClass`, `split_span`), by a table of the
 //!   bytes that end it; or its first character.
 //! - `appending`: `append`, a text behind another, in memory that was taken before.
 #![tactic(auto)]

@@ -11,18 +11,18 @@ use std::marker::Model;
 
 /// A number of characters of the same width.
 #[derive(Clone, Copy, Drop)]
-pub(crate) struct Run {
+pub(crate) struct WidthRun {
     pub columns: usize,
     pub count: usize,
 }
 
 /// The characters of a text outside colour sequences, taken off the front in runs.
 #[derive(Drop)]
-pub(crate) struct Runs<'a> {
+pub(crate) struct WidthRuns<'a> {
     rest: &'a str,
 }
 
-impl<'a> Model for Runs<'a> {
+impl<'a> Model for WidthRuns<'a> {
     ghost use Rattle.std.specs.Prelude.{List, ℕ, chars};
     ghost use Rattle.indicatif_text.specs.Columns.{visible};
 
@@ -31,16 +31,16 @@ impl<'a> Model for Runs<'a> {
     ghost view = { λ r. visible (chars r.rest.now) };
 }
 
-impl<'a> Runs<'a> {
-    pub(crate) fn of(text: &'a str) -> Runs<'a>
+impl<'a> WidthRuns<'a> {
+    pub(crate) fn of(text: &'a str) -> WidthRuns<'a>
         ensures { result ≡ visible (chars text.now) }
     {
-        Runs { rest: text }
+        WidthRuns { rest: text }
     }
 
     /// Takes a run off the front: printable ASCII, or another character; a character of three bytes with all its repetitions.
     #[inline(always)]
-    pub(crate) fn next_run(&mut self, last: &mut LastWidth) -> Option<Run>
+    pub(crate) fn next_run(&mut self, last: &mut LastWidth) -> Option<WidthRun>
         ensures { MatchOption result (self.old ≡ [])
             (λ r. (0 < r.count) × PassesRun r.columns self.old r.count self.new) }
     {
@@ -80,14 +80,14 @@ impl LastWidth {
 
 /// The first visible run of a text, and the rest; none if nothing is visible.
 #[inline(always)]
-fn first_run<'a>(text: &'a str, last: &mut LastWidth) -> Option<(Run, &'a str)>
+fn first_run<'a>(text: &'a str, last: &mut LastWidth) -> Option<(WidthRun, &'a str)>
     ensures { MatchOption result (visible (chars text.now) ≡ [])
         (λ r. (0 < r.0.count) × PassesRun r.0.columns (visible (chars text.now)) r.0.count (visible (chars r.1.now))) }
 {
     let text = after_colours(text);
     let printable = printable_len(text);
     if printable > 0 {
-        let run = Run {
+        let run = WidthRun {
             columns: 1,
             count: printable,
         };
@@ -97,7 +97,7 @@ fn first_run<'a>(text: &'a str, last: &mut LastWidth) -> Option<(Run, &'a str)>
         return None;
     };
     let repeats = repeats(rest, c);
-    let run = Run {
+    let run = WidthRun {
         columns: last.width(c),
         count: 1 + repeats,
     };

@@ -17,7 +17,7 @@ pub(crate) enum Words {
 
 /// The characters that a run is made of. What ends a run is always ASCII.
 #[derive(Clone, Copy, Drop)]
-pub(crate) enum Span {
+pub(crate) enum CharacterClass {
     /// All but braces and newlines.
     Literal,
     /// All but colons, closing braces and ASCII white space.
@@ -42,21 +42,21 @@ const ENDS: &[u8; 256] = &[
 
 /// The table's bit of the bytes that end this run.
 #[inline(always)]
-fn bit_of(run: Span) -> u8
+fn bit_of(run: CharacterClass) -> u8
     ensures { result ≡ bit_of run }
 {
     match run {
-        Span::Literal => 1,
-        Span::Key => 2,
-        Span::Word(Words::All) => 4,
-        Span::Word(Words::Style) => 8,
-        Span::Word(Words::Alternative) => 16,
+        CharacterClass::Literal => 1,
+        CharacterClass::Key => 2,
+        CharacterClass::Word(Words::All) => 4,
+        CharacterClass::Word(Words::Style) => 8,
+        CharacterClass::Word(Words::Alternative) => 16,
     }
 }
 
 /// Whether a byte of a text belongs to the run; all bytes of a character past ASCII do, or none.
 #[inline(always)]
-fn belongs(run: Span, byte: u8) -> bool
+fn belongs(run: CharacterClass, byte: u8) -> bool
     ensures { result ≡ belongs run byte }
 {
     ENDS[usize::from(byte)] & bit_of(run) == 0
@@ -64,7 +64,7 @@ fn belongs(run: Span, byte: u8) -> bool
 
 /// How many bytes in front belong to the run.
 #[inline(always)]
-fn span_len(bytes: &[u8], run: Span) -> usize
+fn span_len(bytes: &[u8], run: CharacterClass) -> usize
     ensures { result ≡ prefix_len (belongs run) bytes.now }
 {
     let mut len: usize = 0;
@@ -76,7 +76,7 @@ fn span_len(bytes: &[u8], run: Span) -> usize
 
 /// The longest prefix of `text` that belongs to the run, and the rest.
 #[inline(always)]
-pub(crate) fn split_span(text: &str, run: Span) -> (&str, &str)
+pub(crate) fn split_span(text: &str, run: CharacterClass) -> (&str, &str)
     ensures run { chars result.0.now ≡ take_while (belongs run) (chars text.now) }
     ensures rest { chars result.1.now ≡ after_run (belongs run) (chars text.now) }
     ensures utf8 { IsUtf8 result.1.now }

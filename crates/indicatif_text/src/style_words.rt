@@ -2,14 +2,14 @@
 ghost use Rattle.std.specs.Prelude.{◌≡◌, ℕ, ◌+◌, ◌≤◌, ◌<◌, ◌||◌, ◌++◌, [], chars, bytes_eq, position, option_map, flat_map, take_while, IsUtf8, string_bytes, string_len, string_capacity, length, codes, nat_lt, OnOk, OnErr, IfErr, IfOk, IsTrue};
 ghost use Rattle.std.specs.List.{list_all};
 ghost use Rattle.indicatif_text.specs.StyleWords.{style_of, styled, opening_of, sequence_of, numbers_of, number_if, foreground_number, background_number, colour_place, colour_words, background_words};
-ghost use Rattle.indicatif_text.specs.Inside.StyleWords.{Adds, closing_of, sequence_if, background_after};
+ghost use Rattle.indicatif_text.specs.Inside.StyleWords.{AddsWord, closing_of, sequence_if, background_after};
 ghost use Rattle.indicatif_text.specs.Inside.Spans.{in_words};
 ghost use Rattle.indicatif_text.specs.Template.{after_run};
 
 use crate::appending::append;
 use crate::format::short_text::ShortText;
 use crate::refusal::Refusal;
-use crate::spans::{Span, Words, split_first, split_span};
+use crate::spans::{CharacterClass, Words, split_first, split_span};
 
 /// One of the eight colours of a terminal, in the order of their numbers (ECMA-48, SGR 30 to 37 and 40 to 47).
 #[derive(Clone, Copy, Debug, Drop, PartialEq, Eq)]
@@ -111,14 +111,14 @@ impl Style {
         ensures rest { chars result.1.now ≡ after_run (in_words words) (chars text.now) }
         ensures utf8 { IsUtf8 result.1.now }
     {
-        let (word, mut rest) = split_span(text, Span::Word(words));
+        let (word, mut rest) = split_span(text, CharacterClass::Word(words));
         let mut style = Style::PLAIN;
         style.add_word(word);
         while let Some((end, left)) = split_first(rest) {
             if end != '.' {
                 break;
             }
-            let (word, more) = split_span(left, Span::Word(words));
+            let (word, more) = split_span(left, CharacterClass::Word(words));
             style.add_word(word);
             rest = more;
         }
@@ -205,7 +205,7 @@ impl Style {
     /// Adds a further word to the style, if it is one.
     #[inline(always)]
     fn add_word(&mut self, word: &str)
-        ensures { Adds self.old (chars word.now) self.new }
+        ensures { AddsWord self.old (chars word.now) self.new }
     {
         if let Some(colour) = colour_of(word) {
             self.foreground = Some(colour);

@@ -92,13 +92,13 @@ pub struct Template {
 impl Model for Template {
     ghost use Rattle.std.specs.Prelude.{List, map, string_bytes};
     ghost use Rattle.indicatif_text.specs.Template.{TemplatePart};
-    ghost use Rattle.indicatif_text.specs.Inside.StoredParts.{part_at, AreIn};
+    ghost use Rattle.indicatif_text.specs.Inside.StoredParts.{part_at, LieIn};
 
     ghost Value = { List TemplatePart };
 
     ghost view = { λ t. map (part_at (string_bytes t.texts)) t.parts.items };
 
-    ghost invariant = { λ t. AreIn (string_bytes t.texts) t.parts.items };
+    ghost invariant = { λ t. LieIn (string_bytes t.texts) t.parts.items };
 }
 
 impl Template {
@@ -249,13 +249,13 @@ pub struct Parts<'a> {
 impl<'a> Model for Parts<'a> {
     ghost use Rattle.std.specs.Prelude.{List, map};
     ghost use Rattle.indicatif_text.specs.Template.{TemplatePart};
-    ghost use Rattle.indicatif_text.specs.Inside.StoredParts.{part_at, AreIn};
+    ghost use Rattle.indicatif_text.specs.Inside.StoredParts.{part_at, LieIn};
 
     ghost Value = { List TemplatePart };
 
     ghost view = { λ p. map (part_at p.texts.now) p.parts.now };
 
-    ghost invariant = { λ p. AreIn p.texts.now p.parts.now };
+    ghost invariant = { λ p. LieIn p.texts.now p.parts.now };
 }
 
 impl<'a> Iterator for Parts<'a> {

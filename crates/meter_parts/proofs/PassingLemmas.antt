@@ -1,7 +1,7 @@
 -- Bytes that go on, read by read and write by write, are those that came.
 use Rattle.std.proofs.Common.{◌≡◌, ℕ, List, [], ◌++◌, Option, Result, Ok, Err, Bool, true, false, sym, subst, append_assoc, append-nil}
 use Rattle.std.specs.Io.KnownBytes.{Consumes, IsAtEnd}
-use Rattle.std.proofs.KnownBytes.{Consumes-nil, Appends-nil, Consumes-trans, Appends-trans}
+use Rattle.std.proofs.KnownBytes.{Consumes-trans, Appends-trans}
 use Rattle.meter_parts.specs.declared.passing.Broken.{Broken}
 use Rattle.meter_parts.specs.declared.passing.Broken.TheVariants.{Input, Output}
 use Rattle.meter_parts.specs.Passing.{Passes, PassedOr}
@@ -15,10 +15,6 @@ passes_on a b c u v w waiting p q = record {
       (Consumes-trans a b c p.handed_on (q.handed_on ++ waiting) (subst (λ l. Consumes a b l) (append-nil p.handed_on) p.came) q.came);
   went = Appends-trans u v w p.handed_on q.handed_on p.went q.went;
 }
-
--- nothing came and nothing went
-pub passed_none : (a u : Option (List ℕ)) → Passes a a u u []
-passed_none a u = record { handed_on = []; came = Consumes-nil a; went = Appends-nil u }
 
 module _ (a b c u v w : Option (List ℕ)) (before : Passes a b u v []) where
   -- the same of what one read gave: the last

@@ -26,10 +26,10 @@ const NAMED: &[(&str, Refusal)] = &[
 ];
 
 /// Appends a refusal's number and its text: `refusal NAME`; `refusal Template C STATE`: that of a character.
-pub fn told(rest: &str, at: At, got: &mut Got) -> Outcome {
+pub fn push_refusal(rest: &str, at: At, got: &mut Got) -> Outcome {
     let refusal = match rest.strip_prefix("Template ") {
         Some(rest) => unexpected(rest, at)?.into(),
-        None => named(rest)?,
+        None => refusal_named(rest)?,
     };
     got.refusal(refusal);
     got.number(format_args!(" {refusal}"));
@@ -63,7 +63,7 @@ fn unexpected(rest: &str, at: At) -> Result<TemplateError, Bad> {
     Ok(TemplateError::Unexpected { next, state })
 }
 
-fn named(name: &str) -> Result<Refusal, Bad> {
+fn refusal_named(name: &str) -> Result<Refusal, Bad> {
     for (named, refusal) in NAMED {
         if *named == name {
             return Ok(*refusal);

@@ -63,7 +63,7 @@ fn asked(name: &str, rest: &str, at: At, got: &mut Got) -> Result<bool, Bad> {
         "painted" | "unpainted" | "opened" | "same_style" | "no_style" => {
             templates::styled(name, rest, at, got)?
         }
-        "refusal" => refusals::told(rest, at, got)?,
+        "refusal" => refusals::push_refusal(rest, at, got)?,
         "template_error" => refusals::of_template(rest, at, got)?,
         "fed" => terminals::fed(rest, at, got)?,
         "is_text" => engines::is_text(rest, at, got)?,

@@ -18,7 +18,7 @@ use Rattle.indicatif_term.specs.Lines.{RefusesLines, all_lines, are_plain, is_fa
 use Rattle.indicatif_term.specs.Limiters.{Limiter, allow, draw_limiter}
 use Rattle.indicatif_term.specs.Lists.{BarLines, Lists, all_rows, cleared, drawn, fate, fitting, grouped, kept_of, lines_of, logged, opening_lists, forgotten_lists, shown_rows}
 use Rattle.indicatif_term.specs.declared.engine.counts.Keep.TheVariants.{Behind}
-use Rattle.indicatif_term.specs.Memory.{MemoryTerm, view_of}
+use Rattle.indicatif_term.specs.Cells.{MemoryTerm, view_of}
 use Rattle.indicatif_term.specs.Pictures.{picture_text, row_text}
 use Rattle.indicatif_term.specs.Screen.{Screen, blank_screen}
 use Rattle.indicatif_term.specs.Shows.{Rests, Shows}

@@ -5,7 +5,7 @@ use Rattle.indicatif_text.specs.declared.refusal.Refusal.{Refusal}
 use Rattle.indicatif_text.specs.declared.refusal.Drawn.{Drawn}
 use Rattle.indicatif.specs.Moves.{Standing, Goes, after_bar_move, Advance}
 
--- from the first to the second a bar that tells where it stands went on by so many
+-- from the first to the second a bar that tells where it stands went on by a number of steps
 abbrev pub WentOn : Option Standing → Option Standing → ℕ → Type 0
 WentOn before now n = IfSome before (λ bar. bar.position < 18446744073709551616 → now ≡ Some (after_bar_move bar (Advance n)))
 

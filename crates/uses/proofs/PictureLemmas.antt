@@ -4,7 +4,7 @@ use Rattle.std.specs.Prelude.{◌||◌, IsTrue}
 use Rattle.std.specs.List.{list_any}
 use Rattle.indicatif_term.specs.Calls.{TermView, State, is_told}
 use Rattle.indicatif_term.specs.Terminal.{Terminal}
-use Rattle.indicatif_term.specs.Memory.{MemoryTerm, view_of}
+use Rattle.indicatif_term.specs.Cells.{MemoryTerm, view_of}
 use Rattle.indicatif_term.specs.OwnRows.{own_view, inner_term}
 use Rattle.indicatif_term.specs.declared.target.own_rows.OwnRows.{OwnRows}
 

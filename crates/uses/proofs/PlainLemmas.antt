@@ -13,7 +13,7 @@ use Rattle.indicatif_text.specs.declared.refusal.Drawn.{Drawn}
 use Rattle.indicatif_term.specs.Lists.{all_rows, drawn, logged, cleared, shown_rows, lines_of, fitting, grouped}
 use Rattle.indicatif_term.specs.Pictures.{row_text}
 use Rattle.indicatif_term.specs.Terminal.{blank_terminal}
-use Rattle.indicatif_term.specs.Memory.{MemoryTerm}
+use Rattle.indicatif_term.specs.Cells.{MemoryTerm}
 use Rattle.indicatif_bar.specs.Machines.{Target, Machine, Leads, done_by, drawn_by}
 use Rattle.indicatif_text.specs.ColumnLaws.{PrintedIsPlain}
 use Rattle.indicatif_bar.specs.StyleLaws.{IsPlainText}

@@ -10,7 +10,7 @@ ghost use Rattle.indicatif_bar.specs.Progress.{is_hidden};
 ghost use Rattle.indicatif_bar.specs.Says.{Says};
 ghost use Rattle.indicatif_board.specs.BoardBars.{board_bars};
 ghost use Rattle.indicatif_board.specs.Boards.{BoardState, Tell, says, board as board_of};
-ghost use Rattle.indicatif_board.specs.BoardValues.{id_of};
+ghost use Rattle.indicatif_board.specs.BarIds.{id_of};
 ghost use Rattle.indicatif_board.specs.Members.{followers, order_of};
 ghost use Rattle.indicatif_board.specs.Multi.{IsIn, known, mark_of, slots_of, terminal_of};
 

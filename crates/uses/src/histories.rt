@@ -7,7 +7,7 @@ ghost use Rattle.indicatif_term.specs.Calls.{TermView};
 ghost use Rattle.indicatif_term.specs.Lines.{text_lines, logged_lines};
 ghost use Rattle.indicatif_term.specs.Limiters.{draw_limiter};
 ghost use Rattle.indicatif_term.specs.Lists.{opening_lists, all_rows};
-ghost use Rattle.indicatif_term.specs.Memory.{view_of};
+ghost use Rattle.indicatif_term.specs.Cells.{view_of};
 ghost use Rattle.indicatif_term.specs.Screen.{Screen};
 ghost use Rattle.indicatif_bar.specs.Bounds.{unforced_draws};
 ghost use Rattle.indicatif_bar.specs.Commands.{BarRecord};

@@ -5,7 +5,7 @@ ghost use Rattle.std.specs.List.{list_any};
 ghost use Rattle.indicatif_term.specs.Calls.{TermView};
 ghost use Rattle.indicatif_term.specs.Engines.{is_failure};
 ghost use Rattle.indicatif_term.specs.Lists.{opening_lists};
-ghost use Rattle.indicatif_term.specs.Memory.{view_of};
+ghost use Rattle.indicatif_term.specs.Cells.{view_of};
 ghost use Rattle.indicatif_term.specs.Screen.{Screen};
 ghost use Rattle.indicatif_bar.specs.Runs.{Starts};
 ghost use Rattle.indicatif_board.specs.Boards.{drawn_of};

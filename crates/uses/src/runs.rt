@@ -7,7 +7,7 @@ ghost use Rattle.indicatif_text.specs.declared.refusal.Refusal.{Refusal as Refus
 ghost use Rattle.indicatif_text.specs.Columns.{rows_of};
 ghost use Rattle.indicatif_term.specs.Screen.{Screen};
 ghost use Rattle.indicatif_term.specs.Calls.{TermView};
-ghost use Rattle.indicatif_term.specs.Memory.{view_of};
+ghost use Rattle.indicatif_term.specs.Cells.{view_of};
 ghost use Rattle.indicatif_term.specs.Engines.{is_failure};
 ghost use Rattle.indicatif_term.specs.Lines.{text_lines, logged_lines};
 ghost use Rattle.indicatif_term.specs.Lists.{all_rows};

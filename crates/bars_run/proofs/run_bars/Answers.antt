@@ -8,14 +8,14 @@ pub returns-in-Err-clause-printed : goal.returns-in-Err-clause-printed
 returns-in-Err-clause-printed g c = λ e. absurd (some_fault c.in-Err.fault (sym c.status.ensures ∙ e))
 
 pub returns-in-Ok-clause-usage : goal.returns-in-Ok-clause-usage
-returns-in-Ok-clause-usage g c = λ none. absurd (let e = (c.shown.ensures.usage none).0 in let f = c.in-Ok.is in cc (e, f))
+returns-in-Ok-clause-usage g c = λ none. absurd (let e = (c.print_picture.ensures.usage none).0 in let f = c.in-Ok.is in cc (e, f))
 
 pub returns-in-Ok-clause-fault : goal.returns-in-Ok-clause-fault
 returns-in-Ok-clause-fault g c = λ other. absurd (other refl)
 
 pub returns-in-Err-clause-usage : goal.returns-in-Err-clause-usage
 returns-in-Err-clause-usage g c = λ none.
-    let u = c.shown.ensures.usage none in
+    let u = c.print_picture.ensures.usage none in
     let is : c.in-Err.fault ≡ Usage = let e = u.0 in let f = c.in-Err.is in cc (e, f) in
     (c.status.ensures ∙ ap status_of is, u.1)
 

@@ -15,7 +15,7 @@ fn shows(rt: &impl Runtime, bar: &Bar, wanted: &str) {
 }
 
 /// A bar on a terminal of 4 rows and 20 columns, a name above it.
-fn shown(rt: &impl Runtime) -> Box<Bar> {
+fn named_bar(rt: &impl Runtime) -> Box<Bar> {
     let (alloc, now) = (rt.alloc(), 0);
     let term = InMemoryTerm::new(alloc, 4, 20).granted(rt);
     let mut bar = LoneBar::new(
@@ -65,7 +65,7 @@ fn plays(rt: &impl Runtime, bar: &mut Bar) {
 #[test]
 fn calls_style_time_and_target(rt: HostRuntime) {
     let (alloc, now) = (rt.alloc(), 5);
-    let mut bar = shown(&rt);
+    let mut bar = named_bar(&rt);
     plays(&rt, &mut bar);
     bar.set_move_cursor(true);
     let style = ProgressStyle::with_template(alloc, "{pos} of {len}").granted(&rt);
@@ -85,7 +85,7 @@ fn calls_style_time_and_target(rt: HostRuntime) {
 #[test]
 fn terminal_of_new_sizes(rt: HostRuntime) {
     let (alloc, now) = (rt.alloc(), 0);
-    let mut bar = shown(&rt);
+    let mut bar = named_bar(&rt);
     let style = ProgressStyle::with_template(alloc, "progress bars").granted(&rt);
     bar.with_style(style, now).granted(&rt);
     bar.tick(now).granted(&rt);

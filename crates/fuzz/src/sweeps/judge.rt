@@ -36,7 +36,7 @@ pub struct Judge {
 impl Judge {
     /// A terminal of this size, on which two rows stand, with the cursor at the front of the next.
     pub fn new(alloc: Global, size: Size, look: Look) -> Result<Judge, Fault> {
-        let above = lines_of(alloc, "x\ny")?;
+        let above = text_lines(alloc, "x\ny")?;
         let mut cells = written(alloc, size, &above)?;
         feed(&mut cells, b"\r\n")?;
         Ok(Judge {
@@ -167,7 +167,7 @@ impl Judge {
     /// a call failed before. Only if the terminal got another size since then, what that call left may stand after a row of the text.
     pub fn logged(&mut self, text: &str) -> Held {
         let picture = self.cells.picture()?;
-        let rows = wrapped(self.alloc, self.size, &lines_of(self.alloc, text)?)?;
+        let rows = wrapped(self.alloc, self.size, &text_lines(self.alloc, text)?)?;
         match end_of(&picture, &rows, self.above.len(), self.is_cut) {
             Some(end) => self.keeps(end),
             None => Err(Fault::Lost),
@@ -198,7 +198,7 @@ fn wrapped(alloc: Global, Size { cols, .. }: Size, lines: &[String]) -> Result<V
 }
 
 /// The lines of a text.
-fn lines_of(alloc: Global, text: &str) -> Result<Vec<String>, Fault> {
+fn text_lines(alloc: Global, text: &str) -> Result<Vec<String>, Fault> {
     let mut lines = Vec::new(alloc);
     for line in text.split('\n') {
         lines.push(String::from_str(alloc, line)?)?;

@@ -101,13 +101,13 @@ pub fn refused(alloc: Global) -> Result<Where, Fault> {
     let ran = Ran::new(alloc, case).or_else(|_| Ran::new(alloc, case))?;
     match ran.status {
         0 if ran.is_whole() && ran.printed.as_slice() == PRINTED => Ok(Where::Nowhere),
-        1 if ran.printed.is_empty() => named(&ran.said),
+        1 if ran.printed.is_empty() => place_named(&ran.said),
         _ => Err(Fault::Answer),
     }
 }
 
 /// Where memory was refused, by the message on standard error: in a line, or before the first or after the last.
-fn named(said: &[u8]) -> Result<Where, Fault> {
+fn place_named(said: &[u8]) -> Result<Where, Fault> {
     let (line, rest) = match said.strip_prefix(b"bars: ") {
         Some([b'l', b'i', b'n', b'e', b' ', digit, b':', b' ', rest @ ..]) => {
             (usize::from(digit.wrapping_sub(b'0')), rest)

@@ -61,7 +61,7 @@ impl Plan {
         }
     }
 
-    /// Whether so many of the writer's calls may have failed.
+    /// Whether this number of the writer's calls may have failed.
     pub fn admits(self, failures: u64) -> bool {
         match self {
             Plan::Never => failures == 0,

@@ -5,7 +5,7 @@ use indicatif_text::columns::Refusal;
 use std::alloc::Global;
 
 /// The number of the open colours after a parameter of a colour sequence: 0 for none, 1 to 8 for `30` to `37`, and 9 more for bold letters.
-fn told(number: u8, parameter: &str) -> u8 {
+fn colour_number(number: u8, parameter: &str) -> u8 {
     match parameter.parse::<u8>() {
         Ok(1) => (number % 9).saturating_add(9),
         Ok(colour) if 30 <= colour && colour < 38 => {
@@ -16,7 +16,7 @@ fn told(number: u8, parameter: &str) -> u8 {
 }
 
 /// The character that shows this one with colours: one of private use for an ASCII one, a wide one for a wide one.
-fn shown(number: u8, c: char) -> char {
+fn coloured(number: u8, c: char) -> char {
     let other = match c {
         ' '..='~' if number > 0 => char::from_u32(0xE000 + 96 * u32::from(number) + c as u32),
         '国' => char::from_u32('国' as u32 + u32::from(number)),
@@ -66,7 +66,7 @@ impl Coloured {
 
     fn take(&mut self, c: char) -> Result<(), Refusal> {
         if self.sequence.is_empty() && c != '\u{1b}' {
-            return Ok(self.fed.push(shown(self.open, c))?);
+            return Ok(self.fed.push(coloured(self.open, c))?);
         }
         self.sequence.push(c)?;
         if c.is_ascii_alphabetic() {
@@ -80,7 +80,7 @@ impl Coloured {
         let sequence = self.sequence.as_str();
         let inner = sequence.strip_prefix("\u{1b}[").unwrap_or("");
         match inner.strip_suffix('m') {
-            Some(parameter) => self.open = told(self.open, parameter),
+            Some(parameter) => self.open = colour_number(self.open, parameter),
             None => self.fed.push_str(sequence)?,
         }
         self.sequence.clear();

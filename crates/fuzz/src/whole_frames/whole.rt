@@ -71,9 +71,9 @@ impl WholeFrames {
         frame: &[Segment],
         alignment: MultiProgressAlignment,
     ) -> Result<usize, Refusal> {
-        let mut lines = lines_of(self.alloc, text)?;
+        let mut lines = text_lines(self.alloc, text)?;
         let above = self.rows_of(&lines)?;
-        let (shown, live) = self.shown(frame)?;
+        let (shown, live) = self.fitting_lines(frame)?;
         let blanks = match alignment {
             MultiProgressAlignment::Bottom if !live.is_empty() => {
                 taken.saturating_sub(above).saturating_sub(live.len())
@@ -141,17 +141,20 @@ impl WholeFrames {
     }
 
     /// As many lines from the front of a frame as fit on the terminal's rows, and whose these rows are.
-    fn shown<'a>(&self, frame: &'a [Segment]) -> Result<(Vec<&'a str>, Vec<Option<u64>>), Refusal> {
+    fn fitting_lines<'a>(
+        &self,
+        frame: &'a [Segment],
+    ) -> Result<(Vec<&'a str>, Vec<Option<u64>>), Refusal> {
         let (mut lines, mut live) = (Vec::new(self.alloc), Vec::new(self.alloc));
         let mut is_full = false;
         for bar in frame {
-            is_full = self.show(bar, &mut lines, &mut live, is_full)?;
+            is_full = self.push_fitting(bar, &mut lines, &mut live, is_full)?;
         }
         Ok((lines, live))
     }
 
     /// As many lines of a bar as fit, none after one that didn't fit; whether there is such a line by now.
-    fn show<'a>(
+    fn push_fitting<'a>(
         &self,
         bar: &'a Segment,
         lines: &mut Vec<&'a str>,
@@ -224,7 +227,7 @@ impl WholeFrames {
 }
 
 /// The lines of a text, if there is one: an empty one of an empty text.
-fn lines_of(alloc: Global, text: Option<&str>) -> Result<Vec<&str>, Refusal> {
+fn text_lines(alloc: Global, text: Option<&str>) -> Result<Vec<&str>, Refusal> {
     let mut lines = Vec::new(alloc);
     if text == Some("") {
         lines.push("")?;

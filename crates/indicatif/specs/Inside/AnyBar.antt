@@ -14,9 +14,10 @@ use Rattle.indicatif_bar.specs.LoneBars.{LoneIsIn, LoneLeadsBy, CallDone, record
 use Rattle.indicatif_bar.specs.declared.state.commands.Change.{Change as Changed}
 use Rattle.indicatif_bar.specs.declared.lone.LoneBar.{LoneBar}
 use Rattle.indicatif_board.specs.Boards.{Drop}
-use Rattle.indicatif_board.specs.BoardValues.{id_of}
+use Rattle.indicatif_board.specs.BarIds.{id_of}
 use Rattle.indicatif.specs.Fronts.{CanDraw, CanUpdate, IsMissing}
-use Rattle.indicatif.specs.Inside.SharedBoards.{SharedDraws, on_board}
+use Rattle.indicatif_board.specs.LoneLaws.{on_board}
+use Rattle.indicatif.specs.Inside.SharedBoards.{SharedDraws}
 use Rattle.indicatif.specs.declared.shared.any_bar.AnyBar.{AnyBar}
 use Rattle.indicatif.specs.declared.shared.any_bar.AnyBar.TheVariants.{Alone, Member}
 

@@ -3,11 +3,11 @@ use Rattle.std.specs.Prelude.{◌≡◌, ℕ, ◌<◌, ◌≤◌, ◌%◌, ◌^�
 use Rattle.std.specs.List.{AllZip}
 use Rattle.std.specs.declared.alloc.Global.{Global}
 use Rattle.indicatif.specs.Workers.{items_in}
-use Rattle.indicatif.specs.declared.parallel.workers.pieces.Ended.{Ended}
+use Rattle.indicatif.specs.declared.parallel.workers.pieces.EndedPiece.{EndedPiece}
 use Rattle.indicatif.specs.declared.parallel.workers.pieces.Gathered.{Gathered}
 
 -- the result of one of these pieces: its answers, if there are any, are those at all its items, in order
-abbrev pub IsEnded : {T A : Type 0} → (T → A → Type 0) → List (Vec T Global) → Ended A → Type 0
+abbrev pub IsEnded : {T A : Type 0} → (T → A → Type 0) → List (Vec T Global) → EndedPiece A → Type 0
 IsEnded {T} R pieces ended =
     (ended.piece < length pieces)
     × ((piece : Vec T Global) → piece ≡ slice_index_or pieces ended.piece piece → IfSome ended.answers (λ made. AllZip R piece.items made.items))

@@ -4,7 +4,7 @@ use Rattle.indicatif_text.specs.declared.refusal.Refusal.{Refusal}
 use Rattle.indicatif_text.specs.declared.refusal.Refusal.TheVariants.{Memory, ForeignBar}
 use Rattle.indicatif_text.specs.declared.refusal.Drawn.{Drawn}
 use Rattle.indicatif_bar.specs.Commands.{BarRecord, Command}
-use Rattle.indicatif_bar.specs.Lone.{LoneCall, Obey, Log as LogAlone, Clear as ClearAlone}
+use Rattle.indicatif_bar.specs.Lone.{Obey}
 use Rattle.indicatif_board.specs.Boards.{BoardState, Call, Insert, Remove, Drop, Log, BarLog, Clear, Redraw, Align, Tell, Location, Before, After, Entrant, New, Old, Id, Answer, Given, Accepted, Drew, Refused, drawn_of}
 use Rattle.indicatif.specs.Fronts.{of_no_draw, of_a_draw, of_a_clear, has_no_bar, bar_answers}
 
@@ -14,12 +14,6 @@ SharedCall K = Call (BarRecord K) (Command K)
 
 abbrev pub SharedState : Type 0 → Type 0
 SharedState K = BoardState (BarRecord K)
-
--- a bar's call, as a call of its board
-abbrev pub on_board : {B C : Type 0} → Id → LoneCall C → Call B C
-on_board id (Obey command) = Tell id command
-on_board id (LogAlone text) = BarLog id text
-on_board id ClearAlone = Clear
 
 -- what an answer says of a bar that was to be inserted; an insertion gives only the first two
 abbrev pub given_by : Answer → Result Id Refusal

@@ -3,7 +3,7 @@
 //! `run_workers` and `Gate` are here. The modules below are private:
 //!
 //! - `crew`: `Work`, what several threads do at the same time: all are started before one begins, and joined.
-//! - `pieces`: `Pieces`, of which each thread takes the next; their results, gathered and put in order.
+//! - `pieces`: `PieceQueue`, of which each thread takes the next; their results, gathered and put in order.
 ghost use Rattle.std.specs.Prelude.{◌≡◌, ◌≤◌, ℕ, IfOk, IfErr, OnOk, length, ◌⊎◌, ◌↔◌, Err};
 ghost use Rattle.std.specs.List.{AllZip};
 ghost use Rattle.std.specs.Fn.{FnReturnsAt};
@@ -14,7 +14,7 @@ mod crew;
 mod pieces;
 
 use self::crew::by_all;
-use self::pieces::Pieces;
+use self::pieces::PieceQueue;
 use crate::parallel::claims::Claims;
 use crate::shared::ProgressBar;
 use crate::wrappers::moves::Moves;
@@ -154,7 +154,7 @@ fn answered<R: Threads + Wait + Sync, T: Sync, A: Send + Drop, F: Fn(&T) -> A + 
 {
     let room = Vec::with_capacity(alloc, pieces.len())?;
     let others = threads_for(rt, gate, pieces.len()).saturating_sub(1);
-    let work = Pieces {
+    let work = PieceQueue {
         alloc,
         pieces,
         claims: Claims::new(pieces.len()),

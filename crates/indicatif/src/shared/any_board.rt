@@ -2,13 +2,14 @@
 ghost use Rattle.std.specs.Prelude.{◌≡◌, ◌⊎◌, ℕ, Some, None, IfOk, IfErr, IfSome, Ok, Err, MatchResult};
 ghost use Rattle.indicatif_bar.specs.LoneBars.{lone_call_as};
 ghost use Rattle.indicatif_board.specs.Boards.{Insert, Log, Remove, Refused, drawn_of};
-ghost use Rattle.indicatif_board.specs.BoardValues.{id_of};
+ghost use Rattle.indicatif_board.specs.BarIds.{id_of};
 ghost use Rattle.indicatif_board.specs.Calls.{call_of, answer_of, entrant_of, place_at};
 ghost use Rattle.indicatif_board.specs.Recorded.{IsOneRun};
 ghost use Rattle.indicatif.specs.Fronts.{CanClear};
 ghost use Rattle.indicatif.specs.Receipts.{IsReceipt};
 ghost use Rattle.indicatif.specs.Inside.AnyBoard.{BoardMakes, BoardDraws, BoardRemoves, BoardTakes, BoardTurns, BoardMoves, BoardMovesTo, refused_with};
-ghost use Rattle.indicatif.specs.Inside.SharedBoards.{SharedAnswers, SharedDraws, given_by, on_board};
+ghost use Rattle.indicatif_board.specs.LoneLaws.{on_board};
+ghost use Rattle.indicatif.specs.Inside.SharedBoards.{SharedAnswers, SharedDraws, given_by};
 
 use indicatif_bar::lone::LoneCall;
 use indicatif_bar::state::{BarState, Text, own_text};

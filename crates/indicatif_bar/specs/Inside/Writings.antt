@@ -5,6 +5,6 @@ use Rattle.indicatif_term.specs.declared.target.lines.Segment.{Segment}
 use Rattle.indicatif_bar.specs.Kinds.{Writing, NoFrame}
 
 -- the bar's lines, as bytes, stand in a frame's segment, if they are to be written
-abbrev pub IsLaidOut : Writing → List (List ℕ) → Segment → Type 0
-IsLaidOut NoFrame lines segment = Unit
-IsLaidOut _ lines segment = bar_lines segment ≡ record { bar = 0; lines = map chars lines }
+abbrev pub StandInSegment : Writing → List (List ℕ) → Segment → Type 0
+StandInSegment NoFrame lines segment = Unit
+StandInSegment _ lines segment = bar_lines segment ≡ record { bar = 0; lines = map chars lines }

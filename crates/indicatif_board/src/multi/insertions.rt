@@ -6,7 +6,7 @@ ghost use Rattle.indicatif_bar.specs.Machines.{Target, Leads};
 ghost use Rattle.indicatif_bar.specs.Runs.{wrote};
 ghost use Rattle.indicatif_board.specs.BoardBars.{board_bars};
 ghost use Rattle.indicatif_board.specs.Boards.{BoardState, Location, End, Index, FromBack, Before, After, anchor_turned_away, drawn_of, index_of, inserted, board};
-ghost use Rattle.indicatif_board.specs.BoardValues.{id_of};
+ghost use Rattle.indicatif_board.specs.BarIds.{id_of};
 ghost use Rattle.indicatif_board.specs.Calls.{entrant_of, given, place_at, IsForeign};
 ghost use Rattle.indicatif_board.specs.Insertions.{Inserts, HasAnchor};
 ghost use Rattle.indicatif_board.specs.Inside.Insertions.{LacksAnchor};

@@ -5,7 +5,7 @@ ghost use Rattle.indicatif_bar.specs.Commands.{BarRecord};
 ghost use Rattle.indicatif_bar.specs.Machines.{target_of};
 ghost use Rattle.indicatif_bar.specs.Runs.{wrote};
 ghost use Rattle.indicatif_board.specs.Boards.{BoardState, Remove, Drop, says, drawn_of};
-ghost use Rattle.indicatif_board.specs.BoardValues.{id_of};
+ghost use Rattle.indicatif_board.specs.BarIds.{id_of};
 ghost use Rattle.indicatif_board.specs.Members.{is_member, said_of};
 ghost use Rattle.indicatif_board.specs.Inside.Leaving.{parted, RestsOn};
 ghost use Rattle.indicatif_board.specs.Calls.{removal};

@@ -10,17 +10,17 @@ use Rattle.std.specs.Int.{is_in_range}
 use Rattle.indicatif_term.specs.declared.engine.remembered.StandingLine.{StandingLine}
 
 -- a change of a line: none, or its last row is edited from a column on, or its rows are emptied and it is written
-pub data Change : Type 0 where
-  Leave : Change
-  Within : (column : ℕ) (edits : List Edit) → Change
-  Whole : Change
+pub data LineChange : Type 0 where
+  Leave : LineChange
+  Within : (column : ℕ) (edits : List Edit) → LineChange
+  Whole : LineChange
 
 -- a line of a draw: its rows, the columns that it takes of the last of them, its change, and whether edits of it leave the cursor waiting at the end of its last row
 pub record PlacedLine : Type 0 where
   pub line : List ℕ
   pub rows : ℕ
   pub last : ℕ
-  pub change : Change
+  pub change : LineChange
   pub waits : Bool
 
 -- the number of rows of lines
@@ -42,13 +42,13 @@ abbrev pub changed_bytes : ℕ → ℕ → List ℕ → List ℕ
 changed_bytes down rows line = move_bytes DOWN down ++ (emptied_bytes rows ++ line)
 
 -- the bytes of a line, from a row this far above its first
-abbrev pub step_bytes : Change → ℕ → ℕ → List ℕ → List ℕ
+abbrev pub step_bytes : LineChange → ℕ → ℕ → List ℕ → List ℕ
 step_bytes Leave down rows line = []
 step_bytes (Within k es) down rows line = move_bytes DOWN (down + rows - 1) ++ row_bytes k es
 step_bytes Whole down rows line = changed_bytes down rows line
 
 -- how far above the row below the line the cursor is afterwards
-abbrev pub step_down : Change → ℕ → ℕ → ℕ
+abbrev pub step_down : LineChange → ℕ → ℕ → ℕ
 step_down Leave down rows = down + rows
 step_down (Within k es) down rows = 1
 step_down Whole down rows = 1
@@ -85,7 +85,7 @@ abbrev pub ended_by : ℕ → ℕ → PlacedLine → PlacedLine
 ended_by w c p = record p { change = Within (w - 1) (Write c ∷ []) }
 
 -- the last line, which leaves the cursor waiting at the end of its row: moves alone don't lead there, but writing the last column again does, if it is free or an ASCII character without joiners
-abbrev pub ending_by : Change → ℕ → PlacedLine → PlacedLine
+abbrev pub ending_by : LineChange → ℕ → PlacedLine → PlacedLine
 ending_by Leave w p =
     if nat_lt p.last w then ended_by w 0x20 p
     else if ends_plainly p.line then ended_by w (slice_index p.line (length p.line - 1)) p
@@ -103,7 +103,7 @@ last_bytes w down p = let q = ending w p in step_bytes q.change down q.rows q.li
 -- ---- the old rows
 
 -- edits lead from the old rows of a line to the line: all its rows but the last look the same, and the edits make its last
-pub record Fits (w k : ℕ) (es : List Edit) (stood : List (List Cell)) (line : List ℕ) : Type 0 where
+pub record EditsLead (w k : ℕ) (es : List Edit) (stood : List (List Cell)) (line : List ℕ) : Type 0 where
   pub front : List (List Cell)
   pub before : List Cell
   pub afterwards : List Cell
@@ -112,13 +112,13 @@ pub record Fits (w k : ℕ) (es : List Edit) (stood : List (List Cell)) (line : 
   pub renews : (r : List Cell) → map look r ≡ map look before → Renews w k es r afterwards
 
 -- rows that look like these become those of the line
-abbrev pub Becomes : ℕ → Change → List (List Cell) → List ℕ → Type 0
+abbrev pub Becomes : ℕ → LineChange → List (List Cell) → List ℕ → Type 0
 Becomes w Leave stood line = stood ≡ looks_of (rows_of w (chars line))
-Becomes w (Within k es) stood line = Fits w k es stood line
+Becomes w (Within k es) stood line = EditsLead w k es stood line
 Becomes w Whole stood line = Unit {0}
 
 -- a change leaves the cursor waiting at the end of the line's last row
-abbrev pub Ends : ℕ → Change → List ℕ → Type 0
+abbrev pub Ends : ℕ → LineChange → List ℕ → Type 0
 Ends w Leave line = ⊥
 Ends w (Within k es) line = (k + edit_columns es ≡ w) × (edit_gap k es ≡ 0)
 Ends w Whole line = last_columns w (chars line) ≡ w
@@ -136,7 +136,7 @@ AreSitting w looks [] = Unit {0}
 AreSitting w looks (p ∷ ps) = Sits w looks p × AreSitting w (drop p.rows looks) ps
 
 -- the rows of a line after its change, over these
-abbrev pub step_rows : ℕ → Change → ℕ → List ℕ → List (List Cell) → List (List Cell)
+abbrev pub step_rows : ℕ → LineChange → ℕ → List ℕ → List (List Cell) → List (List Cell)
 step_rows w Leave rows line old = take rows old
 step_rows w (Within k es) rows line old = take (rows - 1) old ++ map (edited_row k es) (take 1 (drop (rows - 1) old))
 step_rows w Whole rows line old = rows_of w (chars line)
@@ -148,7 +148,7 @@ walk_rows w (p ∷ ps) old = step_rows w p.change p.rows p.line old ++ walk_rows
 -- ---- all lines of a draw, from the last row of those that they replace
 
 -- whether all lines stay
-abbrev pub stays : Change → Bool
+abbrev pub stays : LineChange → Bool
 stays Leave = true
 stays (Within k es) = false
 stays Whole = false

@@ -96,7 +96,7 @@ module _ {T : Type 0} (view : T → TermView) where
   Ended own s m = Meets true false own s m × IsTrue (is_between own.place) × (own.place ≡ Resting → own.column ≡ 0)
 
   -- a step that leads one terminal by f, and the other by the bytes that it writes, from P to Q
-  pub record Carries (P Q : EndedRows T → Screen → ModeTerminal → Type 0) (f : Screen → Screen) (own own' : EndedRows T) (result : Result Unit Error) : Type 0 where
+  pub record LeadsBoth (P Q : EndedRows T → Screen → ModeTerminal → Type 0) (f : Screen → Screen) (own own' : EndedRows T) (result : Result Unit Error) : Type 0 where
     pub quiet : Quietly (view own.term) (view own'.term) result
     pub bytes : List ℕ
     pub told_is : IsTrue (is_told (view own.term).told) → (view own'.term).told ≡ led_on (view own.term).told bytes
@@ -105,7 +105,7 @@ module _ {T : Type 0} (view : T → TermView) where
 
   -- such a step that never moves the cursor up
   pub record Falls (P Q : EndedRows T → Screen → ModeTerminal → Type 0) (f : Screen → Screen) (own own' : EndedRows T) (result : Result Unit Error) : Type 0 where
-    pub carries : Carries P Q f own own' result
+    pub carries : LeadsBoth P Q f own own' result
     pub level : IsOk result → (s : Screen) (m : ModeTerminal) → P own s m → m.terminal.screen.row ≤ (mode_after m carries.bytes).terminal.screen.row
 
 -- ---- the effect of a step on the terminal that gets the calls directly

@@ -53,7 +53,7 @@ pub record HasPart (p : Stretch) (old new : List ℕ) : Type 0 where
   pub news : length (cells_at p.from new) ≤ p.left
 
 -- the change of a line that replaces another
-abbrev pub change_of : Step → List ℕ → List ℕ → drawn.Change
+abbrev pub change_of : Step → List ℕ → List ℕ → drawn.LineChange
 change_of steps.Leave old new = drawn.Leave
 change_of (steps.Within p) old new = drawn.Within p.gap (part_edits p old new)
 change_of steps.Whole old new = drawn.Whole

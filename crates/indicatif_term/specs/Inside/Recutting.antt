@@ -28,8 +28,8 @@ abbrev pub guarded : List ℕ → List ℕ
 guarded cs = flat_map guarded_char cs
 
 -- a text whose visible glyphs are these
-abbrev pub piece_text : List Glyph → List ℕ
-piece_text gs = guarded (flat_map glyph_text gs)
+abbrev pub glyphs_text : List Glyph → List ℕ
+glyphs_text gs = guarded (flat_map glyph_text gs)
 
 -- ---- a wrapped row
 
@@ -80,7 +80,7 @@ cut_lines w w' texts = flat_map (cut_line w w') texts
 
 -- their texts
 abbrev pub texts_then : ℕ → ℕ → List ℕ → List (List (List ℕ))
-texts_then w w' text = map (map piece_text) (cut_line w w' text)
+texts_then w w' text = map (map glyphs_text) (cut_line w w' text)
 
 -- ---- lines
 
@@ -99,7 +99,7 @@ shown_lines ls = map shown_line ls
 
 -- the line of one row that has these glyphs
 abbrev pub row_line : List Glyph → LineShown
-row_line gs = record { text = piece_text gs; rows = 1; last = columns_in gs; narrow = false }
+row_line gs = record { text = glyphs_text gs; rows = 1; last = columns_in gs; narrow = false }
 
 -- lines with those of more rows added, and how many each of these rows became
 pub record HasMore (old new : CutLines) (pieces : List (List (List Glyph))) : Type 0 where

@@ -108,8 +108,8 @@ Lead (Open s ∷ es) olds news = Lead es olds news
 Lead es olds news = ⊥
 
 -- characters, and spaces up to n
-abbrev pub filled : ℕ → List ℕ → List ℕ
-filled n cs = cs ++ replicate (n - length cs) 0x20
+abbrev pub padded_chars : ℕ → List ℕ → List ℕ
+padded_chars n cs = cs ++ replicate (n - length cs) 0x20
 
 -- two lines of one row on a terminal of w columns: they look the same in the first k columns, and then each has at most n characters of one column
 pub record Tails (w k n : ℕ) (old new : List ℕ) : Type 0 where
@@ -129,7 +129,7 @@ pub record Tails (w k n : ℕ) (old new : List ℕ) : Type 0 where
 pub record Turns (w k : ℕ) (es : List Edit) (old new : List ℕ) : Type 0 where
   pub part : Tails w k (edit_columns es) old new
   pub writable : AllByRecursion IsWritable es
-  pub lead : Lead es (filled (edit_columns es) part.olds) (filled (edit_columns es) part.news)
+  pub lead : Lead es (padded_chars (edit_columns es) part.olds) (padded_chars (edit_columns es) part.news)
 
 -- ---- which columns are written, and in which colours
 

@@ -3,11 +3,11 @@ use Rattle.std.specs.Prelude.{◌≡◌, ℕ, false, List, [], map, replicate, S
 use Rattle.unicode_width.specs.Width.{char_width}
 use Rattle.indicatif_text.specs.Columns.{Cell, Written}
 use Rattle.indicatif_term.specs.Screen.{Op, Put}
-use Rattle.indicatif_term.specs.declared.cells.run.Run.{Run}
-use Rattle.indicatif_term.specs.declared.cells.run.Run.TheVariants.{Ascii, Repeated}
+use Rattle.indicatif_term.specs.declared.cells.run.NarrowRun.{NarrowRun}
+use Rattle.indicatif_term.specs.declared.cells.run.NarrowRun.TheVariants.{Ascii, Repeated}
 
 -- the characters of a run
-abbrev pub run_chars : Run → List ℕ
+abbrev pub run_chars : NarrowRun → List ℕ
 run_chars (Ascii text) = text.now
 run_chars (Repeated c count) = replicate count c
 

@@ -6,7 +6,7 @@ use Rattle.indicatif_term.specs.Inside.MoveBytes.{next_row, reach_bytes, back_by
 use Rattle.indicatif_term.specs.Inside.Changing.{PlacedLine, placed_height, free_behind, among_bytes, moved_bytes}
 use Rattle.indicatif_term.specs.Inside.Fills.{last_of, fill_columns}
 use Rattle.indicatif_term.specs.Inside.Places.{IsWithin}
-use Rattle.indicatif_term.specs.Inside.Remembered.{CanMove, HasRoom}
+use Rattle.indicatif_term.specs.Inside.Remembered.{CanMoveOver, HasRoom}
 use Rattle.indicatif_term.specs.declared.engine.beside.Room.{Room}
 use Rattle.indicatif_term.specs.declared.engine.counts.Counts.{Counts}
 use Rattle.indicatif_term.specs.declared.engine.counts.Fresh.{Fresh}
@@ -91,5 +91,5 @@ pub record IsAmong (room : Room) (ls : List StandingLine) (p q : Writing) : Type
 -- how lines are written that may be written whole: over the live rows, among the lines that stay, or whole
 abbrev pub IsChosen : Counts → Bool → ℕ → Counts → List StandingLine → Writing → Writing → Type 0
 IsChosen counts failed stood next ls p q =
-    (CanMove counts failed stood next p.width ls × IsMovedOver p q)
+    (CanMoveOver counts failed stood next p.width ls × IsMovedOver p q)
     ⊎ (((room : Room) × HasRoom counts failed stood next p.width ls × IsWithin ls counts.live room × IsAmong room ls p q) ⊎ (q ≡ p))

@@ -1,6 +1,6 @@
 //! The calls of a terminal in memory as text.
 ghost use Rattle.std.specs.Prelude.{◌≡◌, ◌+◌, ◌<◌, ◌++◌, ◌∷◌, IfOk, IfErr, OnOk, [], codes, chars, flat_map, encode_utf8_all, string_bytes};
-ghost use Rattle.indicatif_term.specs.Memory.{move_text, written_text, quoted_char, code_text, hex_digit};
+ghost use Rattle.indicatif_term.specs.Cells.{move_text, written_text, quoted_char, code_text, hex_digit};
 
 use indicatif_text::columns::Refusal;
 use std::alloc::Global;

@@ -8,7 +8,7 @@ ghost use Rattle.indicatif_term.specs.Pictures.{contents_text, has_contents, pic
 ghost use Rattle.indicatif_term.specs.Resizes.{resized_terminal};
 
 use crate::cells::grid::Grid;
-use crate::cells::run::{Run, printable_len, repeats_of_three};
+use crate::cells::run::{NarrowRun, printable_len, repeats_of_three};
 use crate::cells::scanner::{Scanner, WholeSequence};
 use crate::cells::whole_char::{WholeChar, whole_char_of};
 use indicatif_text::columns::Refusal;
@@ -130,7 +130,7 @@ impl Cells {
     {
         let ascii = printable_len(bytes, self.grid.room());
         if ascii > 0 {
-            let put = self.grid.put_run(Run::Ascii(&bytes[..ascii]))?;
+            let put = self.grid.put_run(NarrowRun::Ascii(&bytes[..ascii]))?;
             return Ok(put);
         }
         if let Some(whole) = whole_char_of(bytes) {
@@ -161,7 +161,7 @@ impl Cells {
         }
         let count = repeats_of_three(bytes, room);
         let character = whole.character;
-        let put = self.grid.put_run(Run::Repeated(character, count))?;
+        let put = self.grid.put_run(NarrowRun::Repeated(character, count))?;
         Ok(3 * put)
     }
 

@@ -16,7 +16,7 @@ mod resizing;
 
 use crate::cells::known_width::KnownWidth;
 use crate::cells::row::Row;
-use crate::cells::run::Run;
+use crate::cells::run::NarrowRun;
 use indicatif_text::columns::Refusal;
 use std::alloc::Global;
 use std::marker::Model;
@@ -262,7 +262,7 @@ impl Grid {
 
     /// Writes characters of one column from the cursor on: all of them, or only the first. Returns how many. Refused: `Memory`; then
     /// nothing has changed.
-    pub(crate) fn put_run(&mut self, run: Run<'_>) -> Result<usize, Refusal>
+    pub(crate) fn put_run(&mut self, run: NarrowRun<'_>) -> Result<usize, Refusal>
         requires some { 0 < length (run_chars run) }
         requires narrow { All TakesOneColumn (run_chars run) }
         requires fits { self.old.column + length (run_chars run) ≤ self.old.columns }

@@ -11,7 +11,7 @@ ghost use Rattle.indicatif_term.specs.Inside.Rows.{cell_shown, LeavesJoiners, Be
 use crate::cells::cell::Cell;
 use crate::cells::glyph::Glyph;
 use crate::cells::joiners::Joiner;
-use crate::cells::run::Run;
+use crate::cells::run::NarrowRun;
 use indicatif_text::columns::Refusal;
 use std::alloc::Global;
 use std::marker::Model;
@@ -81,7 +81,7 @@ impl Row {
 
     /// Writes characters of one column from column `at` on: all if no cell is kept from there on, otherwise the first. Returns how many.
     /// Refused: `Memory`; then nothing has changed.
-    pub(crate) fn write_run(&mut self, at: usize, run: Run<'_>) -> Result<usize, Refusal>
+    pub(crate) fn write_run(&mut self, at: usize, run: NarrowRun<'_>) -> Result<usize, Refusal>
         requires some { 0 < length (run_chars run) }
         requires fits { at + length (run_chars run) ≤ length self.old }
         ensures written { IfOk result (λ n. self.new ≡ written_at at (narrow_cells (take n (run_chars run.entry))) self.old) }

@@ -9,21 +9,21 @@ use indicatif_text::columns::Refusal;
 
 /// Characters of one column each.
 #[derive(Clone, Copy, Drop)]
-pub(crate) enum Run<'a> {
+pub(crate) enum NarrowRun<'a> {
     /// Printable ASCII.
     Ascii(&'a [u8]),
     /// A character, and how often it is repeated.
     Repeated(char, usize),
 }
 
-impl Run<'_> {
+impl NarrowRun<'_> {
     /// How many characters the run has.
     pub(crate) fn len(self) -> usize
         ensures { result ≡ length (run_chars self.entry) }
     {
         match self {
-            Run::Ascii(text) => text.len(),
-            Run::Repeated(_, count) => count,
+            NarrowRun::Ascii(text) => text.len(),
+            NarrowRun::Repeated(_, count) => count,
         }
     }
 
@@ -33,8 +33,8 @@ impl Run<'_> {
         ensures { result ≡ slice_index (run_chars self.entry) 0 }
     {
         match self {
-            Run::Ascii(text) => char::from(text[0]),
-            Run::Repeated(c, _) => c,
+            NarrowRun::Ascii(text) => char::from(text[0]),
+            NarrowRun::Repeated(c, _) => c,
         }
     }
 
@@ -45,8 +45,8 @@ impl Run<'_> {
         ensures refused { IfErr result (λ e. e ≡ Refusal.Memory) }
     {
         match self {
-            Run::Ascii(text) => append_ascii(cells, text),
-            Run::Repeated(c, count) => append_repeated(cells, c, count),
+            NarrowRun::Ascii(text) => append_ascii(cells, text),
+            NarrowRun::Repeated(c, count) => append_repeated(cells, c, count),
         }
     }
 }

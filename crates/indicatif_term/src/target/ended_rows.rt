@@ -9,7 +9,7 @@ ghost use Rattle.indicatif_term.specs.Calls.{TermView, Writes, move_bytes, line_
 ghost use Rattle.indicatif_term.specs.Resizes.{Resized, has_size};
 ghost use Rattle.indicatif_term.specs.OwnRows.{quiet, first_place, new_rows};
 ghost use Rattle.indicatif_term.specs.EndedRows.{is_between, Together, Draws, SizeKeeps};
-ghost use Rattle.indicatif_term.specs.Inside.EndedRows.{Meets, Held, Within, WithinIf, WithinTo, WithinRoom, Between, Ended, Carries, Falls, unfailed, drawn_place, moved_place, opening_bytes, closing_bytes, at_column, next_front, rows_moved, front_emptied, with_room, all_put, AreShown, right_column};
+ghost use Rattle.indicatif_term.specs.Inside.EndedRows.{Meets, Held, Within, WithinIf, WithinTo, WithinRoom, Between, Ended, LeadsBoth, Falls, unfailed, drawn_place, moved_place, opening_bytes, closing_bytes, at_column, next_front, rows_moved, front_emptied, with_room, all_put, AreShown, right_column};
 
 use crate::target::own_row::OwnRow;
 use crate::target::term_like::{Resize, TermLike};
@@ -277,7 +277,7 @@ impl<T: TermLike> EndedRows<T> {
 
     /// Leaves the row, and goes up `n` rows; 0 is no move.
     fn go_up(&mut self, n: usize) -> io::Result<()>
-        ensures { Carries T.view (Within T.view) (Within T.view) (rows_moved UP n) self.old self.new result }
+        ensures { LeadsBoth T.view (Within T.view) (Within T.view) (rows_moved UP n) self.old self.new result }
     {
         if n == 0 {
             return Ok(());

@@ -5,7 +5,7 @@ use Rattle.std.specs.Str.{chars}
 use Rattle.indicatif_text.specs.declared.template.TemplateError.{TemplateError}
 use Rattle.indicatif_text.specs.declared.template.TemplateError.TheVariants.{Memory}
 use Rattle.indicatif_text.specs.declared.template.draft.Draft.{Draft}
-use Rattle.indicatif_text.specs.declared.template.stored_parts.Kind.{Kind}
+use Rattle.indicatif_text.specs.declared.template.stored_parts.PartKind.{PartKind}
 use Rattle.indicatif_text.specs.Template.{TemplatePart, LiteralText, LineBreak, KeyText, TemplatePiece, Char, Break, SpacedBrace, Keyed, LastBrace, LastKey, Front, Takes, Stops, Reads, Refuses, is_open_run, without_open_run, onto_literal, joined_parts}
 use Rattle.indicatif_text.specs.Inside.StoredParts.{part_with, part_at}
 
@@ -45,7 +45,7 @@ abbrev pub closed_sketch : Sketch → Sketch
 closed_sketch s = record { done = sketched_parts s; fixed = []; run = [] }
 
 -- a sketch whose text became a part of this kind
-abbrev pub parted_sketch : Sketch → Kind → Sketch
+abbrev pub parted_sketch : Sketch → PartKind → Sketch
 parted_sketch s kind = record { done = s.done ++ part_with kind (s.fixed ++ s.run) ∷ []; fixed = []; run = [] }
 
 -- a sketch with a further part
@@ -75,7 +75,7 @@ unfoldable pub completed : Sketch → List TemplatePiece → List TemplatePart
 completed s ps = s.done ++ (if is_open_run ps then after_text s.fixed [] else after_text (s.fixed ++ s.run) (joined_parts (without_open_run ps)))
 
 -- from one sketch and the rest of a text to another: the outcome of the rest is that of the text
-pub record GoesOn (before : Sketch) (text : List ℕ) (after : Sketch) (rest : List ℕ) : Type 0 where
+pub record ReadsOn (before : Sketch) (text : List ℕ) (after : Sketch) (rest : List ℕ) : Type 0 where
   pub reads : (ps : List TemplatePiece) → Reads rest ps → (qs : List TemplatePiece) × Reads text qs × (completed before qs ≡ completed after ps)
   pub refuses : (place : List ℕ) (error : TemplateError) → Refuses rest place error → Refuses text place error
 

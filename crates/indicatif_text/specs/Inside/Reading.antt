@@ -40,5 +40,5 @@ abbrev pub TakesUp : Mix → ℕ → Mix → Type 0
 TakesUp mix c longer = (state : TemplateState) (run left : List ℕ) → IsMixBefore state run mix (c ∷ left) → IsMixBefore state run longer left
 
 -- an answer agrees with this front, of which this was read: the text that is left, or the error, wherever its place
-abbrev pub IsRead : {A : Type 0} → Front A → A → Result (Bor (List ℕ)) TemplateError → Type 0
-IsRead front what answer = MatchResult answer (λ rest. front ≡ Takes (chars rest.now) what) (λ e. (place : List ℕ) × (front ≡ Stops place e))
+abbrev pub IsFrontRead : {A : Type 0} → Front A → A → Result (Bor (List ℕ)) TemplateError → Type 0
+IsFrontRead front what answer = MatchResult answer (λ rest. front ≡ Takes (chars rest.now) what) (λ e. (place : List ℕ) × (front ≡ Stops place e))

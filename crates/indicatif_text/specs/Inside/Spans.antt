@@ -1,7 +1,7 @@
 -- The characters that a run of a text is made of.
 use Rattle.std.specs.Prelude.{ℕ, Bool, true, not, ◌||◌, ◌&&◌, ◌==◌}
-use Rattle.indicatif_text.specs.declared.spans.Span.{Span}
-use Rattle.indicatif_text.specs.declared.spans.Span.TheVariants.{Literal, Key, Word}
+use Rattle.indicatif_text.specs.declared.spans.CharacterClass.{CharacterClass}
+use Rattle.indicatif_text.specs.declared.spans.CharacterClass.TheVariants.{Literal, Key, Word}
 use Rattle.indicatif_text.specs.declared.spans.Words.{Words}
 use Rattle.indicatif_text.specs.declared.spans.Words.TheVariants.{All, Style, Alternative}
 use Rattle.indicatif_text.specs.Inside.StyleWords.{is_word_char}
@@ -18,13 +18,13 @@ in_words Style c = is_style_char c
 in_words Alternative c = is_alternative_char c
 
 -- whether a character belongs to a run
-abbrev pub belongs : Span → ℕ → Bool
+abbrev pub belongs : CharacterClass → ℕ → Bool
 belongs Literal = is_literal_char
 belongs Key = is_key_char
 belongs (Word words) = λ c. in_words words c && is_word_char c
 
 -- the table's bit of the bytes that end a run
-abbrev pub bit_of : Span → ℕ
+abbrev pub bit_of : CharacterClass → ℕ
 bit_of Literal = 1
 bit_of Key = 2
 bit_of (Word All) = 4

@@ -13,7 +13,7 @@ abbrev pub background_after : Option ℕ → List ℕ → Option ℕ
 background_after before word = last_or before (option_to_list (colour_number 40 background_words word))
 
 -- a style with a further word
-pub record Adds (s : Style) (word : List ℕ) (t : Style) : Type 0 where
+pub record AddsWord (s : Style) (word : List ℕ) (t : Style) : Type 0 where
   pub foreground : foreground_number t ≡ foreground_after (foreground_number s) word
   pub background : background_number t ≡ background_after (background_number s) word
   pub bold : t.bold ≡ (s.bold || bytes_eq word (codes "bold"))

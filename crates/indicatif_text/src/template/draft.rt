@@ -1,11 +1,11 @@
 //! A partly read template.
 ghost use Rattle.std.specs.Prelude.{◌≡◌, ℕ, List, ◌∷◌, ◌++◌, [], ◌⊎◌, ◌<◌, chars, string_bytes, take, drop, length, OnOk, IfOk, IfErr, IsCharBoundary};
-ghost use Rattle.indicatif_text.specs.Inside.StoredParts.{AreIn};
+ghost use Rattle.indicatif_text.specs.Inside.StoredParts.{LieIn};
 
 use crate::refusal::TemplateState;
-use crate::spans::{Span, split_first, split_span};
+use crate::spans::{CharacterClass, split_first, split_span};
 use crate::template::reading::{Options, with_options};
-use crate::template::stored_parts::{Kind, StoredPart};
+use crate::template::stored_parts::{PartKind, StoredPart};
 use crate::template::{Template, TemplateError};
 use std::alloc::{AllocError, Global};
 
@@ -20,15 +20,15 @@ pub(super) struct Draft {
     texts: String,
     start: usize,
     fixed: usize,
-    ghost parts_in: { AreIn (take start (string_bytes texts)) parts.items },
+    ghost parts_in: { LieIn (take start (string_bytes texts)) parts.items },
     ghost start_whole: { IsCharBoundary (string_bytes texts) start },
     ghost fixed_whole: { IsCharBoundary (drop start (string_bytes texts)) fixed },
 }
 
 impl Draft {
-    ghost use Rattle.indicatif_text.specs.Template.{LineBreak, Char, SpacedBrace, Keyed, LastBrace, plain_layout, with_options, keyed, unfinished, key_ends, opened, closed, IsRefused};
+    ghost use Rattle.indicatif_text.specs.Template.{LineBreak, Char, SpacedBrace, Keyed, LastBrace, plain_layout, with_options, keyed, unfinished, key_ends, opening_brace, closing_brace, IsRefused};
     ghost use Rattle.indicatif_text.specs.Inside.Reading.{layout_of};
-    ghost use Rattle.indicatif_text.specs.Inside.Draft.{Sketch, GoesOn, TakesIn, sketch_of, empty_sketch, sketched_parts, fixed_sketch, closed_sketch, parted_sketch, with_part, with_run, added};
+    ghost use Rattle.indicatif_text.specs.Inside.Draft.{Sketch, ReadsOn, TakesIn, sketch_of, empty_sketch, sketched_parts, fixed_sketch, closed_sketch, parted_sketch, with_part, with_run, added};
 
     /// A draft of which nothing is read yet, with memory for the texts of a text of `len` bytes, and for one part for every four bytes, up
     /// to `FIRST_PARTS`.
@@ -54,7 +54,7 @@ impl Draft {
 
     /// Makes the draft's text after its parts the text of a further part.
     #[inline]
-    fn close(&mut self, kind: Kind) -> Result<(), AllocError>
+    fn close(&mut self, kind: PartKind) -> Result<(), AllocError>
         ensures { OnOk result (sketch_of self.new ≡ parted_sketch (sketch_of self.old) kind) }
     {
         let start = self.start;
@@ -73,7 +73,7 @@ impl Draft {
         if self.texts.len() == self.start {
             return Ok(());
         }
-        self.close(Kind::Literal)
+        self.close(PartKind::Literal)
     }
 
     /// Adds the end of a line to the draft.
@@ -82,7 +82,7 @@ impl Draft {
         ensures { OnOk result (sketch_of self.new ≡ with_part (sketch_of self.old) LineBreak) }
     {
         self.close_literal()?;
-        self.close(Kind::NewLine)
+        self.close(PartKind::NewLine)
     }
 
     /// Adds literal characters to the draft.
@@ -138,7 +138,7 @@ impl Draft {
         ensures { OnOk result (sketch_of self.new ≡ added (sketch_of self.old) (Keyed (chars key.now) plain_layout)) }
     {
         self.push_name(key)?;
-        self.close(Kind::Key)
+        self.close(PartKind::Key)
     }
 
     /// Reads the options of the placeholder that was begun, and adds it. Returns the rest of the text.
@@ -151,7 +151,7 @@ impl Draft {
     {
         let mut options = Options::NONE;
         let left = with_options(&mut options, text)?;
-        self.close(Kind::Placeholder(options))?;
+        self.close(PartKind::Placeholder(options))?;
         Ok(left)
     }
 
@@ -188,7 +188,7 @@ impl Draft {
         if end != '}' {
             return self.read_options(rest);
         }
-        self.close(Kind::Key)?;
+        self.close(PartKind::Key)?;
         Ok(rest)
     }
 
@@ -197,7 +197,7 @@ impl Draft {
     /// Refused: `Unexpected` in `MaybeOpen` if there is no key; as the options; `Memory`.
     #[inline]
     fn read_open<'a>(&mut self, text: &'a str) -> Result<&'a str, TemplateError>
-        ensures { TakesIn (opened (chars text.now)) (sketch_of self.old) (sketch_of self.new) result }
+        ensures { TakesIn (opening_brace (chars text.now)) (sketch_of self.old) (sketch_of self.new) result }
     {
         let Some((first, rest)) = split_first(text) else {
             self.drop_run();
@@ -207,7 +207,7 @@ impl Draft {
             self.push_literal('{')?;
             return Ok(rest);
         }
-        let (key, after) = split_span(text, Span::Key);
+        let (key, after) = split_span(text, CharacterClass::Key);
         self.read_key(key, after)
     }
 
@@ -216,7 +216,7 @@ impl Draft {
     /// Refused: `Unexpected` in `DoubleClose` if another character follows; `Memory`.
     #[inline(never)]
     fn read_close<'a>(&mut self, text: &'a str) -> Result<&'a str, TemplateError>
-        ensures { TakesIn (closed (chars text.now)) (sketch_of self.old) (sketch_of self.new) result }
+        ensures { TakesIn (closing_brace (chars text.now)) (sketch_of self.old) (sketch_of self.new) result }
     {
         let Some((next, rest)) = split_first(text) else {
             self.push_literal('}')?;
@@ -235,11 +235,11 @@ impl Draft {
     /// Refused: as the grammar says for this piece; `Memory`.
     #[inline]
     pub(super) fn read<'a>(&mut self, text: &'a str) -> Result<&'a str, TemplateError>
-        ensures leads { IfOk result (λ rest. GoesOn (sketch_of self.old) (chars text.now) (sketch_of self.new) (chars rest.now)) }
+        ensures leads { IfOk result (λ rest. ReadsOn (sketch_of self.old) (chars text.now) (sketch_of self.new) (chars rest.now)) }
         ensures refused { IfErr result (λ e. (e ≡ TemplateError.Memory) ⊎ IsRefused (chars text.now) e) }
         ensures shorter { IfOk result (λ rest. 0 < length (chars text.now) → length (chars rest.now) < length (chars text.now)) }
     {
-        let (run, behind) = split_span(text, Span::Literal);
+        let (run, behind) = split_span(text, CharacterClass::Literal);
         self.push_run(run)?;
         let Some((first, after)) = split_first(behind) else {
             return Ok(behind);

@@ -3,7 +3,7 @@ ghost use Rattle.std.specs.Prelude.{◌≡◌, true, false, chars, option_map, t
 ghost use Rattle.indicatif_text.specs.Inside.Spans.{in_words};
 ghost use Rattle.indicatif_text.specs.StyleWords.{numbers_of};
 ghost use Rattle.indicatif_text.specs.Template.{Takes, after_run, is_width_char, style_named, alignment_of, with_alternative, with_style, with_width, with_options};
-ghost use Rattle.indicatif_text.specs.Inside.Reading.{IsRead, layout_of, IsMix, TakesUp};
+ghost use Rattle.indicatif_text.specs.Inside.Reading.{IsFrontRead, layout_of, IsMix, TakesUp};
 
 use crate::refusal::TemplateState;
 use crate::spans::{Words, split_first};
@@ -170,7 +170,7 @@ fn with_width<'a>(
     state: TemplateState,
     text: &'a str,
 ) -> Result<&'a str, TemplateError>
-    ensures { IsRead (with_width (layout_of options.old) state (chars text.now)) (layout_of options.new) result }
+    ensures { IsFrontRead (with_width (layout_of options.old) state (chars text.now)) (layout_of options.new) result }
 {
     let (mix, after) = read_mix(state, text);
     options.truncate = mix.truncate;
@@ -198,7 +198,7 @@ pub(super) fn with_options<'a>(
     options: &mut Options,
     text: &'a str,
 ) -> Result<&'a str, TemplateError>
-    ensures { IsRead (with_options (chars text.now)) (layout_of options.new) result }
+    ensures { IsFrontRead (with_options (chars text.now)) (layout_of options.new) result }
 {
     *options = Options::NONE;
     match split_first(text) {

@@ -1,14 +1,14 @@
 //! The parts of a template as they are stored: their texts are one text, and each part has the place of its own.
 ghost use Rattle.std.specs.Prelude.{◌≡◌};
 ghost use Rattle.indicatif_text.specs.Template.{part_of};
-ghost use Rattle.indicatif_text.specs.Inside.StoredParts.{IsIn, part_at};
+ghost use Rattle.indicatif_text.specs.Inside.StoredParts.{LiesIn, part_at};
 
 use crate::template::reading::Options;
 use crate::template::{Alignment, Part};
 
 /// A part of a template, except its text.
 #[derive(Clone, Copy, Debug, Drop)]
-pub(super) enum Kind {
+pub(super) enum PartKind {
     /// A literal text.
     Literal,
     /// The end of a line.
@@ -22,7 +22,7 @@ pub(super) enum Kind {
 /// A part of a template: its kind, and the byte at which its text begins. That of a newline is empty.
 #[derive(Clone, Copy, Debug, Drop)]
 pub(super) struct StoredPart {
-    pub kind: Kind,
+    pub kind: PartKind,
     pub start: usize,
     pub end: usize,
 }
@@ -32,14 +32,14 @@ impl StoredPart {
     #[tactic(auto, unfolding(crate::specs::Template::part_of))]
     #[inline(always)]
     pub(super) fn part<'a>(&self, texts: &'a str) -> Part<'a>
-        requires { IsIn texts.now self.now }
+        requires { LiesIn texts.now self.now }
         ensures { part_of result ≡ part_at texts.now self.now }
     {
         let text = &texts[self.start..self.end];
         match self.kind {
-            Kind::Literal => Part::Literal(text),
-            Kind::NewLine => Part::NewLine,
-            Kind::Key => Part::Placeholder {
+            PartKind::Literal => Part::Literal(text),
+            PartKind::NewLine => Part::NewLine,
+            PartKind::Key => Part::Placeholder {
                 key: text,
                 align: Alignment::Left,
                 width: None,
@@ -47,7 +47,7 @@ impl StoredPart {
                 style: None,
                 alternative: None,
             },
-            Kind::Placeholder(options) => Part::Placeholder {
+            PartKind::Placeholder(options) => Part::Placeholder {
                 key: text,
                 align: options.align,
                 width: options.width,

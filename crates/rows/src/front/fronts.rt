@@ -175,10 +175,10 @@ impl<R: Wait + Copy + Clone + Drop> Fronts<R> {
             "shows" => push_contents(board.0.with_term(contents), got)?,
             "hidden" => got.flag(board.0.is_hidden()),
             "order" => {
-                board.shown(self.look(Question::Order), got);
+                board.answer_question(self.look(Question::Order), got);
             }
             "kept_at" => {
-                board.shown(self.look(Question::Moments), got);
+                board.answer_question(self.look(Question::Moments), got);
             }
             _ => return Ok(false),
         }
@@ -235,7 +235,7 @@ impl<R: Wait + Copy + Clone + Drop> Fronts<R> {
             from: self.looked_at,
             answer: self.answer,
         };
-        self.looked_at = self.board()?.shown(self.look(question), got);
+        self.looked_at = self.board()?.answer_question(self.look(question), got);
         Ok(())
     }
 }
@@ -344,9 +344,9 @@ impl<R: Shares + RandomSource> Fronts<R> {
     fn history_rests(&self, got: &mut Got) -> Outcome {
         let board = self.board()?;
         let mut unsaid = Got::new(self.alloc);
-        let before = board.shown(self.look(Question::Order), &mut unsaid);
+        let before = board.answer_question(self.look(Question::Order), &mut unsaid);
         pause(&self.rt);
-        got.flag(board.shown(self.look(Question::Order), &mut unsaid) == before);
+        got.flag(board.answer_question(self.look(Question::Order), &mut unsaid) == before);
         Ok(())
     }
 }

@@ -28,7 +28,7 @@ pub struct Look {
 
 impl<R: Wait + Copy + Clone + Drop> Shared<R> {
     /// Appends the answer to a question; how many calls the board has kept.
-    pub fn shown(&self, look: Look, got: &mut Got) -> usize {
+    pub fn answer_question(&self, look: Look, got: &mut Got) -> usize {
         let (said, kept) = self.0.with_record(look);
         got.text(said.as_str());
         kept

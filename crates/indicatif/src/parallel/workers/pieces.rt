@@ -11,7 +11,7 @@ use std::alloc::{AllocError, Global};
 
 /// The result of a piece.
 #[derive(Drop)]
-pub struct Ended<A> {
+pub struct EndedPiece<A> {
     /// Its number, from 0.
     pub piece: usize,
     /// Its answers, unless it got no memory for them.
@@ -20,7 +20,7 @@ pub struct Ended<A> {
 
 /// Pieces, of which each thread takes the next that is left.
 #[derive(Drop)]
-pub struct Pieces<'a, T, F, G> {
+pub struct PieceQueue<'a, T, F, G> {
     /// The allocator of the answers.
     pub alloc: Global,
     /// The pieces.
@@ -33,14 +33,14 @@ pub struct Pieces<'a, T, F, G> {
     pub gate: &'a G,
 }
 
-impl<'a, T: Sync, A: Send + Drop, F: Fn(&T) -> A + Sync, G: Gate> Work for Pieces<'a, T, F, G> {
-    type Item = Ended<A>;
+impl<'a, T: Sync, A: Send + Drop, F: Fn(&T) -> A + Sync, G: Gate> Work for PieceQueue<'a, T, F, G> {
+    type Item = EndedPiece<A>;
 
     ghost can_work = { λ w. F.IsAlwaysCallable w.f.now × (w.claims.items ≡ length w.pieces.now) };
 
     ghost gives = { λ w e. IsEnded (FnReturnsAt F.Fn w.f.now) w.pieces.now e };
 
-    fn work(&self, room: Vec<Ended<A>>) -> Result<Vec<Ended<A>>, AllocError>
+    fn work(&self, room: Vec<EndedPiece<A>>) -> Result<Vec<EndedPiece<A>>, AllocError>
         requires can { F.IsAlwaysCallable self.now.f.now × (self.now.claims.items ≡ length self.now.pieces.now) }
         requires empty { room.items ≡ [] }
         ensures { IfOk result (λ made. All (IsEnded (FnReturnsAt F.Fn self.now.f.now) self.now.pieces.now) made.items) }
@@ -63,13 +63,13 @@ fn ended_at<T, A: Drop, F: Fn(&T) -> A>(
     pieces: &[Vec<T>],
     piece: usize,
     f: &F,
-) -> Ended<A>
+) -> EndedPiece<A>
     requires callable { F.IsAlwaysCallable f.now }
     requires within { piece < length pieces.now }
     ensures { IsEnded (FnReturnsAt F.Fn f.now) pieces.now result }
 {
     let answers = answers_of(alloc, pieces[piece].as_slice(), f).ok();
-    Ended { piece, answers }
+    EndedPiece { piece, answers }
 }
 
 /// The results of the first pieces.
@@ -109,15 +109,15 @@ fn with_answers<A: Drop>(all: Option<Vec<Vec<A>>>, more: Vec<A>) -> Option<Vec<V
     Some(all)
 }
 
-impl<'a, T, A: Drop, F: Fn(&T) -> A, G> Pieces<'a, T, F, G> {
+impl<'a, T, A: Drop, F: Fn(&T) -> A, G> PieceQueue<'a, T, F, G> {
     // What the pieces came to, with what became of one more. One that isn't the next leaves the answers incomplete.
-    fn gathered_with(&self, before: Gathered<A>, ended: Ended<A>) -> Gathered<A>
+    fn gathered_with(&self, before: Gathered<A>, ended: EndedPiece<A>) -> Gathered<A>
         requires before { IsGathered (FnReturnsAt F.Fn self.now.f.now) self.now.pieces.now before }
         requires ended { IsEnded (FnReturnsAt F.Fn self.now.f.now) self.now.pieces.now ended }
         requires room { length self.now.pieces.now < 2 ^ 64 }
         ensures { IsGathered (FnReturnsAt F.Fn self.now.f.now) self.now.pieces.now result }
     {
-        let Ended { piece, answers } = ended;
+        let EndedPiece { piece, answers } = ended;
         if piece != before.pieces {
             return Gathered {
                 answers: None,
@@ -136,14 +136,18 @@ impl<'a, T, A: Drop, F: Fn(&T) -> A, G> Pieces<'a, T, F, G> {
 
     /// The answers in the order of the pieces, in memory that was taken before, unless a piece has none; and the number of items that were
     /// met.
-    pub fn in_order(&self, ended: Vec<Ended<A>>, room: Vec<Vec<A>>) -> (Option<Vec<Vec<A>>>, u64)
+    pub fn in_order(
+        &self,
+        ended: Vec<EndedPiece<A>>,
+        room: Vec<Vec<A>>,
+    ) -> (Option<Vec<Vec<A>>>, u64)
         requires ended { All (IsEnded (FnReturnsAt F.Fn self.now.f.now) self.now.pieces.now) ended.items }
         requires room { room.items ≡ [] }
         ensures { CountsPieces (FnReturnsAt F.Fn self.now.f.now) self.now.pieces.now result.0 result.1 }
     {
         let count = self.pieces.len();
         let mut ended = ended;
-        ended.sort_unstable_by_key(|e: &Ended<A>| -> usize { e.piece });
+        ended.sort_unstable_by_key(|e: &EndedPiece<A>| -> usize { e.piece });
         let mut all = Gathered {
             pieces: 0,
             answers: Some(room),

@@ -5,7 +5,7 @@ use Rattle.indicatif_text.specs.Inside.Runs.{times_then}
 use Rattle.indicatif_text.proofs.ColourSequenceLemmas.{repeats_char}
 use Rattle.indicatif_text.proofs.runs.repeats.Goals as goal
 
--- the text begins with the character so many times
+-- the text begins with the repeated character
 begins : (c : goal.After-buffer-2-1) → c.args.text.now ≡ times_then c.triples.result (encode c.args.c) (drop (3 * c.triples.result) c.args.text.now)
 begins c =
     let n = c.triples.result in

@@ -1,5 +1,5 @@
 use Rattle.indicatif_bar.specs.Commands.{command_of}
-use Rattle.indicatif_board.specs.BoardValues.{id_of}
+use Rattle.indicatif_board.specs.BarIds.{id_of}
 use Rattle.indicatif_board.specs.Boards.{Tell, says}
 use Rattle.indicatif_board.specs.Multi.{known, mark_of}
 use Rattle.uses.proofs.answers.tell_on.Goals as goal

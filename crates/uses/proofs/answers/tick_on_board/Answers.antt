@@ -3,7 +3,7 @@ use Rattle.indicatif_term.specs.Lists.{opening_lists}
 use Rattle.indicatif_term.specs.Target.{limiter_of}
 use Rattle.indicatif_bar.specs.Commands.{TickerTick}
 use Rattle.indicatif_board.specs.Boards.{Tell, says}
-use Rattle.indicatif_board.specs.BoardValues.{id_of}
+use Rattle.indicatif_board.specs.BarIds.{id_of}
 use Rattle.indicatif_board.specs.Multi.{known, mark_of}
 use Rattle.uses.proofs.ExactLemmas.{unlimited_on}
 use Rattle.uses.proofs.answers.tick_on_board.Goals as goal

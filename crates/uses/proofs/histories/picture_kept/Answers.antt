@@ -1,5 +1,5 @@
 use Rattle.std.proofs.Common.{refl, sym, ◌∙◌, ap, option_map}
-use Rattle.indicatif_term.specs.Memory.{view_of}
+use Rattle.indicatif_term.specs.Cells.{view_of}
 use Rattle.indicatif_term.specs.Pictures.{picture_text}
 use Rattle.indicatif_board.specs.Multi.{terminal_of}
 use Rattle.uses.proofs.PictureLemmas.{state_told}

@@ -6,7 +6,7 @@ use Rattle.indicatif_term.specs.Terminal.{blank_terminal}
 use Rattle.indicatif_term.specs.Pictures.{picture_text}
 use Rattle.indicatif_term.specs.Target.{term_of, limiter_of}
 use Rattle.indicatif_term.specs.Lines.{are_plain}
-use Rattle.indicatif_term.specs.Memory.{view_of}
+use Rattle.indicatif_term.specs.Cells.{view_of}
 use Rattle.indicatif_bar.specs.Commands.{new_bar}
 use Rattle.indicatif_bar.specs.Lone.{Log, opening_state}
 use Rattle.indicatif_bar.specs.LoneBars.{LoneIsIn, lone_bar, lone_known}

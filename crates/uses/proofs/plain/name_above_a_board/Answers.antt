@@ -7,13 +7,13 @@ use Rattle.indicatif_term.specs.Terminal.{blank_terminal}
 use Rattle.indicatif_term.specs.Pictures.{picture_text}
 use Rattle.indicatif_term.specs.Target.{term_of, limiter_of}
 use Rattle.indicatif_term.specs.Lines.{are_plain}
-use Rattle.indicatif_term.specs.Memory.{view_of}
+use Rattle.indicatif_term.specs.Cells.{view_of}
 use Rattle.indicatif_bar.specs.Commands.{SetMessage, new_bar}
 use Rattle.indicatif_bar.specs.Machines.{Leads}
 use Rattle.indicatif_bar.specs.Runs.{Runs, CallMade, lines_by}
 use Rattle.indicatif_bar.specs.Trackers.{writes_nothing}
 use Rattle.indicatif_board.specs.Boards.{End, New, Insert, Log, Tell, Given, Drew, opening_board}
-use Rattle.indicatif_board.specs.BoardValues.{id_of}
+use Rattle.indicatif_board.specs.BarIds.{id_of}
 use Rattle.indicatif_board.specs.Multi.{IsIn, known}
 use Rattle.uses.proofs.PictureLemmas.{state_told}
 use Rattle.uses.proofs.PlainLemmas.{first_name, new_memory, machine}

@@ -9,7 +9,7 @@ use Rattle.indicatif_term.specs.Lines.{text_lines, logged_lines}
 use Rattle.indicatif_term.specs.Lists.{Lists, opening_lists}
 use Rattle.indicatif_term.specs.Pictures.{picture_text, row_text}
 use Rattle.indicatif_term.specs.Target.{term_of, limiter_of}
-use Rattle.indicatif_term.specs.Memory.{view_of}
+use Rattle.indicatif_term.specs.Cells.{view_of}
 use Rattle.indicatif_text.specs.Columns.{rows_of}
 use Rattle.indicatif_bar.specs.Commands.{BarRecord}
 use Rattle.indicatif_bar.specs.Bars.{bar_kind}

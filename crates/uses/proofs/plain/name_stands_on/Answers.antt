@@ -6,7 +6,7 @@ use Rattle.indicatif_term.specs.Terminal.{blank_terminal, after}
 use Rattle.indicatif_term.specs.Calls.{State, led_on}
 use Rattle.indicatif_term.specs.Pictures.{picture_text}
 use Rattle.indicatif_term.specs.Target.{term_of, limiter_of}
-use Rattle.indicatif_term.specs.Memory.{view_of}
+use Rattle.indicatif_term.specs.Cells.{view_of}
 use Rattle.indicatif_bar.specs.Runs.{CallMade, Runs}
 use Rattle.indicatif_board.specs.Boards.{Log, Drew, opening_board}
 use Rattle.indicatif_board.specs.Calls.{answer_of, timed}

@@ -4,7 +4,7 @@ use Rattle.indicatif_term.specs.Screen.{blank_screen}
 use Rattle.indicatif_term.specs.Terminal.{blank_terminal}
 use Rattle.indicatif_term.specs.Pictures.{picture_text}
 use Rattle.indicatif_term.specs.Target.{term_of, limiter_of}
-use Rattle.indicatif_term.specs.Memory.{view_of}
+use Rattle.indicatif_term.specs.Cells.{view_of}
 use Rattle.indicatif_bar.specs.Machines.{Leads, target_of}
 use Rattle.indicatif_bar.specs.Runs.{Runs, CallMade}
 use Rattle.indicatif_bar.specs.Trackers.{writes_nothing}

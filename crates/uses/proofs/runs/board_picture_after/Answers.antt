@@ -7,7 +7,7 @@ use Rattle.indicatif_term.specs.Lists.{opening_lists, all_rows}
 use Rattle.indicatif_term.specs.Shows.{resting}
 use Rattle.indicatif_term.specs.Pictures.{picture_text, row_text}
 use Rattle.indicatif_term.specs.Target.{term_of, limiter_of}
-use Rattle.indicatif_term.specs.Memory.{view_of}
+use Rattle.indicatif_term.specs.Cells.{view_of}
 use Rattle.indicatif_bar.specs.Runs.{Runs, Starts, broke}
 use Rattle.indicatif_board.specs.Boards.{board, opening_board}
 use Rattle.indicatif_board.specs.BoardBars.{board_bars}

@@ -10,7 +10,7 @@ use Rattle.indicatif_term.specs.Shows.{resting}
 use Rattle.indicatif_term.specs.Pictures.{picture_text, row_text}
 use Rattle.indicatif_term.specs.Engines.{is_failure}
 use Rattle.indicatif_term.specs.Target.{term_of, limiter_of}
-use Rattle.indicatif_term.specs.Memory.{view_of}
+use Rattle.indicatif_term.specs.Cells.{view_of}
 use Rattle.indicatif_bar.specs.Commands.{BarRecord}
 use Rattle.indicatif_bar.specs.Bars.{bar_kind}
 use Rattle.indicatif_bar.specs.Machines.{target_of}

@@ -8,7 +8,7 @@ use Rattle.indicatif_term.specs.Shows.{resting}
 use Rattle.indicatif_term.specs.Pictures.{picture_text, row_text}
 use Rattle.indicatif_term.specs.Engines.{is_failure}
 use Rattle.indicatif_term.specs.Target.{term_of, limiter_of}
-use Rattle.indicatif_term.specs.Memory.{view_of}
+use Rattle.indicatif_term.specs.Cells.{view_of}
 use Rattle.indicatif_bar.specs.Runs.{Runs, Starts}
 use Rattle.indicatif_bar.specs.Lone.{opening_state}
 use Rattle.indicatif_bar.specs.LoneBars.{LoneIsIn, lone_bar, lone_timed, lone_known}

@@ -1,6 +1,6 @@
 use Rattle.std.proofs.Common.{Err, ◌∙◌, ap, subst, inl, inr, None, Some, option_map}
 use Rattle.std.proofs.lemmas.Result.{err_from_is_err_and}
-use Rattle.indicatif_term.specs.Memory.{view_of}
+use Rattle.indicatif_term.specs.Cells.{view_of}
 use Rattle.indicatif_term.specs.Target.{term_of, limiter_of, is_bottom}
 use Rattle.indicatif_board.specs.Boards.{opening_board}
 use Rattle.indicatif_board.specs.Multi.{IsIn}

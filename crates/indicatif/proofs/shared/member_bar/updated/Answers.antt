@@ -1,5 +1,5 @@
 use Rattle.std.specs.Fn.{FnOnceReturnsAt}
-use Rattle.indicatif_board.specs.BoardValues.{id_of}
+use Rattle.indicatif_board.specs.BarIds.{id_of}
 use Rattle.indicatif.proofs.FrontLemmas.{updated_answers}
 use Rattle.indicatif.proofs.shared.member_bar.updated.Goals as goal
 

@@ -3,7 +3,7 @@ use Rattle.indicatif_board.specs.Boards.{Log, BarLog, says, drawn_of, drawn_of_s
 use Rattle.indicatif_board.specs.Multi.{LeadsBy}
 use Rattle.indicatif_board.specs.Multi.{record_at, RecordObeys}
 use Rattle.indicatif_bar.specs.Commands.{command_of}
-use Rattle.indicatif_board.specs.BoardValues.{id_of}
+use Rattle.indicatif_board.specs.BarIds.{id_of}
 use Rattle.indicatif_board.proofs.RecordLemmas.{removed_is_back, said_slots}
 use Rattle.indicatif_board.proofs.multi.Board.apply.Goals as goal
 

@@ -2,7 +2,7 @@ use Rattle.std.proofs.Common.{◌∙◌, false, refl, sym, ap, Err, Some}
 use Rattle.std.proofs.lemmas.Result.{err_from_is_err_and}
 use Rattle.indicatif_bar.specs.Machines.{target_of}
 use Rattle.indicatif_board.specs.BoardBars.{board_bars}
-use Rattle.indicatif_board.specs.BoardValues.{id_of}
+use Rattle.indicatif_board.specs.BarIds.{id_of}
 use Rattle.indicatif_board.specs.Boards.{BarLog, log_of, laid_out, layout_takes, or_refused, draws}
 use Rattle.indicatif_board.specs.Multi.{known}
 use Rattle.indicatif_board.proofs.BoardCallLemmas.{made_by_draw, made_turned_away, turned_quietly}

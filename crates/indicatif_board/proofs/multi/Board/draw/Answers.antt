@@ -1,33 +1,26 @@
-use Rattle.std.proofs.Common.{◌≡◌, ◌<◌, ◌∙◌, refl, sym, ap, subst, map, take, drop, arith, option_map, Result, Ok, Err, Some, inl, inr}
-use Rattle.std.specs.Prelude.{MatchOption}
+use Rattle.std.proofs.Common.{◌≡◌, ◌<◌, ◌∙◌, refl, sym, ap, subst, map, take, drop, arith, option_map, Ok, Err, Some, inl, inr}
+use Rattle.std.specs.Prelude.{min}
 use Rattle.std.specs.VecDeque.{deque_with_items}
 use Rattle.std.proofs.lemmas.Result.{err_from_is_err_and}
 use Rattle.std.proofs.lemmas.List.Sums.{prefix_len-le-length}
-use Rattle.indicatif_text.specs.declared.refusal.Drawn.{Drawn}
-use Rattle.indicatif_text.specs.declared.refusal.Drawn.TheVariants.{Limited, Yes}
-use Rattle.indicatif_text.specs.declared.refusal.Refusal.{Refusal}
+use Rattle.indicatif_text.specs.declared.refusal.Drawn.TheVariants.{Limited}
 use Rattle.indicatif_text.specs.declared.refusal.Refusal.TheVariants.{NoColumns}
-use Rattle.indicatif_term.specs.Engines.{engine_moves, engine_term, Fits}
-use Rattle.indicatif_term.specs.Lines.{bar_lines}
+use Rattle.indicatif_term.specs.Engines.{engine_moves, engine_term}
 use Rattle.indicatif_term.specs.declared.target.lines.Segment.{Segment}
 use Rattle.indicatif_term.specs.Target.{is_bottom}
-use Rattle.indicatif_term.specs.Lists.{opening_lists}
 use Rattle.indicatif_bar.specs.Machines.{Target, target_of}
-use Rattle.indicatif_bar.specs.Kinds.{asked_of}
-use Rattle.indicatif_bar.specs.Shown.{PutsFrame, DrewBy}
 use Rattle.indicatif_bar.specs.Stages.{writing_as}
-use Rattle.indicatif_bar.proofs.OutcomeLemmas.{drew_none, outcome-unasked, drew_withheld, drew_limited}
-use Rattle.indicatif_bar.proofs.StageLemmas.{drew_staged, drew_hidden}
+use Rattle.indicatif_bar.proofs.OutcomeLemmas.{drew_none, outcome-unasked}
+use Rattle.indicatif_bar.proofs.StageLemmas.{drew_hidden}
 use Rattle.indicatif_board.specs.BoardBars.{board_bars}
 use Rattle.indicatif_board.specs.Boards.{draw_of, board}
 use Rattle.indicatif_board.specs.Inside.ShownBars.{named_laid_out, named_layout_takes}
 use Rattle.indicatif_board.specs.Multi.{IsIn, known}
-use Rattle.indicatif_board.specs.Members.{leaders}
-use Rattle.indicatif_board.specs.ShownBars.{AreShownAs, Holds, record_on}
+use Rattle.indicatif_board.specs.ShownBars.{AreShownAs, record_on}
 use Rattle.indicatif_board.specs.Slots.{SlotTable}
 use Rattle.indicatif_board.proofs.BarRecordLemmas.{evenly, left_head, left_record}
-use Rattle.indicatif_board.proofs.MemberLemmas.{laid_lists, laid_limiter, leaders_of, dropped_bars}
-use Rattle.indicatif_board.proofs.BoardDrawLemmas.{ready_holds, asked_so, frame_drew, broken_holds, written_holds}
+use Rattle.indicatif_board.proofs.MemberLemmas.{dropped_bars}
+use Rattle.indicatif_board.proofs.BoardDrawLemmas.{withheld_to, limited_to, failed_to, written_to}
 use Rattle.indicatif_board.proofs.LeavingLemmas.{same_left, none_left}
 use Rattle.indicatif_board.proofs.multi.Board.draw.Goals as goal
 
@@ -43,165 +36,82 @@ returns-then-is_no-clause-drew g c = λ mark takes s number inside placed.
 pub returns-then-width-eq0-clause-drew : goal.returns-then-width-eq0-clause-drew
 unfolding IsIn
 returns-then-width-eq0-clause-drew g c = λ mark takes s number inside placed.
-    let asked = sym c.is_no.ensures ∙ c.if-is_no.false in
-    let holds : AreShownAs c.note_place.new.self s = subst (λ b. AreShownAs b s) (sym c.note_place.ensures) inside.1 in
-    let staged = inside.2 in
-    let tracks = g.K.Tracks.means in
-    let m = board (board_bars tracks) mark in
     let view = g.T.TermLike.view in
-    let stage = c.args.self.now.stage in
-    let engine = c.in-Some.engine in
-    let drawing = λ (target : Target). draw_of target takes c.args.ask c.args.now (writing_as c.args.writing) s
-    (named_laid_out tracks target c.args.now number s) (named_layout_takes tracks number s) in
-    let fits = subst (λ o. MatchOption o (s.lists ≡ opening_lists) (λ e. Fits e s.lists)) c.in-Some.is staged.1 in
-    let none : (view (engine_term engine)).columns ≡ 0 = ap (λ t. (view t).columns) (sym c.term.ensures.terminal) ∙ sym c.width-width.ensures ∙ c.if-width-eq0.true in
-    let d = drew_staged m (AreShownAs c.note_place.new.self) (λ x. x.limiter) view stage (record stage { engine = Some engine }) engine engine drawing s.lists (Err NoColumns) c.in-Some.is refl
-    (drew_withheld m (λ x. AreShownAs c.note_place.new.self x × (stage.limiter ≡ x.limiter)) view engine (drawing (target_of (Some (view (engine_term engine))))) s.lists
-    NoColumns asked (inl (refl, none)) (λ e. cc) fits refl (holds, staged.0)) in
+    let none : (view (engine_term c.in-Some.engine)).columns ≡ 0 = ap (λ t. (view t).columns) (sym c.term.ensures.terminal) ∙ sym c.width-width.ensures ∙ c.if-width-eq0.true in
+    let d = withheld_to g.K.Tracks.means view mark takes c.args.ask c.args.now (writing_as c.args.writing) s number c.args.self.now.stage c.in-Some.engine c.in-Some.is
+    (sym c.is_no.ensures ∙ c.if-is_no.false) inside.2 (AreShownAs c.note_place.new.self) (subst (λ b. AreShownAs b s) (sym c.note_place.ensures) inside.1) NoColumns
+    (inl (refl, none)) (λ e. cc) in
     (d.0, (inside.0, d.1, d.2), d.3)
 
 pub returns-in_err-lay_out-clause-drew : goal.returns-in_err-lay_out-clause-drew
 unfolding IsIn
 returns-in_err-lay_out-clause-drew g c = λ mark takes s number inside placed.
-    let asked = sym c.is_no.ensures ∙ c.if-is_no.false in
-    let holds : AreShownAs c.note_place.new.self s = subst (λ b. AreShownAs b s) (sym c.note_place.ensures) inside.1 in
-    let staged = inside.2 in
-    let tracks = g.K.Tracks.means in
-    let m = board (board_bars tracks) mark in
     let view = g.T.TermLike.view in
-    let stage = c.args.self.now.stage in
-    let engine = c.in-Some.engine in
-    let drawing = λ (target : Target). draw_of target takes c.args.ask c.args.now (writing_as c.args.writing) s
-    (named_laid_out tracks target c.args.now number s) (named_layout_takes tracks number s) in
-    let fits = subst (λ o. MatchOption o (s.lists ≡ opening_lists) (λ e. Fits e s.lists)) c.in-Some.is staged.1 in
-    let some : 0 < (view (engine_term engine)).columns = omega (arith, ap (λ t. (view t).columns) c.term.ensures.terminal, c.width-width.ensures, c.if-width-eq0.false) in
+    let some : 0 < (view (engine_term c.in-Some.engine)).columns = omega (arith, ap (λ t. (view t).columns) c.term.ensures.terminal, c.width-width.ensures, c.if-width-eq0.false) in
+    let holds : AreShownAs c.note_place.new.self s = subst (λ b. AreShownAs b s) (sym c.note_place.ensures) inside.1 in
     let x = err_from_is_err_and c.from_residual.result c.from_residual.ensures.1 in
     let memory = c.in_err-lay_out.ensures.memory in
-    let e = c.in_err-lay_out.field-0.0 in
     rw (x.1 ∙ ap Err x.2, c.in_err-lay_out.ensures.unchanged)
-    (let d = drew_staged m (AreShownAs c.note_place.new.self) (λ x. x.limiter) view stage (record stage { engine = Some engine }) engine engine drawing s.lists (Err e) c.in-Some.is refl
-    (drew_withheld m (λ x. AreShownAs c.note_place.new.self x × (stage.limiter ≡ x.limiter)) view engine (drawing (target_of (Some (view (engine_term engine))))) s.lists
-    e asked (inr (memory.0, some)) (λ e. memory.1 s number placed holds) fits refl (holds, staged.0)) in (d.0, (inside.0, d.1, d.2), d.3))
+    (let d = withheld_to g.K.Tracks.means view mark takes c.args.ask c.args.now (writing_as c.args.writing) s number c.args.self.now.stage c.in-Some.engine c.in-Some.is
+    (sym c.is_no.ensures ∙ c.if-is_no.false) inside.2 (AreShownAs c.note_place.new.self) holds c.in_err-lay_out.field-0.0 (inr (memory.0, some)) (λ e. memory.1 s number placed holds) in
+    (d.0, (inside.0, d.1, d.2), d.3))
 
 pub returns-then-not-allows-clause-drew : goal.returns-then-not-allows-clause-drew
 unfolding IsIn
 returns-then-not-allows-clause-drew g c = λ mark takes s number inside placed.
-    let asked = sym c.is_no.ensures ∙ c.if-is_no.false in
-    let holds : AreShownAs c.note_place.new.self s = subst (λ b. AreShownAs b s) (sym c.note_place.ensures) inside.1 in
-    let staged = inside.2 in
-    let tracks = g.K.Tracks.means in
-    let m = board (board_bars tracks) mark in
     let view = g.T.TermLike.view in
-    let stage = c.args.self.now.stage in
-    let engine = c.in-Some.engine in
+    let some : 0 < (view (engine_term c.in-Some.engine)).columns = omega (arith, ap (λ t. (view t).columns) c.term.ensures.terminal, c.width-width.ensures, c.if-width-eq0.false) in
+    let laid = c.in_ok-lay_out.ensures.laid (target_of (Some (view (engine_term c.in-Some.engine)))) s number (ap (λ t. (view t).columns) (sym c.term.ensures.terminal) ∙ sym c.width-width.ensures)
+    placed (subst (λ b. AreShownAs b s) (sym c.note_place.ensures) inside.1) in
     let b = c.lay_out.new.self in
-    let writing = writing_as c.args.writing in
-    let drawing = λ (target : Target). draw_of target takes c.args.ask c.args.now writing s (named_laid_out tracks target c.args.now number s) (named_layout_takes tracks number s) in
-    let target = target_of (Some (view (engine_term engine))) in
-    let fits = subst (λ o. MatchOption o (s.lists ≡ opening_lists) (λ e. Fits e s.lists)) c.in-Some.is staged.1 in
-    let some : 0 < (view (engine_term engine)).columns = omega (arith, ap (λ t. (view t).columns) c.term.ensures.terminal, c.width-width.ensures, c.if-width-eq0.false) in
-    let laid = c.in_ok-lay_out.ensures.laid target s number (ap (λ t. (view t).columns) (sym c.term.ensures.terminal) ∙ sym c.width-width.ensures) placed holds in
-    let after = named_laid_out tracks target c.args.now number s in
-    let same = staged.0 ∙ sym (laid_limiter tracks target c.args.now number s) in
-    let withheld = sym (c.allows.ensures.answer ∙ ap (λ l. (asked_of c.args.ask c.args.now l).0) same) ∙ c.if-not-allows.true in
-    let d = drew_staged m (AreShownAs b) (λ x. x.limiter) view stage (record stage { engine = Some engine; limiter = c.allows.new.limiter }) engine engine drawing s.lists (Ok Limited)
-    c.in-Some.is refl
-    (drew_limited m (λ x. AreShownAs b x × (c.allows.new.limiter ≡ x.limiter)) view engine (drawing target) s.lists asked some withheld fits (laid_lists tracks target c.args.now number s) (
-      ready_holds tracks view mark takes c.args.ask c.args.now writing s after (named_layout_takes tracks number s) engine b.frame.items b.members.items b.table.made (is_bottom b.alignment) laid,
-      c.allows.ensures.next ∙ ap (λ l. (asked_of c.args.ask c.args.now l).1) same,
-    )) in
+    let d = limited_to g.K.Tracks.means view mark takes c.args.ask c.args.now (writing_as c.args.writing) s number c.args.self.now.stage c.in-Some.engine c.in-Some.is
+    (sym c.is_no.ensures ∙ c.if-is_no.false) inside.2 some c.allows.result c.allows.new.limiter (sym c.allows.ensures.answer) c.allows.ensures.next
+    b.frame.items b.members.items b.table.made (is_bottom b.alignment) laid c.if-not-allows.true in
     (d.0, (inside.0, d.1, d.2), d.3)
 
 pub returns-in_err-put-clause-drew : goal.returns-in_err-put-clause-drew
 unfolding IsIn
 returns-in_err-put-clause-drew g c = λ mark takes s number inside placed.
-    let asked = sym c.is_no.ensures ∙ c.if-is_no.false in
-    let holds : AreShownAs c.note_place.new.self s = subst (λ b. AreShownAs b s) (sym c.note_place.ensures) inside.1 in
-    let staged = inside.2 in
-    let tracks = g.K.Tracks.means in
-    let m = board (board_bars tracks) mark in
     let view = g.T.TermLike.view in
-    let stage = c.args.self.now.stage in
-    let engine = c.in-Some.engine in
-    let writing = writing_as c.args.writing in
-    let lays = named_layout_takes tracks number s in
-    let drawing = λ (target : Target). draw_of target takes c.args.ask c.args.now writing s (named_laid_out tracks target c.args.now number s) lays in
-    let target = target_of (Some (view (engine_term engine))) in
-    let fits = subst (λ o. MatchOption o (s.lists ≡ opening_lists) (λ e. Fits e s.lists)) c.in-Some.is staged.1 in
-    let some : 0 < (view (engine_term engine)).columns = omega (arith, ap (λ t. (view t).columns) c.term.ensures.terminal, c.width-width.ensures, c.if-width-eq0.false) in
-    let laid = c.in_ok-lay_out.ensures.laid target s number (ap (λ t. (view t).columns) (sym c.term.ensures.terminal) ∙ sym c.width-width.ensures) placed holds in
-    let after = named_laid_out tracks target c.args.now number s in
-    let same = staged.0 ∙ sym (laid_limiter tracks target c.args.now number s) in
-    let limiter = c.allows.new.limiter in
-    let allows = asked_so c.args.ask c.args.now stage.limiter after.limiter limiter same (sym c.allows.ensures.answer ∙ c.if-not-allows.false) c.allows.ensures.next in
+    let some : 0 < (view (engine_term c.in-Some.engine)).columns = omega (arith, ap (λ t. (view t).columns) c.term.ensures.terminal, c.width-width.ensures, c.if-width-eq0.false) in
+    let laid = c.in_ok-lay_out.ensures.laid (target_of (Some (view (engine_term c.in-Some.engine)))) s number (ap (λ t. (view t).columns) (sym c.term.ensures.terminal) ∙ sym c.width-width.ensures)
+    placed (subst (λ b. AreShownAs b s) (sym c.note_place.ensures) inside.1) in
     let b = c.lay_out.new.self in
     let bottom = is_bottom b.alignment in
+    let shown = c.make_contiguous.result.now in
     let gone = c.leading-gone.result in
-    let gone_is : gone ≡ leaders after.members = c.leading-gone.ensures ∙ leaders_of b.members.items after.members laid.members_are in
+    let end = c.bars_in_window-end.result in
     let engine' = c.put.new.engine in
-    let puts = subst (λ f. PutsFrame view writing bottom gone (map bar_lines f) engine engine' (Err c.in_err-put.field-0.0))
-    c.make_contiguous.ensures.value (c.bars_in_window-end.ensures.sees bottom engine' (Err c.in_err-put.field-0.0)
-    (subst (λ k. PutsFrame view writing bottom k (map bar_lines (take c.bars_in_window-end.result c.make_contiguous.result.now)) engine engine' (Err c.in_err-put.field-0.0))
-    c.min.ensures c.in_err-put.ensures)) in
-    let kept = c.make_contiguous.ensures.writes_back c.make_contiguous.result.now c.make_contiguous.ensures.len ∙ c.make_contiguous.ensures.value in
-    let limiter_is = sym (ap (λ a. a.1) allows) in
-    let failed : Result Drawn Refusal = Err c.in_err-put.field-0.0 in
+    let e = c.in_err-put.field-0.0 in
+    let kept = c.make_contiguous.ensures.writes_back shown c.make_contiguous.ensures.len ∙ c.make_contiguous.ensures.value in
     let x = err_from_is_err_and c.from_residual-in_err-put.result c.from_residual-in_err-put.ensures.1 in
-    let drew = subst (λ f. DrewBy m (λ n. Holds f b.members.items b.table.made bottom n × (limiter ≡ n.limiter)) view engine engine' (drawing target) s.lists failed) (sym kept)
-    (frame_drew tracks view mark takes c.args.ask c.args.now writing s after lays engine b.frame.items b.members.items b.table.made bottom laid
-    (λ n. Holds b.frame.items b.members.items b.table.made bottom n × (limiter ≡ n.limiter)) engine' (Err c.in_err-put.field-0.0) gone gone_is asked some
-    (ap (λ a. a.0) allows) (laid_lists tracks target c.args.now number s) fits puts (
-      (ready_holds tracks view mark takes c.args.ask c.args.now writing s after lays engine b.frame.items b.members.items b.table.made bottom laid, limiter_is),
-      (broken_holds tracks view mark takes c.args.ask c.args.now writing s after lays engine b.frame.items b.members.items b.table.made bottom laid, limiter_is),
-    )) in
-    rw (x.1 ∙ ap Err x.2) (let d = drew_staged m (Holds (deque_with_items b.frame c.make_contiguous.result.now).items b.members.items b.table.made bottom) (λ x. x.limiter) view stage
-    (record stage { engine = Some engine'; limiter = limiter }) engine engine' drawing s.lists failed c.in-Some.is refl drew in (d.0, (inside.0, d.1, d.2), d.3))
+    rw (x.1 ∙ ap Err x.2)
+    (let d = failed_to g.K.Tracks.means view mark takes c.args.ask c.args.now (writing_as c.args.writing) s number c.args.self.now.stage c.in-Some.engine c.in-Some.is
+    (sym c.is_no.ensures ∙ c.if-is_no.false) inside.2 some c.allows.result c.allows.new.limiter (sym c.allows.ensures.answer) c.allows.ensures.next
+    b.frame.items b.members.items b.table.made bottom laid c.if-not-allows.false engine' gone c.min.result (min gone end) shown (take end shown) c.leading-gone.ensures c.min.ensures
+    c.make_contiguous.ensures.value (deque_with_items b.frame shown).items kept e (c.bars_in_window-end.ensures.sees bottom engine' (Err e)) c.in_err-put.ensures in
+    (d.0, (inside.0, d.1, d.2), d.3))
 
 pub returns-clause-drew : goal.returns-clause-drew
 unfolding IsIn
 returns-clause-drew g c = λ mark takes s number inside placed.
-    let asked = sym c.is_no.ensures ∙ c.if-is_no.false in
-    let holds : AreShownAs c.note_place.new.self s = subst (λ b. AreShownAs b s) (sym c.note_place.ensures) inside.1 in
-    let staged = inside.2 in
-    let tracks = g.K.Tracks.means in
-    let m = board (board_bars tracks) mark in
     let view = g.T.TermLike.view in
-    let stage = c.args.self.now.stage in
-    let engine = c.in-Some.engine in
-    let writing = writing_as c.args.writing in
-    let lays = named_layout_takes tracks number s in
-    let drawing = λ (target : Target). draw_of target takes c.args.ask c.args.now writing s (named_laid_out tracks target c.args.now number s) lays in
-    let target = target_of (Some (view (engine_term engine))) in
-    let fits = subst (λ o. MatchOption o (s.lists ≡ opening_lists) (λ e. Fits e s.lists)) c.in-Some.is staged.1 in
-    let some : 0 < (view (engine_term engine)).columns = omega (arith, ap (λ t. (view t).columns) c.term.ensures.terminal, c.width-width.ensures, c.if-width-eq0.false) in
-    let laid = c.in_ok-lay_out.ensures.laid target s number (ap (λ t. (view t).columns) (sym c.term.ensures.terminal) ∙ sym c.width-width.ensures) placed holds in
-    let after = named_laid_out tracks target c.args.now number s in
-    let same = staged.0 ∙ sym (laid_limiter tracks target c.args.now number s) in
-    let limiter = c.allows.new.limiter in
-    let allows = asked_so c.args.ask c.args.now stage.limiter after.limiter limiter same (sym c.allows.ensures.answer ∙ c.if-not-allows.false) c.allows.ensures.next in
+    let some : 0 < (view (engine_term c.in-Some.engine)).columns = omega (arith, ap (λ t. (view t).columns) c.term.ensures.terminal, c.width-width.ensures, c.if-width-eq0.false) in
+    let laid = c.in_ok-lay_out.ensures.laid (target_of (Some (view (engine_term c.in-Some.engine)))) s number (ap (λ t. (view t).columns) (sym c.term.ensures.terminal) ∙ sym c.width-width.ensures)
+    placed (subst (λ b. AreShownAs b s) (sym c.note_place.ensures) inside.1) in
     let b = c.lay_out.new.self in
     let bottom = is_bottom b.alignment in
+    let shown = c.make_contiguous.result.now in
     let gone = c.leading-gone.result in
-    let gone_is : gone ≡ leaders after.members = c.leading-gone.ensures ∙ leaders_of b.members.items after.members laid.members_are in
+    let end = c.bars_in_window-end.result in
     let engine' = c.put.new.engine in
-    let puts = subst (λ f. PutsFrame view writing bottom gone (map bar_lines f) engine engine' (Ok tt))
-    c.make_contiguous.ensures.value (c.bars_in_window-end.ensures.sees bottom engine' (Ok tt)
-    (subst (λ k. PutsFrame view writing bottom k (map bar_lines (take c.bars_in_window-end.result c.make_contiguous.result.now)) engine engine' (Ok tt))
-    c.min.ensures c.in_ok-put.ensures)) in
-    let kept = c.make_contiguous.ensures.writes_back c.make_contiguous.result.now c.make_contiguous.ensures.len ∙ c.make_contiguous.ensures.value in
-    let frame' = c.take_front.new.items.items in
-    let members' = c.take_front-2.new.items.items in
-    let made = sym (ap (λ (t : SlotTable). t.made) c.remove_first.ensures.removed) in
-    let drew = subst (λ k. DrewBy m (λ n. Holds frame' members' k bottom n × (limiter ≡ n.limiter)) view engine engine' (drawing target) s.lists (Ok Yes)) made
-    (frame_drew tracks view mark takes c.args.ask c.args.now writing s after lays engine b.frame.items b.members.items b.table.made bottom laid
-    (λ n. Holds frame' members' b.table.made bottom n × (limiter ≡ n.limiter)) engine' (Ok tt) gone gone_is asked some
-    (ap (λ a. a.0) allows) (laid_lists tracks target c.args.now number s) fits puts (
-      written_holds tracks view mark takes c.args.ask c.args.now writing s after lays engine b.frame.items b.members.items b.table.made bottom laid
-          gone frame' members' (c.take_front.ensures ∙ ap (drop gone) kept) c.take_front-2.ensures gone_is,
-      sym (ap (λ a. a.1) allows),
-    )) in
-    let d = drew_staged m (Holds frame' members' c.remove_first.new.self.made bottom) (λ x. x.limiter) view stage
-    (record stage { engine = Some engine'; limiter = limiter }) engine engine' drawing s.lists (Ok Yes) c.in-Some.is refl drew in
+    let kept = c.make_contiguous.ensures.writes_back shown c.make_contiguous.ensures.len ∙ c.make_contiguous.ensures.value in
+    let d = written_to g.K.Tracks.means view mark takes c.args.ask c.args.now (writing_as c.args.writing) s number c.args.self.now.stage c.in-Some.engine c.in-Some.is
+    (sym c.is_no.ensures ∙ c.if-is_no.false) inside.2 some c.allows.result c.allows.new.limiter (sym c.allows.ensures.answer) c.allows.ensures.next
+    b.frame.items b.members.items b.table.made bottom laid c.if-not-allows.false engine' gone c.min.result (min gone end) shown (take end shown) c.leading-gone.ensures c.min.ensures
+    c.make_contiguous.ensures.value c.take_front.new.items.items c.take_front-2.new.items.items c.remove_first.new.self.made
+    (c.take_front.ensures ∙ ap (drop gone) kept) c.take_front-2.ensures (ap (λ (t : SlotTable). t.made) c.remove_first.ensures.removed)
+    (c.bars_in_window-end.ensures.sees bottom engine' (Ok tt)) c.in_ok-put.ensures in
     (d.0, (inside.0, d.1, d.2), d.3)
 
 pub returns-in_default-clause-drew : goal.returns-in_default-clause-drew

@@ -9,7 +9,7 @@ use Rattle.indicatif_bar.specs.Shown.{DrewOn}
 use Rattle.indicatif_bar.specs.declared.ask.Ask.TheVariants.{No}
 use Rattle.indicatif_board.specs.Inside.Leaving.{parted}
 use Rattle.indicatif_board.specs.BoardBars.{board_bars}
-use Rattle.indicatif_board.specs.BoardValues.{id_of}
+use Rattle.indicatif_board.specs.BarIds.{id_of}
 use Rattle.indicatif_board.specs.Boards.{Drop, says, draw_of, last_draw, left_on, ownerless_on, laid_out, layout_takes, bar_changed, or_refused, board}
 use Rattle.indicatif_board.specs.Members.{said_of}
 use Rattle.indicatif_board.specs.Multi.{IsIn, known}

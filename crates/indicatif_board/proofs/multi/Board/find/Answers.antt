@@ -1,6 +1,6 @@
 use Rattle.std.proofs.Common.{◌<◌, ◌≤◌, ◌∙◌, sym, length, arith, refl}
 use Rattle.indicatif_term.specs.Target.{is_bottom}
-use Rattle.indicatif_board.specs.BoardValues.{id_of}
+use Rattle.indicatif_board.specs.BarIds.{id_of}
 use Rattle.indicatif_board.specs.Multi.{IsIn}
 use Rattle.indicatif_board.proofs.MemberLemmas.{placed_at, found_foreign, found_none, found_gone, found_there, frame_length}
 use Rattle.indicatif_board.proofs.BarRecordLemmas.{seat_is, stands, dropped_on, absent_on}

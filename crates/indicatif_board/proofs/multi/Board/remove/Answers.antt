@@ -1,5 +1,5 @@
 use Rattle.std.proofs.Common.{◌∙◌, true, false, refl, sym, ap, Some, Ok}
-use Rattle.indicatif_board.specs.BoardValues.{id_of}
+use Rattle.indicatif_board.specs.BarIds.{id_of}
 use Rattle.indicatif_board.specs.Boards.{Remove, Refused, Accepted}
 use Rattle.indicatif_board.specs.Members.{without}
 use Rattle.indicatif_board.specs.Multi.{IsIn, known}

@@ -1,7 +1,7 @@
 use Rattle.std.proofs.Common.{◌≡◌, ◌-◌, ◌∙◌, min, length, ap, arith, refl}
 use Rattle.std.specs.VecDeque.{deque_len}
 use Rattle.indicatif_term.specs.Target.{is_bottom}
-use Rattle.indicatif_board.specs.BoardValues.{id_of}
+use Rattle.indicatif_board.specs.BarIds.{id_of}
 use Rattle.indicatif_board.specs.Multi.{IsIn}
 use Rattle.indicatif_board.proofs.AnchorLemmas.{anchored}
 use Rattle.indicatif_board.proofs.BarRecordLemmas.{has_record}

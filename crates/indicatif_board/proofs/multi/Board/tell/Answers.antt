@@ -11,7 +11,7 @@ use Rattle.indicatif_bar.specs.Machines.{target_of}
 use Rattle.indicatif_bar.specs.Shown.{DrewOn}
 use Rattle.indicatif_bar.specs.declared.ask.Ask.TheVariants.{No}
 use Rattle.indicatif_board.specs.BoardBars.{board_bars}
-use Rattle.indicatif_board.specs.BoardValues.{id_of}
+use Rattle.indicatif_board.specs.BarIds.{id_of}
 use Rattle.indicatif_board.specs.Boards.{Tell, Refused, draw_of, draw_of_command, laid_out, layout_takes, bar_changed, or_refused, draws, board}
 use Rattle.indicatif_board.specs.Members.{place_of, said_of}
 use Rattle.indicatif_board.specs.Multi.{IsIn, known, record_at}

@@ -1,7 +1,7 @@
 use Rattle.std.proofs.Common.{◌≡◌, ◌<◌, ◌≤◌, ◌∙◌, ap, sym, subst, set, length, arith}
 use Rattle.indicatif_term.specs.Target.{is_bottom}
 use Rattle.indicatif_board.specs.Boards.{ownerless_on}
-use Rattle.indicatif_board.specs.ShownBars.{Holds, owned_record}
+use Rattle.indicatif_board.specs.ShownBars.{HoldsState, owned_record}
 use Rattle.indicatif_board.proofs.MemberLemmas.{place_is, frame_length}
 use Rattle.indicatif_board.proofs.DropLemmas.{ownerless_nowhere, ownerless_there}
 use Rattle.indicatif_board.proofs.BarRecordLemmas.{seat_is, evenly, record_past, told_record, told_others}
@@ -14,7 +14,7 @@ returns-then-at-len-clause-ownerless g c = λ s holds.
     let here = c.place-at.ensures.seat ∙ sym (seat_is b.frame.items b.table.order c.args.number b.seated) ∙ place_is b.frame.items s.members c.args.number holds.frame_is in
     let size = frame_length b.frame.items s.members holds.frame_is in
     let within : c.place-at.result < length s.members = omega (arith, size, c.len.ensures, c.if-at-len.true, b.even, b.members.ok, b.frame.ok) in
-    subst (λ m. Holds b.frame.items (set b.members.items c.place-at.result m) b.table.made (is_bottom b.alignment) (ownerless_on c.args.number s)) (sym c.set_ownerless.ensures)
+    subst (λ m. HoldsState b.frame.items (set b.members.items c.place-at.result m) b.table.made (is_bottom b.alignment) (ownerless_on c.args.number s)) (sym c.set_ownerless.ensures)
     (ownerless_there b.frame.items b.members.items b.table.made (is_bottom b.alignment) s c.args.number
     c.place-at.result holds here c.index_mut.result.now within c.index_mut.ensures.value)
 

@@ -2,7 +2,7 @@ use Rattle.std.proofs.Common.{◌≡◌, ◌≤◌, ◌∙◌, ◌+◌, ap, sym,
 use Rattle.std.specs.List.{insert}
 use Rattle.indicatif_term.specs.Target.{is_bottom}
 use Rattle.indicatif_term.specs.declared.target.lines.Segment.{Segment}
-use Rattle.indicatif_board.specs.ShownBars.{Holds}
+use Rattle.indicatif_board.specs.ShownBars.{HoldsState}
 use Rattle.indicatif_board.specs.Slots.{SlotTable, occurrences}
 use Rattle.indicatif_board.specs.declared.members.Member.{Member as MemberValue}
 use Rattle.indicatif_board.proofs.MemberLemmas.{taken_holds, inserted_bars}
@@ -28,7 +28,7 @@ returns-clause-taken g c = λ s spot holds here.
       c.in-Ok-insert.ensures.fits,
       taken_holds b.frame.items c.queue_at-2.new.items.items b.members.items c.queue_at.new.items.items number c.insert.new.self.made
           (is_bottom b.alignment) s spot c.args.at c.args.bar c.new-lines.result
-          (subst (λ n. Holds b.frame.items b.members.items n (is_bottom b.alignment) s) (sym c.in-Ok-insert.ensures.number) holds) here c.new-lines.ensures.items
+          (subst (λ n. HoldsState b.frame.items b.members.items n (is_bottom b.alignment) s) (sym c.in-Ok-insert.ensures.number) holds) here c.new-lines.ensures.items
           (c.queue_at-2.ensures ∙ ap (λ xs. insert xs c.args.at (record { bar = number; lines = c.new-lines.result })) c.reserve-2.ensures.items)
           (c.queue_at.ensures ∙ ap (λ xs. insert xs c.args.at c.in-Ok.member) c.reserve.ensures.items ∙ ap (insert b.members.items c.args.at) c.in-Ok.ensures)
           (ap (λ (t : SlotTable). t.made) c.in-Ok-insert.ensures.inserted ∙ ap (λ n. n + 1) (sym c.in-Ok-insert.ensures.number)),

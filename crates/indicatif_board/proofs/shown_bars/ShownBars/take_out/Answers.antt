@@ -1,7 +1,7 @@
 use Rattle.std.proofs.Common.{◌<◌, ◌∙◌, Some, length, arith, sym, ap, subst, map}
 use Rattle.indicatif_term.specs.Target.{is_bottom}
 use Rattle.indicatif_term.specs.declared.target.lines.Segment.{Segment}
-use Rattle.indicatif_board.specs.ShownBars.{Holds}
+use Rattle.indicatif_board.specs.ShownBars.{HoldsState}
 use Rattle.indicatif_board.specs.Slots.{SlotTable}
 use Rattle.indicatif_board.proofs.MemberLemmas.{removed_with, removed_bars, said_of_place}
 use Rattle.indicatif_board.proofs.BarRecordLemmas.{evenly, owned, there_record, out_record, out_others}
@@ -17,7 +17,7 @@ returns-clause-out g c = λ s number holds here.
     let b = c.args.self.now in
     let made = sym (ap (λ (t : SlotTable). t.made) c.remove.ensures.removed) in
     removed_with b.frame.items c.take_at.new.items.items b.members.items c.take_at-member.new.items.items c.remove.new.self.made
-    (is_bottom b.alignment) s number c.args.at (subst (λ n. Holds b.frame.items b.members.items n (is_bottom b.alignment) s) made holds) here
+    (is_bottom b.alignment) s number c.args.at (subst (λ n. HoldsState b.frame.items b.members.items n (is_bottom b.alignment) s) made holds) here
     c.take_at.ensures.items c.take_at-member.ensures.items
 
 pub returns-clause-bar : goal.returns-clause-bar

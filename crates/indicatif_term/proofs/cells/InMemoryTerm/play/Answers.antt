@@ -2,7 +2,7 @@ use Rattle.std.proofs.Common.{◌∙◌, ◌+◌, ◌%◌, ◌^◌, ap, sym, sub
 use Rattle.std.specs.Prelude.{string_bytes}
 use Rattle.indicatif_term.specs.Terminal.{Terminal}
 use Rattle.indicatif_term.specs.Calls.{BreaksOff}
-use Rattle.indicatif_term.specs.Memory.{MemoryTerm, view_of}
+use Rattle.indicatif_term.specs.Cells.{MemoryTerm, view_of}
 use Rattle.indicatif_term.specs.Inside.Feeding.{ReadsBeginning}
 use Rattle.indicatif_term.proofs.MemoryLemmas.{leads_on, breaks_off}
 use Rattle.indicatif_term.proofs.cells.InMemoryTerm.play.Goals as goal

@@ -1,7 +1,7 @@
 use Rattle.std.proofs.Common.{◌∙◌, ap, refl, subst}
 use Rattle.std.specs.Prelude.{OnOk, string_bytes}
 use Rattle.indicatif_term.specs.Calls.{State}
-use Rattle.indicatif_term.specs.Memory.{MemoryTerm, view_of}
+use Rattle.indicatif_term.specs.Cells.{MemoryTerm, view_of}
 use Rattle.indicatif_term.specs.Resizes.{Resized}
 use Rattle.indicatif_term.proofs.MemoryLemmas.{under_ok}
 use Rattle.indicatif_term.proofs.ResizeLemmas.{resized-columns, resized-height}

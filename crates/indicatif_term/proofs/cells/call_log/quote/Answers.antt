@@ -5,7 +5,7 @@ use Rattle.std.specs.Str.Iter.{chars_rest}
 use Rattle.std.proofs.Common.{subst}
 use Rattle.std.proofs.lemmas.Str.{chars_past_char, IsUtf8-past_char, chars-nil, encodes-append}
 use Rattle.std.proofs.lemmas.List.{nil_from_length}
-use Rattle.indicatif_term.specs.Memory.{quoted_char}
+use Rattle.indicatif_term.specs.Cells.{quoted_char}
 use Rattle.indicatif_term.proofs.cells.call_log.quote.Goals as goal
 
 pub loop-c-init : goal.loop-c-init

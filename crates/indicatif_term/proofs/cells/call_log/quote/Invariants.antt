@@ -2,7 +2,7 @@ use Rattle.std.proofs.Common.{◌≡◌, ◌++◌, chars, encode_utf8_all, strin
 use Rattle.std.specs.Prelude.{flat_map}
 use Rattle.std.specs.Str.{IsUtf8}
 use Rattle.std.specs.Str.Iter.{chars_rest}
-use Rattle.indicatif_term.specs.Memory.{quoted_char}
+use Rattle.indicatif_term.specs.Cells.{quoted_char}
 use Rattle.indicatif_term.proofs.cells.call_log.quote.Given as goal
 
 abbrev pub invariant-loop-c : goal.invariant-loop-c

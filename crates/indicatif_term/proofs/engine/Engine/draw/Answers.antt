@@ -1,6 +1,6 @@
 use Rattle.std.proofs.Common.{map, arith, ◌∙◌, ◌≡◌, refl, [], ◌++◌, replicate, take, drop, sym, ap, subst}
 use Rattle.std.proofs.Math.Logic.{∥∥₁_map}
-use Rattle.indicatif_term.specs.Inside.Remembered.{Draws}
+use Rattle.indicatif_term.specs.Inside.Remembered.{DrawWrites}
 use Rattle.indicatif_term.specs.Lists.{Lists, drawn, blanks_for}
 use Rattle.indicatif_term.specs.Counts.{CountsOf}
 use Rattle.indicatif_term.specs.Standing.{placed, texts, AreLines}
@@ -176,9 +176,9 @@ returns-clause-paints g c = λ x fits plain.
     let d = chosen_draws old e.failed e.shown win.columns s.columns s.rows c.args.pass l.blanks _ bottom c.drawn-next.result c.args.frame.now l.plan ls c.fresh-fresh.result q x columns
     (rw columns at win.some) plain f.narrow f.plan_is next blanks t right (put_sits win.columns s.columns e.shown l x ls columns win.some put known)
     (rw rows_are at c.fresh-fresh.ensures) fill (fits_counts e x fits) known (rw lines at c.writing-writing.ensures) in
-    let writes : Draws (writing_bytes q [] ls) s v' c.write.result = rw (c.store.ensures.terminal, y.4) at c.write.ensures.draws in
+    let writes : DrawWrites (writing_bytes q [] ls) s v' c.write.result = rw (c.store.ensures.terminal, y.4) at c.write.ensures.draws in
     paints_by s v' old _ _ c.write.result c.write.new.self e.failed x (drawn s.columns s.rows bottom c.args.pass frame) d.0 c.write.ensures.remembers (fits_failed e x fits)
-    (subst (λ b. Draws b s v' c.write.result) d.1 writes) d.2 (fits_counts e x fits) (fits_forgets e x fits) (drawn-sound s.columns s.rows bottom c.args.pass frame x)
+    (subst (λ b. DrawWrites b s v' c.write.result) d.1 writes) d.2 (fits_counts e x fits) (fits_forgets e x fits) (drawn-sound s.columns s.rows bottom c.args.pass frame x)
     (drawn-adds s.columns s.rows bottom c.args.pass frame x) (drawn-known s.columns s.rows bottom c.args.pass frame x)
 
 pub rest-requires-clause-suits : goal.rest-requires-clause-suits
@@ -272,5 +272,5 @@ returns-then-stands-clause-paints g c = λ x fits plain.
     (put_sits win.columns s.columns e.shown l x ls columns win.some put known) (rw rows_are at c.fresh-fresh.ensures) fill (fits_counts e x fits) known
     c.above-above.result l (live_lines e.shown) refl height width st refl in
     paints_by s v' old _ _ c.rest.result c.rest.new.self e.failed x (drawn s.columns s.rows bottom c.args.pass frame) d.0 c.rest.ensures.remembers (fits_failed e x fits)
-    (subst (λ b. Draws b s v' c.rest.result) (sym d.1) c.rest.ensures.draws) d.2 (fits_counts e x fits) (fits_forgets e x fits) (drawn-sound s.columns s.rows bottom c.args.pass frame x)
+    (subst (λ b. DrawWrites b s v' c.rest.result) (sym d.1) c.rest.ensures.draws) d.2 (fits_counts e x fits) (fits_forgets e x fits) (drawn-sound s.columns s.rows bottom c.args.pass frame x)
     (drawn-adds s.columns s.rows bottom c.args.pass frame x) (drawn-known s.columns s.rows bottom c.args.pass frame x)

@@ -16,7 +16,7 @@ use Rattle.indicatif_term.proofs.DrawingLemmas.{logged-adds, logged-known, logge
 use Rattle.indicatif_term.proofs.LineEndLemmas.{log_fill}
 use Rattle.indicatif_term.proofs.LaidLemmas.{planned_on, own_count, can_be_put, none_kept}
 use Rattle.indicatif_term.proofs.EngineLemmas.{all_or_many, paints_refused, paints_by, led, fits_counts, fits_failed, fits_forgets, fits_by, suits_made, log_paints, narrow_both, answer_made}
-use Rattle.indicatif_term.specs.Inside.Remembered.{Draws}
+use Rattle.indicatif_term.specs.Inside.Remembered.{DrawWrites}
 use Rattle.indicatif_term.proofs.WritingLemmas.{whole_bytes}
 use Rattle.indicatif_term.proofs.LoggedLineLemmas.{logged_length, logged_utf8}
 use Rattle.indicatif_term.proofs.engine.Engine.log.Goals as goal
@@ -182,7 +182,7 @@ returns-clause-paints g c = λ x fits plain.
     let v' = g.T.TermLike.view (engine_term c.write.new.self) in
     let bytes = reach_bytes fresh.down fresh.rows ++ (paint_bytes old.below taken lines below ++ fill_bytes below s.columns lines) in
     let written = whole_bytes e.failed old.below below fresh taken win.columns c.fill.result text ls in
-    let writes : Draws (led e.failed bytes) s v' c.write.result = rw (c.store.ensures.terminal, y.4, written, all, fill) at c.write.ensures.draws in
+    let writes : DrawWrites (led e.failed bytes) s v' c.write.result = rw (c.store.ensures.terminal, y.4, written, all, fill) at c.write.ensures.draws in
     paints_by s v' old _ _ c.write.result c.write.new.self e.failed x (logged s.columns s.rows bottom (text_lines text) frame) bytes c.write.ensures.remembers (fits_failed e x fits) writes
     (λ z is. log_paints s.columns s.rows z old c.logged-next.result rows l.blanks bottom text c.args.frame.now plan end fresh
     (rw columns at win.some) (logged_utf8 c.args.text.now c.utf8.text) plain m.0 f.narrow is.counts f.plan_is (next z is.counts) m.1 blanks

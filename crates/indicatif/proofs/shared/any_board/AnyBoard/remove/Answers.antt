@@ -1,5 +1,5 @@
 use Rattle.indicatif_board.specs.Boards.{Remove}
-use Rattle.indicatif_board.specs.BoardValues.{id_of}
+use Rattle.indicatif_board.specs.BarIds.{id_of}
 use Rattle.indicatif_board.specs.Calls.{answer_of, removal}
 use Rattle.indicatif_board.specs.Multi.{mark_of}
 use Rattle.indicatif.proofs.SharedLemmas.{can_answer, grows_so, record_answers, refused_as, refused_so, removed_open, removed_recorded}

@@ -1,10 +1,11 @@
 use Rattle.std.proofs.Common.{subst}
 use Rattle.indicatif_bar.specs.LoneBars.{lone_call_as}
 use Rattle.indicatif_board.specs.Boards.{BarLog, says}
-use Rattle.indicatif_board.specs.BoardValues.{id_of}
+use Rattle.indicatif_board.specs.BarIds.{id_of}
 use Rattle.indicatif_board.specs.Calls.{call_of}
 use Rattle.indicatif_board.specs.Multi.{LeadsBy}
-use Rattle.indicatif.specs.Inside.SharedBoards.{SharedDraws, on_board}
+use Rattle.indicatif_board.specs.LoneLaws.{on_board}
+use Rattle.indicatif.specs.Inside.SharedBoards.{SharedDraws}
 use Rattle.indicatif.proofs.SharedLemmas.{open_made, open_can, kept_answers, kept_makes}
 use Rattle.indicatif.proofs.shared.any_board.AnyBoard.tell.Goals as goal
 

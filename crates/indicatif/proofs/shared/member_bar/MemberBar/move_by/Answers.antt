@@ -1,6 +1,6 @@
 use Rattle.std.proofs.Common.{subst, string_bytes}
 use Rattle.indicatif_board.specs.Boards.{Tell}
-use Rattle.indicatif_board.specs.BoardValues.{id_of}
+use Rattle.indicatif_board.specs.BarIds.{id_of}
 use Rattle.indicatif.specs.Inside.SharedBoards.{SharedDraws}
 use Rattle.indicatif.proofs.shared.member_bar.MemberBar.move_by.Goals as goal
 

@@ -4,7 +4,7 @@ use Rattle.std.proofs.lemmas.List.{map-append}
 use Rattle.std.proofs.lemmas.Str.{IsUtf8-string_bytes, IsUtf8-nil, IsCharBoundary-start, IsCharBoundary-end}
 use Rattle.indicatif_text.specs.Inside.Draft.{sketch_of, parted_sketch}
 use Rattle.indicatif_text.specs.declared.template.stored_parts.StoredPart.{StoredPart}
-use Rattle.indicatif_text.specs.Inside.StoredParts.{part_at, AreIn}
+use Rattle.indicatif_text.specs.Inside.StoredParts.{part_at, LieIn}
 use Rattle.indicatif_text.proofs.StoredPartLemmas.{whole_parts, closed_in}
 use Rattle.indicatif_text.proofs.DraftLemmas.{same_sketch, all_fixed, all_run, none_fixed, none_run, behind_parts}
 use Rattle.indicatif_text.proofs.template.draft.Draft.close.Goals as goal
@@ -19,7 +19,7 @@ invariant_of-self-2 c =
     let part : StoredPart = record { kind = c.args.kind; start = old.start; end = c.len-end.result } in
     let all = closed_in bytes old.start (IsUtf8-string_bytes old.texts) old.start_whole old.parts.items old.parts_in part refl end in
     record {
-      parts_in = subst (AreIn (take c.len-end.result bytes)) (sym c.in_ok-push.ensures.items) (subst (λ bs. AreIn bs (old.parts.items ++ part ∷ [])) (sym front) all);
+      parts_in = subst (LieIn (take c.len-end.result bytes)) (sym c.in_ok-push.ensures.items) (subst (λ bs. LieIn bs (old.parts.items ++ part ∷ [])) (sym front) all);
       start_whole = subst (IsCharBoundary bytes) (sym end) (IsCharBoundary-end bytes);
       fixed_whole = subst (λ bs. IsCharBoundary bs 0) (sym behind) (IsCharBoundary-start [] IsUtf8-nil);
     }

@@ -2,7 +2,7 @@ use Rattle.std.proofs.Common.{◌∙◌, ap, subst, sym}
 use Rattle.std.specs.Prelude.{chars, string_bytes, take, drop, map, IsCharBoundary}
 use Rattle.std.proofs.lemmas.Str.{chars-nil, IsUtf8-string_bytes}
 use Rattle.indicatif_text.specs.Inside.Draft.{sketch_of, added}
-use Rattle.indicatif_text.specs.Inside.StoredParts.{part_at, AreIn}
+use Rattle.indicatif_text.specs.Inside.StoredParts.{part_at, LieIn}
 use Rattle.indicatif_text.specs.Template.{LastBrace}
 use Rattle.indicatif_text.proofs.DraftLemmas.{same_sketch, cut_fixed, cut_run, cut_front, cut_behind, cut_start, cut_end}
 use Rattle.indicatif_text.proofs.template.draft.Draft.drop_run.Goals as goal
@@ -16,7 +16,7 @@ invariant_of-self c =
     let front = ap (take old.start) after ∙ cut_front bytes old.start old.fixed utf8 old.start_whole old.fixed_whole old.parts.items old.parts_in in
     let behind = ap (drop old.start) after ∙ cut_behind bytes old.start old.fixed utf8 old.start_whole old.fixed_whole old.parts.items old.parts_in in
     record {
-      parts_in = subst (λ bs. AreIn bs old.parts.items) (sym front) old.parts_in;
+      parts_in = subst (λ bs. LieIn bs old.parts.items) (sym front) old.parts_in;
       start_whole = subst (λ bs. IsCharBoundary bs old.start) (sym after) (cut_start bytes old.start old.fixed utf8 old.start_whole old.fixed_whole);
       fixed_whole = subst (λ bs. IsCharBoundary bs old.fixed) (sym behind) (cut_end (drop old.start bytes) old.fixed old.fixed_whole.0);
     }

@@ -1,6 +1,6 @@
 use Rattle.std.proofs.Common.{◌≡◌, subst}
 use Rattle.std.specs.Prelude.{OnOk}
-use Rattle.indicatif_text.specs.declared.template.stored_parts.Kind.TheVariants.{Key}
+use Rattle.indicatif_text.specs.declared.template.stored_parts.PartKind.TheVariants.{Key}
 use Rattle.indicatif_text.specs.Inside.Draft.{sketch_of, parted_sketch}
 use Rattle.indicatif_text.proofs.template.draft.Draft.push_key.Goals as goal
 

@@ -1,6 +1,6 @@
 use Rattle.std.proofs.Common.{◌≡◌, subst}
 use Rattle.std.specs.Prelude.{OnOk}
-use Rattle.indicatif_text.specs.declared.template.stored_parts.Kind.TheVariants.{NewLine}
+use Rattle.indicatif_text.specs.declared.template.stored_parts.PartKind.TheVariants.{NewLine}
 use Rattle.indicatif_text.specs.Inside.Draft.{sketch_of, parted_sketch}
 use Rattle.indicatif_text.proofs.template.draft.Draft.push_new_line.Goals as goal
 

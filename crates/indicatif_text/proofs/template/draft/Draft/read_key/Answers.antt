@@ -1,7 +1,7 @@
 use Rattle.std.proofs.Common.{[], ◌∷◌, ◌++◌, ◌∙◌, ap, sym, inr}
 use Rattle.std.specs.Prelude.{chars}
 use Rattle.indicatif_text.specs.Template.{SpacedBrace, Keyed, plain_layout, keyed, unfinished, with_options, key_ends}
-use Rattle.indicatif_text.specs.declared.template.stored_parts.Kind.TheVariants.{Key}
+use Rattle.indicatif_text.specs.declared.template.stored_parts.PartKind.TheVariants.{Key}
 use Rattle.indicatif_text.specs.Inside.Draft.{sketch_of, parted_sketch}
 use Rattle.indicatif_text.proofs.DraftLemmas.{taken_same}
 use Rattle.indicatif_text.proofs.TokenLemmas.{no_chars, has_chars, key_open, key_spaced, key_missing, key_closed, key_options}

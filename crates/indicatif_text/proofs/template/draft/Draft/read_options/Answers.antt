@@ -1,5 +1,5 @@
 use Rattle.std.proofs.Common.{◌∙◌, ap}
-use Rattle.indicatif_text.specs.declared.template.stored_parts.Kind.TheVariants.{Placeholder}
+use Rattle.indicatif_text.specs.declared.template.stored_parts.PartKind.TheVariants.{Placeholder}
 use Rattle.indicatif_text.specs.Template.{Keyed, keyed}
 use Rattle.indicatif_text.specs.Inside.Draft.{parted_sketch}
 use Rattle.indicatif_text.specs.Inside.Reading.{layout_of}

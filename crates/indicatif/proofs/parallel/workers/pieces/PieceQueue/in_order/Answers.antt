@@ -5,7 +5,7 @@ use Rattle.std.proofs.lemmas.List.Elements.{All-head, All-rest, All-same}
 use Rattle.std.proofs.lemmas.List.Sorted.{All-permutation}
 use Rattle.indicatif.specs.Inside.Pieces.{IsEnded}
 use Rattle.indicatif.proofs.WorkerLemmas.{none_gathered, all_gathered, some_missing}
-use Rattle.indicatif.proofs.parallel.workers.pieces.Pieces.in_order.Goals as goal
+use Rattle.indicatif.proofs.parallel.workers.pieces.PieceQueue.in_order.Goals as goal
 
 pub loop-e-init : goal.loop-e-init
 loop-e-init g c =

@@ -1,7 +1,7 @@
 use Rattle.std.proofs.Common.{◌<◌, length, arith}
 use Rattle.std.specs.Fn.{FnReturnsAt}
 use Rattle.indicatif.proofs.WorkerLemmas.{gathered_more, gathered_without}
-use Rattle.indicatif.proofs.parallel.workers.pieces.Pieces.gathered_with.Goals as goal
+use Rattle.indicatif.proofs.parallel.workers.pieces.PieceQueue.gathered_with.Goals as goal
 
 pub with-requires : goal.with-requires
 with-requires g c = record { room = omega (arith, c.requires.ended.0, c.if-piece-before.false, c.requires.room) }

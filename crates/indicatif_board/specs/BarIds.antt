@@ -1,4 +1,4 @@
--- Bars and commands as values, and their definitions.
+-- A bar by its number.
 use Rattle.indicatif_board.specs.Boards.{Id}
 use Rattle.indicatif_board.specs.declared.bar_id.BarId.{BarId}
 

@@ -2,7 +2,7 @@ use Rattle.std.proofs.Common.{◌∙◌, Err, ap, map}
 use Rattle.std.proofs.lemmas.Result.{err_from_is_err_and}
 use Rattle.std.specs.Prelude.{string_bytes}
 use Rattle.bars_run.proofs.StandLemmas.{same_ends, stands_read}
-use Rattle.bars_run.proofs.played.Goals as goal
+use Rattle.bars_run.proofs.picture_of.Goals as goal
 
 pub returns-clause-stands : goal.returns-clause-stands
 returns-clause-stands g c =

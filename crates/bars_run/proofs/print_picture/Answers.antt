@@ -5,7 +5,7 @@ use Rattle.std.specs.Io.KnownBytes.{Appends}
 use Rattle.bars_run.specs.Arguments.{asked_by}
 use Rattle.bars_run.specs.Printing.{printed}
 use Rattle.bars_run.proofs.StandLemmas.{ends_by, prints}
-use Rattle.bars_run.proofs.shown.Goals as goal
+use Rattle.bars_run.proofs.print_picture.Goals as goal
 
 pub returns-in-Ok-clause-printed : goal.returns-in-Ok-clause-printed
 returns-in-Ok-clause-printed g c =

@@ -2,7 +2,7 @@ use Rattle.std.proofs.Common.{All}
 use Rattle.std.specs.Fn.{FnReturnsAt}
 use Rattle.std.specs.Vec.Iter.{into_iter_items}
 use Rattle.indicatif.specs.Inside.Pieces.{IsEnded, IsGathered}
-use Rattle.indicatif.proofs.parallel.workers.pieces.Pieces.in_order.Given as goal
+use Rattle.indicatif.proofs.parallel.workers.pieces.PieceQueue.in_order.Given as goal
 
 abbrev pub invariant-loop-e : goal.invariant-loop-e
 invariant-loop-e g l =
