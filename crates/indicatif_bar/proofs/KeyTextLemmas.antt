@@ -7,12 +7,12 @@ use Rattle.indicatif_text.specs.Format.{round, fixed_point, last_digits, after_p
 use Rattle.indicatif_bar.specs.declared.measures.Fraction.{Fraction}
 use Rattle.indicatif_bar.specs.Keys.{percent_text}
 
-pub percent_whole : (f : Fraction) (num : ℕ) → num ≡ f.num * 100 → decimal (round num f.den) ≡ percent_text f 0
+pub percent_whole : (f : Fraction) → decimal (round (100 * f.num * 1) f.den) ≡ percent_text f 0
 unfolding fixed_point
-percent_whole f num e =
-    let same : num ≡ 100 * f.num * 1 = omega (arith, e) in
-    let whole : round num f.den ≡ round num f.den / 1 = omega arith in
-    ap decimal whole ∙ sym (append-nil (decimal (round num f.den / 1))) ∙ ap (λ n. decimal (round n f.den / 1) ++ []) same
+percent_whole f =
+    let n = round (100 * f.num * 1) f.den in
+    let whole : n ≡ n / 1 = omega arith in
+    ap decimal whole ∙ sym (append-nil (decimal (n / 1)))
 
 pub unit_fits : (k : ℕ) → k ≤ 16 → 10 ^ k ≤ 10000000000000000
 unit_fits k most = pow-le-pow_right (omega arith) most
@@ -51,10 +51,11 @@ behind_point : (k n : ℕ) → 0 < k → k ≤ 16 → after_point (last_digits k
 behind_point zero n some most = absurd (omega (arith, some))
 behind_point (suc k) n some most = point (last_digits k (n / 10)) (48 + n % 10) ∙ ap (λ ds. 0x2E ∷ drop 1 ds) (sym (behind_one (suc k) n most))
 
-pub percent_decimals : (f : Fraction) (k num : ℕ) → 0 < k → k ≤ 16 → num ≡ f.num * (100 * 10 ^ k)
-    → decimal (round num f.den / 10 ^ k) ++ 0x2E ∷ drop 1 (decimal (10 ^ k + round num f.den % 10 ^ k)) ≡ percent_text f k
+pub percent_decimals : (f : Fraction) (k unit n : ℕ) → 0 < k → k ≤ 16 → unit ≡ 10 ^ k → n ≡ round (100 * f.num * unit) f.den
+    → decimal (n / unit) ++ 0x2E ∷ drop 1 (decimal (unit + n % unit)) ≡ percent_text f k
 unfolding fixed_point
-percent_decimals f k num some most e =
-    let same : num ≡ 100 * f.num * 10 ^ k = omega (arith, e) in
-    ap (λ ds. decimal (round num f.den / 10 ^ k) ++ ds) (sym (behind_point k (round num f.den) some most))
-    ∙ ap (λ n. decimal (round n f.den / 10 ^ k) ++ after_point (last_digits k (round n f.den))) same
+percent_decimals f k unit n some most power is =
+    let scaled : n ≡ round (100 * f.num * 10 ^ k) f.den = is ∙ ap (λ u. round (100 * f.num * u) f.den) power in
+    ap (λ u. decimal (n / u) ++ 0x2E ∷ drop 1 (decimal (u + n % u))) power
+    ∙ ap (λ ds. decimal (n / 10 ^ k) ++ ds) (sym (behind_point k n some most))
+    ∙ ap (λ m. decimal (m / 10 ^ k) ++ after_point (last_digits k m)) scaled

@@ -1,5 +1,6 @@
 //! The keys of a template that need no tracker: their names, and the bars, texts and numbers that they show.
-ghost use Rattle.std.specs.Prelude.{◌≡◌, ◌<◌, ◌≤◌, ◌++◌, min, drop, string_bytes, decimal, OnOk, IfErr};
+ghost use Rattle.std.specs.Prelude.{◌≡◌, ◌<◌, ◌≤◌, ◌*◌, ◌^◌, ◌++◌, min, drop, string_bytes, decimal, OnOk, IfErr};
+ghost use Rattle.indicatif_text.specs.Format.{round};
 ghost use Rattle.indicatif_bar.specs.Keys.{key_named, bar_fraction, shown_text, number_text, count_text, time_text, percent_text, rate_text, whole_rate_text};
 
 use crate::measures::{Fraction, Rate};
@@ -227,13 +228,34 @@ fn push_percent(done: Fraction, places: u8, out: &mut String) -> Result<(), Refu
     ensures memory { IfErr result (λ e. e ≡ Refusal.Memory) }
 {
     if places == 0 {
-        return push_number(nearest(u128::from(done.num) * 100, done.den), out);
+        return push_number(hundredths(done, 1), out);
     }
-    let unit = 10u64.pow(u32::from(places.min(16)));
-    let scaled = nearest(u128::from(done.num) * u128::from(100 * unit), done.den);
+    let unit = power_of_ten(places.min(16));
+    let scaled = hundredths(done, unit);
     push_number(scaled / unit, out)?;
     out.push_str(".")?;
     push_behind_first(unit + scaled % unit, out)
+}
+
+/// A power of ten.
+fn power_of_ten(exponent: u8) -> u64
+    requires { exponent ≤ 16 }
+    ensures power { result ≡ 10 ^ exponent }
+    ensures some { 0 < result }
+    ensures small { result ≤ 10 ^ 16 }
+{
+    10u64.pow(u32::from(exponent))
+}
+
+/// A fraction in hundredths, as the nearest whole number of units of which one hundredth has `unit`.
+#[inline(always)]
+fn hundredths(done: Fraction, unit: u64) -> u64
+    requires some { 0 < done.den }
+    requires whole { done.num ≤ done.den }
+    requires small { unit ≤ 10 ^ 16 }
+    ensures { result ≡ round (100 * done.num * unit) done.den }
+{
+    nearest(u128::from(done.num) * u128::from(100 * unit), done.den)
 }
 
 /// Appends the decimal digits of a number but the first.
