@@ -1,12 +1,15 @@
 //! A bar of clusters.
 ghost use Rattle.std.specs.Prelude.{◌≡◌, ◌<◌, ◌≤◌, ◌++◌, ◌*◌, ◌/◌, ◌%◌, string_bytes, length, OnOk, IfOk, IfErr, IfSome, [], unwrap_or};
+ghost use Rattle.indicatif_bar.specs.Keys.{bar_fraction};
 ghost use Rattle.indicatif_bar.specs.Layout.{bar_text};
 ghost use Rattle.indicatif_bar.specs.Inside.Bars.{shade_of, begun_text, cells_left};
 ghost use Rattle.indicatif_bar.specs.Inside.Steps.{placeholder_layout};
 ghost use Rattle.indicatif_bar.specs.Inside.Texts.{texts_in};
 
 use crate::measures::Fraction;
+use crate::progress::ProgressState;
 use crate::style::ProgressStyle;
+use crate::style::keys::BarKey;
 use crate::style::padding::push_times;
 use crate::style::steps::{Placeholder, open_style};
 use crate::style::texts::Texts;
@@ -70,22 +73,21 @@ fn push_begun(
 }
 
 impl<K: Tracks> ProgressStyle<K> {
-    /// Appends a bar of `width` columns that shows a fraction, in the layout of its placeholder.
+    /// Appends a bar of `width` columns in the layout of its placeholder.
     pub(crate) fn push_bar(
         &self,
+        bar: BarKey,
         placeholder: &Placeholder,
-        done: Fraction,
+        state: &ProgressState,
         width: u64,
         out: &mut String,
     ) -> Result<(), Refusal>
-        requires some { 0 < done.den }
-        requires whole { done.num ≤ done.den }
         ensures text { OnOk result (string_bytes out.new ≡ string_bytes out.old
-            ++ bar_text self.now.clusters self.now.colours (unwrap_or (placeholder_layout placeholder.now).alternative []) done width) }
+            ++ bar_text self.now.clusters self.now.colours (unwrap_or (placeholder_layout placeholder.now).alternative []) (bar_fraction state.now bar) width) }
         ensures memory { IfErr result (λ e. e ≡ Refusal.Memory) }
     {
         let cells = width / self.cell_columns as u64;
-        let left = push_begun(&self.clusters, done, cells, out)?;
+        let left = push_begun(&self.clusters, bar.fraction(state), cells, out)?;
         let some = open_style(&placeholder.alternative, self.colours, out)?;
         push_times(
             self.clusters.at(self.clusters.len() - 1),

@@ -44,7 +44,7 @@ impl<K: Tracks> ProgressStyle<K> {
         match key {
             Key::Bar(bar) => {
                 let width = u64::from(placeholder.width.unwrap_or(BAR_COLUMNS));
-                self.push_bar(placeholder, bar.fraction(state), width, out)?;
+                self.push_bar(bar, placeholder, state, width, out)?;
             }
             Key::WideBar(_) | Key::WideText(_) => out.push_str("\0")?,
             Key::Text(key) => out.push_str(self.shown_text(key, state))?,
@@ -181,8 +181,9 @@ impl<K: Tracks> ProgressStyle<K> {
     {
         match wide {
             WideKey::Bar(bar, placeholder) => self.push_bar(
+                bar,
                 placeholder,
-                bar.fraction(state),
+                state,
                 gap.columns as u64,
                 out,
             )?,

@@ -82,10 +82,10 @@ pub enum Key {
     Bar(BarKey),
     /// A bar, in the columns that the line leaves free.
     WideBar(BarKey),
-    /// A text.
-    Text(TextKey),
     /// A text, in the columns that the line leaves free.
     WideText(TextKey),
+    /// A text.
+    Text(TextKey),
     /// A number.
     Number(NumberKey),
 }

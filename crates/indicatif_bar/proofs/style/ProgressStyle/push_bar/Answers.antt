@@ -3,6 +3,7 @@ use Rattle.std.specs.Prelude.{unwrap_or}
 use Rattle.indicatif_text.specs.StyleWords.{opening_of, sequence_of}
 use Rattle.indicatif_bar.proofs.LayoutLemmas.{rest_text, last_sequence, rest_is, bar_parts, styled_opened, styled_alone, grown, grown_three}
 use Rattle.indicatif_bar.specs.Styles.{BarStyle}
+use Rattle.indicatif_bar.specs.Keys.{bar_fraction}
 use Rattle.indicatif_bar.specs.Layout.{cluster, text_columns, bar_text}
 use Rattle.indicatif_bar.specs.Inside.Bars.{begun_text}
 use Rattle.indicatif_bar.specs.Inside.Steps.{placeholder_layout}
@@ -14,7 +15,7 @@ returns-then-some-clause-text g c =
     let texts = texts_in c.self.inside.clusters in
     let colours = c.self.inside.colours in
     let numbers = unwrap_or (placeholder_layout c.args.placeholder.now).alternative [] in
-    let done = c.args.done in
+    let done = c.fraction.result in
     let cells = c.args.width / c.self.inside.cell_columns in
     let cells_are : cells ≡ c.args.width / text_columns (cluster texts 0) = ap (λ n. c.args.width / n) c.self.invariant.5 in
     let last : c.at.result.now ≡ cluster texts (length texts - 1) = c.at.ensures ∙ ap (λ n. cluster texts (n - 1)) c.len.ensures in
@@ -28,14 +29,15 @@ returns-then-some-clause-text g c =
     grown _ _ _ (begun_text texts done cells) (opening_of colours numbers ++ rest ++ sequence_of 0) c.in_ok-left.ensures.text closed
     ∙ ap (λ t. old ++ (begun_text texts done cells ++ t)) (sym style)
     ∙ ap (λ t. old ++ t) (sym (bar_parts texts colours numbers done c.args.width cells cells_are))
-    ∙ ap (λ (s : BarStyle g.row.K.Denot). old ++ bar_text s.clusters s.colours numbers done c.args.width) c.self.view_is
+    ∙ ap (λ f. old ++ bar_text texts colours numbers f c.args.width) c.fraction.ensures.fraction
+    ∙ ap (λ (s : BarStyle g.row.K.Denot). old ++ bar_text s.clusters s.colours numbers (bar_fraction c.args.state.now c.args.bar) c.args.width) c.self.view_is
 
 pub returns-clause-text : goal.returns-clause-text
 returns-clause-text g c =
     let texts = texts_in c.self.inside.clusters in
     let colours = c.self.inside.colours in
     let numbers = unwrap_or (placeholder_layout c.args.placeholder.now).alternative [] in
-    let done = c.args.done in
+    let done = c.fraction.result in
     let cells = c.args.width / c.self.inside.cell_columns in
     let cells_are : cells ≡ c.args.width / text_columns (cluster texts 0) = ap (λ n. c.args.width / n) c.self.invariant.5 in
     let last : c.at.result.now ≡ cluster texts (length texts - 1) = c.at.ensures ∙ ap (λ n. cluster texts (n - 1)) c.len.ensures in
@@ -48,4 +50,5 @@ returns-clause-text g c =
     (grown _ _ _ (opening_of colours numbers) rest c.in_ok-some.ensures.bytes pushed)
     ∙ ap (λ t. old ++ (begun_text texts done cells ++ t)) (sym style)
     ∙ ap (λ t. old ++ t) (sym (bar_parts texts colours numbers done c.args.width cells cells_are))
-    ∙ ap (λ (s : BarStyle g.row.K.Denot). old ++ bar_text s.clusters s.colours numbers done c.args.width) c.self.view_is
+    ∙ ap (λ f. old ++ bar_text texts colours numbers f c.args.width) c.fraction.ensures.fraction
+    ∙ ap (λ (s : BarStyle g.row.K.Denot). old ++ bar_text s.clusters s.colours numbers (bar_fraction c.args.state.now c.args.bar) c.args.width) c.self.view_is
