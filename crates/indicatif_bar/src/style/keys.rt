@@ -219,8 +219,7 @@ pub(crate) fn push_time(form: TimeForm, nanos: u64, out: &mut String) -> Result<
     Ok(())
 }
 
-/// Appends a fraction in hundredths with a number of decimals, at most 16. The decimals are written as digits of a number that has a 1 in
-/// front of them.
+/// Appends a fraction in hundredths with a number of decimals, at most 16. They are the digits of a number behind its first one, a 1.
 fn push_percent(done: Fraction, places: u8, out: &mut String) -> Result<(), Refusal>
     requires some { 0 < done.den }
     requires whole { done.num ≤ done.den }
@@ -247,7 +246,7 @@ fn power_of_ten(exponent: u8) -> u64
     10u64.pow(u32::from(exponent))
 }
 
-/// A fraction in hundredths, as the nearest whole number of units of which one hundredth has `unit`.
+/// The hundredths of a fraction times `unit`, as the nearest whole number.
 #[inline(always)]
 fn hundredths(done: Fraction, unit: u64) -> u64
     requires some { 0 < done.den }
@@ -258,7 +257,7 @@ fn hundredths(done: Fraction, unit: u64) -> u64
     nearest(u128::from(done.num) * u128::from(100 * unit), done.den)
 }
 
-/// Appends the decimal digits of a number but the first.
+/// Appends the decimal digits of a number behind the first one.
 fn push_behind_first(n: u64, out: &mut String) -> Result<(), Refusal>
     ensures text { OnOk result (string_bytes out.new ≡ string_bytes out.old ++ drop 1 (decimal n)) }
     ensures memory { IfErr result (λ e. e ≡ Refusal.Memory) }
