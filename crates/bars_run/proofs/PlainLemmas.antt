@@ -24,7 +24,7 @@ use Rattle.indicatif_board.specs.Bridge.{bridge_bytes}
 use Rattle.indicatif_board.specs.PlainBoardLaws.{IsPlainCall}
 use Rattle.bars_run.specs.Commands.{Action, Message, Tick, Finish, Hide, Abandon, Drop, Remove, Spelled, Add, Log, Warn, Clear, Resize, OfBar, and_then, each}
 use Rattle.bars_run.specs.Inside.Players.{unanswered}
-use Rattle.bars_run.specs.Plays.{Step, calling, bar_at, bar_with_message, call_on, script_step, IsPlain, IsPlainAction}
+use Rattle.bars_run.specs.Player.{Step, calling, bar_at, bar_with_message, call_on, script_step, IsPlain, IsPlainAction}
 use Rattle.bars_run.proofs.PlainScriptLemmas.{ArePlainParts}
 use Rattle.bars_run.proofs.PlayLemmas.{both}
 

@@ -19,7 +19,7 @@ use Rattle.bars_run.specs.declared.arguments.Asked.{Asked}
 use Rattle.bars_run.specs.Arguments.{HasCells}
 use Rattle.bars_run.specs.Commands.{Spelled, and_then, each, spelled}
 use Rattle.bars_run.specs.Inside.Players.{Played, empty_memory, unanswered, Makes, Obeys, HasPlayed}
-use Rattle.bars_run.specs.Plays.{Bar, BarCall, Step, machine, sizing, calling, script_step, script_of, is_refused, any_refused}
+use Rattle.bars_run.specs.Player.{Bar, BarCall, Step, machine, sizing, calling, script_step, script_of, is_refused, any_refused}
 
 -- ---- what stands for each
 

@@ -33,8 +33,8 @@ use Rattle.bars_run.specs.Arguments.{asked_by}
 use Rattle.bars_run.specs.Commands.{input_lines}
 use Rattle.bars_run.specs.Fault.{status_of}
 use Rattle.bars_run.specs.Inside.Players.{Played, empty_memory, unanswered, HasPlayed, Stands}
-use Rattle.bars_run.specs.Plays as plays
-use Rattle.bars_run.specs.Plays.{Bar, Step, machine, sizing, script_of, script_outcome, rows_after, columns_after, is_refused, any_refused, SizesHaveCells, IsPlain}
+use Rattle.bars_run.specs.Player as plays
+use Rattle.bars_run.specs.Player.{Bar, Step, machine, sizing, script_of, script_outcome, rows_after, columns_after, is_refused, any_refused, SizesHaveCells, IsPlain}
 use Rattle.bars_run.specs.Printing.{Prints, EndsOn, EndsBy, printed}
 use Rattle.bars_run.proofs.PlainLemmas.{plain_made}
 use Rattle.bars_run.proofs.PlainScriptLemmas.{scripts_plain}

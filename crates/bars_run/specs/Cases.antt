@@ -6,7 +6,7 @@ use Rattle.bars_run.specs.declared.arguments.Asked.{Asked}
 use Rattle.bars_run.specs.declared.arguments.Size.{Size}
 use Rattle.bars_run.specs.Arguments.{asked_by}
 use Rattle.bars_run.specs.Commands.{Message, Tick, Drop, Spelled, Add, Log, Warn, Clear, Resize, OfBar, input_lines, spelled, each}
-use Rattle.bars_run.specs.Plays.{Step, script_step, script_outcome, any_refused, rows_after}
+use Rattle.bars_run.specs.Player.{Step, script_step, script_outcome, any_refused, rows_after}
 use Rattle.bars_run.specs.Printing.{printed}
 
 -- a terminal's size

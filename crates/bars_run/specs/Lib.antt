@@ -3,5 +3,5 @@ pub mod Cases
 pub mod Commands
 pub mod Fault
 pub mod Inside
-pub mod Plays
+pub mod Player
 pub mod Printing

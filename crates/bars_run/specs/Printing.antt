@@ -9,7 +9,7 @@ use Rattle.bars_run.specs.declared.fault.Fault.{Fault}
 use Rattle.bars_run.specs.declared.fault.Fault.TheVariants.{Usage, BadCommand, Line, Refused, Input, Output}
 use Rattle.bars_run.specs.Arguments.{HasCells, asked_by}
 use Rattle.bars_run.specs.Commands.{Spelled, input_lines, spelled, each}
-use Rattle.bars_run.specs.Plays.{Step, script_step, script_outcome, any_refused, SizesHaveCells, rows_after, IsPlain}
+use Rattle.bars_run.specs.Player.{Step, script_step, script_outcome, any_refused, SizesHaveCells, rows_after, IsPlain}
 
 -- texts up to the last one that isn't empty
 abbrev pub up_to_last : List (List ℕ) → List (List ℕ)

@@ -5,7 +5,7 @@ ghost use Rattle.indicatif_term.specs.Pictures.{row_text};
 ghost use Rattle.bars_run.specs.declared.arguments.Asked.{Asked};
 ghost use Rattle.bars_run.specs.Arguments.{asked_by};
 ghost use Rattle.bars_run.specs.Commands.{Spelled, input_lines, spelled, each};
-ghost use Rattle.bars_run.specs.Plays.{Step, script_step, rows_after, IsPlain};
+ghost use Rattle.bars_run.specs.Player.{Step, script_step, rows_after, IsPlain};
 ghost use Rattle.bars_run.specs.Printing.{Prints, printed};
 
 /// What was printed follows from the words and the input alone, if the texts of its commands consist of characters with a width and colour

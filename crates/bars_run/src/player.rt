@@ -11,7 +11,7 @@ ghost use Rattle.indicatif_board.specs.Calls.{call_of as call_as};
 ghost use Rattle.indicatif_board.specs.Multi.{LeadsBy, terminal_of};
 ghost use Rattle.bars_run.specs.Arguments.{HasCells};
 ghost use Rattle.bars_run.specs.Commands.{Add, Log, Warn, OfBar, command_of, action_of};
-ghost use Rattle.bars_run.specs.Plays.{bar_at, bar_with_message as saying, call_on, calling};
+ghost use Rattle.bars_run.specs.Player.{bar_at, bar_with_message as saying, call_on, calling};
 ghost use Rattle.bars_run.specs.Inside.Players.{Obeys, Makes, HasPlayed};
 
 use crate::arguments::{Asked, Size};

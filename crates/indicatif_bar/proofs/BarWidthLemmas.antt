@@ -9,7 +9,10 @@ use Rattle.std.proofs.Math.Nat.{div-le_of_le-mul, mul-le-mul_right, div-lt_iff_l
 use Rattle.indicatif_text.specs.declared.refusal.Refusal.TheVariants.{FewProgressChars, UnequalWidths, ZeroWidthChars}
 use Rattle.indicatif_text.specs.StyleWords.{styled}
 use Rattle.indicatif_bar.specs.declared.measures.Fraction.{Fraction}
+use Rattle.indicatif_bar.specs.declared.style.keys.BarKey.{BarKey}
 use Rattle.indicatif_bar.specs.Measures.{fraction_of}
+use Rattle.indicatif_bar.specs.Progress.{Progress}
+use Rattle.indicatif_bar.specs.Keys.{bar_fraction}
 use Rattle.indicatif_bar.specs.Layout.{text_columns, cluster, times, bar_text}
 use Rattle.indicatif_bar.specs.Builders.{clusters_of, progress_fault}
 use Rattle.indicatif_bar.specs.Inside.Bars.{shade_of, begun_text, cells_left}
@@ -77,6 +80,14 @@ proper position None = record { some = omega arith; part = omega arith }
 proper position (Some zero) = record { some = omega arith; part = omega arith }
 proper position (Some (suc n)) = record { some = omega arith; part = omega arith }
 
+-- the fraction that a bar shows
+proper_bar : (p : Progress) (bar : BarKey) → IsProper (bar_fraction p bar)
+proper_bar p bar =
+    let done = proper p.position p.len in
+    let some : 0 < (bar_fraction p bar).den = grind (arith, done.some, done.part) in
+    let part : (bar_fraction p bar).num ≤ (bar_fraction p bar).den = grind (arith, done.some, done.part) in
+    record { some = some; part = part }
+
 -- where a shade stands, and that a cell is left for it
 record Shaded (f : Fraction) (cells clusters : ℕ) (shade : Option ℕ) : Type 0 where
   between : IfSome shade (λ k. (0 < k) × (k < clusters - 1))
@@ -114,16 +125,15 @@ takes_shade clusters (Some k) are between =
 distributes : (a b c u n : ℕ) → a + b + c ≡ n → a * u + b * u + c * u ≡ n * u
 distributes a b c u n e = ap (λ k. k + c * u) (sym (add-mul a b u)) ∙ sym (add-mul (a + b) c u) ∙ ap (λ k. k * u) e
 
-pub takes_bar : (clusters : List (List ℕ)) (colours : Bool) (alternative : List ℕ) (position : ℕ) (len : Option ℕ) (width : ℕ) → AreTaken clusters
-    → Takes (cells_in clusters width * text_columns (cluster clusters 0)) (bar_text clusters colours alternative (fraction_of position len) width)
-takes_bar clusters colours alternative position len width x =
+takes_proper : (clusters : List (List ℕ)) (colours : Bool) (alternative : List ℕ) (f : Fraction) (width : ℕ) → IsProper f → AreTaken clusters
+    → Takes (cells_in clusters width * text_columns (cluster clusters 0)) (bar_text clusters colours alternative f width)
+takes_proper clusters colours alternative f width is x =
     let are : ArePlainClusters clusters = (x.taken, taken_are_plain clusters x) in
-    let f = fraction_of position len in
     let n = cells_in clusters width in
     let u = text_columns (cluster clusters 0) in
     let many = (lawful clusters are.0).many in
     let shade = shade_of f n (length clusters) in
-    let s = shaded f n (length clusters) (proper position len) in
+    let s = shaded f n (length clusters) is in
     let begun = takes_both (filled_cells f n * u) (length (option_to_list shade) * u) (times (filled_cells f n) (cluster clusters 0)) (concat (map (cluster clusters) (option_to_list shade)))
     (takes_times (filled_cells f n) u (cluster clusters 0) (takes_cluster clusters 0 (omega (arith, many)) are)) (takes_shade clusters shade are s.between) in
     let left = cells_left f n (length clusters) in
@@ -135,8 +145,14 @@ takes_bar clusters colours alternative position len width x =
     (distributes (filled_cells f n) (length (option_to_list shade)) left u n all)
     (takes_both (filled_cells f n * u + length (option_to_list shade) * u) (left * u) (begun_text clusters f n) (styled colours alternative (rest_text clusters f n)) begun rest))
 
+-- the bar of a key
+pub takes_bar : (clusters : List (List ℕ)) (colours : Bool) (alternative : List ℕ) (p : Progress) (bar : BarKey) (width : ℕ) → AreTaken clusters
+    → Takes (cells_in clusters width * text_columns (cluster clusters 0)) (bar_text clusters colours alternative (bar_fraction p bar) width)
+takes_bar clusters colours alternative p bar width are = takes_proper clusters colours alternative (bar_fraction p bar) width (proper_bar p bar) are
+
 pub bars_take_their_cells : BarsTakeTheirCells
-bars_take_their_cells clusters colours alternative position len width are = (takes_bar clusters colours alternative position len width are).columns
+bars_take_their_cells clusters colours alternative position len width are =
+    (takes_proper clusters colours alternative (fraction_of position len) width (proper position len) are).columns
 
 pub bars_fit : BarsFit
 bars_fit clusters colours alternative position len width are =

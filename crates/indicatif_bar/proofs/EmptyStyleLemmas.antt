@@ -15,9 +15,9 @@ use Rattle.indicatif_text.specs.declared.template.Alignment.{Alignment}
 use Rattle.indicatif_text.specs.declared.template.Alignment.TheVariants as alignment
 use Rattle.indicatif_bar.specs.declared.measures.Fraction.{Fraction}
 use Rattle.indicatif_bar.specs.Layout.{padded, bar_text, text_columns, cluster}
-use Rattle.indicatif_bar.specs.Progress.{Progress, fraction}
+use Rattle.indicatif_bar.specs.Progress.{Progress}
 use Rattle.indicatif_bar.specs.Trackers.{Tracking}
-use Rattle.indicatif_bar.specs.Keys.{key_named}
+use Rattle.indicatif_bar.specs.Keys.{key_named, bar_fraction}
 use Rattle.indicatif_bar.specs.declared.style.keys.Key.{Key}
 use Rattle.indicatif_bar.specs.declared.style.keys.Key.TheVariants.{Bar, Text}
 use Rattle.indicatif_bar.specs.Styles.{BarStyle, Wide, key_text, in_layout, is_bare_layout, is_empty_key, is_empty_name, is_empty_part, is_empty_style}
@@ -61,9 +61,9 @@ empty_bar clusters colours alternative f width none plain =
 
 module _ {K : Type 0} (m : Tracking K) (style : BarStyle K) (p : Progress) (now : ℕ) where
   empty_key : (layout : Layout) (key : Key) → is_empty_key style p layout key ≡ true → key_text m style p now layout key ≡ []
-  empty_key layout Bar e =
+  empty_key layout (Bar bar) e =
       let parts = and_parts _ _ e in
-      empty_bar style.clusters style.colours layout.alternative (fraction p) (unwrap_or layout.width 20) parts.0 parts.1
+      empty_bar style.clusters style.colours layout.alternative (bar_fraction p bar) (unwrap_or layout.width 20) parts.0 parts.1
   empty_key layout (Text key) e = empty_text _ e
   empty_key layout _ e = absurd (false≢true e)
 

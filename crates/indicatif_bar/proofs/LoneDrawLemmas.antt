@@ -22,7 +22,7 @@ use Rattle.indicatif_bar.specs.LoneBars.{LoneIsIn, LoneIsNowhere, lone_bar, Lone
 use Rattle.indicatif_bar.specs.Stages.{IsStaged}
 use Rattle.indicatif_bar.specs.Shown.{PutsFrame, DrewBy, DrewOn, WritesLinesOn}
 use Rattle.indicatif_term.specs.declared.target.lines.Segment.{Segment}
-use Rattle.indicatif_bar.specs.Inside.Writings.{StandInSegment}
+use Rattle.indicatif_bar.specs.Inside.Shown.{StandInSegment}
 use Rattle.indicatif_bar.specs.Inside.Lone.{IsTold, IsToldOrNot}
 use Rattle.indicatif_bar.specs.declared.ask.Ask.{Ask}
 use Rattle.indicatif_bar.specs.declared.ask.Ask.TheVariants.{Forced}

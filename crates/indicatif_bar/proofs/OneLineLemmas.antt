@@ -10,6 +10,7 @@ use Rattle.std.proofs.lemmas.List.Splits.{slice_split_none}
 use Rattle.std.proofs.lemmas.Str.{IsCharBoundary-after_ascii}
 use Rattle.indicatif_text.specs.Template.{Layout}
 use Rattle.indicatif_bar.specs.Progress.{Progress}
+use Rattle.indicatif_bar.specs.declared.style.keys.BarKey.{BarKey}
 use Rattle.indicatif_bar.specs.Layout.{text_columns}
 use Rattle.indicatif_bar.specs.Styles.{BarStyle, WideBarOf, is_filler, is_newline, columns_left, with_fillers_as, wide_text}
 use Rattle.indicatif_bar.specs.StyleLaws.{AreTaken}
@@ -58,14 +59,14 @@ filled shown (b ∷ bs) x y =
     both first (with_fillers_as shown bs) (cond_both (is_filler b) shown (b ∷ []) IsOneLine (λ _. x) (λ _. (y.0, tt))) (filled shown bs x y.1)
 
 -- a bar in the place of each filler
-abbrev pub with_bar : {K : Type 0} → BarStyle K → Progress → ℕ → List ℕ → Layout → List ℕ
-with_bar style p columns line layout = with_fillers_as (wide_text style p columns line (WideBarOf layout)) line
+abbrev pub with_bar : {K : Type 0} → BarStyle K → Progress → ℕ → List ℕ → BarKey → Layout → List ℕ
+with_bar style p columns line key layout = with_fillers_as (wide_text style p columns line (WideBarOf key layout)) line
 
 -- it leaves one line one line
-pub bar_in_line : {K : Type 0} (style : BarStyle K) (p : Progress) (columns : ℕ) (line : List ℕ) (layout : Layout) → AreTaken style.clusters → list_any is_newline line ≡ false
-    → slice_split is_newline (with_bar style p columns line layout) ≡ with_bar style p columns line layout ∷ []
-bar_in_line style p columns line layout taken one =
-    let bar = wide_text style p columns line (WideBarOf layout) in
-    let takes = takes_bar style.clusters style.colours (unwrap_or layout.alternative []) p.position p.len (columns_left columns line) taken in
+pub bar_in_line : {K : Type 0} (style : BarStyle K) (p : Progress) (columns : ℕ) (line : List ℕ) (key : BarKey) (layout : Layout) → AreTaken style.clusters → list_any is_newline line ≡ false
+    → slice_split is_newline (with_bar style p columns line key layout) ≡ with_bar style p columns line key layout ∷ []
+bar_in_line style p columns line key layout taken one =
+    let bar = wide_text style p columns line (WideBarOf key layout) in
+    let takes = takes_bar style.clusters style.colours (unwrap_or layout.alternative []) p key (columns_left columns line) taken in
     let none : IsOneLine bar = recursion_from_All (λ b. (b == 0x0A) ≡ false) bar (takes_without 0x0A _ bar strange_newline takes) in
     slice_split_none is_newline (with_fillers_as bar line) (All-from_recursion (λ b. (b == 0x0A) ≡ false) (with_fillers_as bar line) (filled bar line none (found_none line one)))

@@ -1,6 +1,6 @@
 -- Lines of parts without control characters have none.
 use Rattle.std.proofs.Common.{◌≡◌, ℕ, ◌*◌, Bool, true, false, List, [], ◌∷◌, ◌++◌, append_assoc, length, refl, sym, ◌∙◌, ap, subst, if◌then◌else◌, Option, Some, None}
-use Rattle.std.specs.Prelude.{◌==◌, flat_map, unwrap_or, encode_utf8_all}
+use Rattle.std.specs.Prelude.{◌==◌, IfSome, flat_map, unwrap_or, encode_utf8_all}
 use Rattle.std.specs.List.{list_any, slice_split, onto_first, AllByRecursion}
 use Rattle.std.specs.Str.{chars, drop_trailing_whitespace}
 use Rattle.std.proofs.lemmas.Bool.{cond_both}
@@ -9,14 +9,15 @@ use Rattle.std.proofs.lemmas.List.Elements.{All-from_recursion, recursion_from_A
 use Rattle.std.proofs.lemmas.List.Folds.{list_any_none}
 use Rattle.std.proofs.lemmas.List.Splits.{slice_split_none}
 use Rattle.indicatif_text.specs.Template.{Layout, TemplatePart, LiteralText, LineBreak, KeyText}
-use Rattle.indicatif_bar.specs.Progress.{Progress, shown_message}
+use Rattle.indicatif_bar.specs.Progress.{Progress}
 use Rattle.indicatif_bar.specs.Trackers.{Tracking}
 use Rattle.indicatif_bar.specs.Layout.{padded, cluster, text_columns}
-use Rattle.indicatif_bar.specs.Styles.{BarStyle, Wide, WideBarOf, WideMessageOf, is_filler, is_newline, is_line_break, filler, ends_in_filler, columns_left, with_fillers_as, wide_text, filled, lines_with, in_layout, part_text, wide_part, latest_wide, lines_of_groups, lines}
+use Rattle.indicatif_bar.specs.Styles.{BarStyle, Wide, WideBarOf, WideTextOf, is_filler, is_newline, is_line_break, filler, ends_in_filler, columns_left, with_fillers_as, wide_text, filled, lines_with, in_layout, part_text, wide_part, latest_wide, lines_of_groups, lines}
 use Rattle.indicatif_bar.specs.StyleLaws.{IsPlainText, cells_in}
-use Rattle.indicatif_bar.specs.LineLaws.{IsPlainPart, HasPlainParts, PlainPartsGivePlainLines}
+use Rattle.indicatif_bar.specs.Keys.{shown_text}
+use Rattle.indicatif_bar.specs.LineLaws.{IsPlainWide, IsPlainPart, HasPlainParts, PlainPartsGivePlainLines}
 use Rattle.indicatif_bar.specs.Inside.Steps.{wide_source, source_text, source_of}
-use Rattle.indicatif_bar.specs.declared.style.keys.Key.TheVariants.{WideBar, WideMessage}
+use Rattle.indicatif_bar.specs.declared.style.keys.Key.TheVariants.{WideBar, WideText}
 use Rattle.indicatif_bar.specs.declared.style.steps.Source.{Source}
 use Rattle.indicatif_bar.specs.declared.style.steps.Source.TheVariants.{Known}
 use Rattle.indicatif_bar.proofs.BarWidthLemmas.{takes_bar}
@@ -82,13 +83,13 @@ module _ {K : Type 0} (m : Tracking K) (style : BarStyle K) (p : Progress) (now 
 
   -- a wide key leaves a filler
   leaves_filler : (layout : Layout) (source : Source) (wide : Wide) → wide_source layout source ≡ Some wide → source_text m style p now layout source ≡ filler
-  leaves_filler layout (Known WideBar) wide e = refl
-  leaves_filler layout (Known WideMessage) wide e = refl
+  leaves_filler layout (Known (WideBar bar)) wide e = refl
+  leaves_filler layout (Known (WideText text)) wide e = refl
   leaves_filler layout source wide e = absurd (cc e)
 
   key_mixed : (key : List ℕ) (layout : Layout) (o : Option Wide) → wide_part m style p now (KeyText key layout) ≡ o → IsPlainPart m style p now (KeyText key layout)
       → Mixed (part_text m style p now (KeyText key layout))
-  key_mixed key layout None is h = one (h is)
+  key_mixed key layout None is h = one (h.0 is)
   key_mixed key layout (Some wide) is h =
       let name = encode_utf8_all key in
       let source = source_of (names style.keys) name in
@@ -97,8 +98,8 @@ module _ {K : Type 0} (m : Tracking K) (style : BarStyle K) (p : Progress) (now 
       (mixed_filler (in_layout m style p now layout filler) (filler_styled style.colours (unwrap_or layout.style []) _ (sized_filler layout.align layout.truncate layout.width)))
 
   part_mixed : (part : TemplatePart) → IsPlainPart m style p now part → Mixed (part_text m style p now part)
-  part_mixed (LiteralText text) h = one (h refl)
-  part_mixed LineBreak h = one (h refl)
+  part_mixed (LiteralText text) h = one (h.0 refl)
+  part_mixed LineBreak h = one (h.0 refl)
   part_mixed (KeyText key layout) h = key_mixed key layout (wide_part m style p now (KeyText key layout)) refl h
 
   group_mixed : (parts : List TemplatePart) → AllByRecursion (IsPlainPart m style p now) parts → Mixed (flat_map (part_text m style p now) parts)
@@ -120,7 +121,7 @@ module _ {K : Type 0} (m : Tracking K) (style : BarStyle K) (p : Progress) (now 
       → (latest_wide m style p now wide xs ≡ None → IsPlainText (flat_map (part_text m style p now) xs))
       → latest_wide m style p now wide (x ∷ xs) ≡ None → IsPlainText (flat_map (part_text m style p now) (x ∷ xs))
   plain_by x xs wide None is h rest e =
-      plain_both (part_text m style p now x) (flat_map (part_text m style p now) xs) (h is) (rest (sym (latest_by m style p now wide None x xs is) ∙ e))
+      plain_both (part_text m style p now x) (flat_map (part_text m style p now) xs) (h.0 is) (rest (sym (latest_by m style p now wide None x xs is) ∙ e))
   plain_by x xs wide (Some w) is h rest e = absurd (stays_wide xs w (sym (latest_by m style p now wide (Some w) x xs is) ∙ e))
 
   group_plain : (parts : List TemplatePart) (wide : Option Wide) → AllByRecursion (IsPlainPart m style p now) parts → latest_wide m style p now wide parts ≡ None
@@ -128,22 +129,35 @@ module _ {K : Type 0} (m : Tracking K) (style : BarStyle K) (p : Progress) (now 
   group_plain [] wide h e = none_plain
   group_plain (x ∷ xs) wide h e = plain_by x xs wide (wide_part m style p now x) refl h.0 (group_plain xs wide h.1) e
 
+  -- what the latest wide key shows is plain
+  abbrev ShowsPlain : Option Wide → Type 0
+  ShowsPlain wide = IfSome wide (IsPlainWide m style p now)
+
+  latest_by_part : (x : TemplatePart) (xs : List TemplatePart) (wide o : Option Wide) → wide_part m style p now x ≡ o → ShowsPlain o → ShowsPlain wide
+      → ((w : Option Wide) → ShowsPlain w → ShowsPlain (latest_wide m style p now w xs)) → ShowsPlain (latest_wide m style p now wide (x ∷ xs))
+  latest_by_part x xs wide None is shows before rest = subst ShowsPlain (sym (latest_by m style p now wide None x xs is)) (rest wide before)
+  latest_by_part x xs wide (Some w) is shows before rest = subst ShowsPlain (sym (latest_by m style p now wide (Some w) x xs is)) (rest (Some w) shows)
+
+  latest_plain : (parts : List TemplatePart) (wide : Option Wide) → AllByRecursion (IsPlainPart m style p now) parts → ShowsPlain wide → ShowsPlain (latest_wide m style p now wide parts)
+  latest_plain [] wide all before = before
+  latest_plain (x ∷ xs) wide all before = latest_by_part x xs wide (wide_part m style p now x) refl all.0.1 before (λ w shows. latest_plain xs w all.1 shows)
+
   -- ---- lines
 
   module _ (h : HasPlainParts m style p now) (columns : ℕ) where
-    wide_plain : (text : List ℕ) (wide : Wide) → IsPlainText (wide_text style p columns text wide)
-    wide_plain text (WideBarOf layout) =
+    wide_plain : (text : List ℕ) (wide : Wide) → IsPlainWide m style p now wide → IsPlainText (wide_text style p columns text wide)
+    wide_plain text (WideBarOf bar layout) shows =
         let left = columns_left columns text in
         taken_plain (cells_in style.clusters left * text_columns (cluster style.clusters 0)) _
-        (takes_bar style.clusters style.colours (unwrap_or layout.alternative []) p.position p.len left h.clusters)
-    wide_plain text (WideMessageOf layout) =
-        let message = padded (shown_message p) (columns_left columns text) layout.align true in
-        let plain = plain_padded (shown_message p) (columns_left columns text) layout.align true h.message in
-        cond_both (ends_in_filler text) (encode_utf8_all (drop_trailing_whitespace (chars message))) message (λ x. IsPlainText x) (λ _. plain_trimmed message plain) (λ _. plain)
+        (takes_bar style.clusters style.colours (unwrap_or layout.alternative []) p bar left h.clusters)
+    wide_plain text (WideTextOf key layout) shows =
+        let shown = padded (shown_text style.tick_strings p key) (columns_left columns text) layout.align true in
+        let plain = plain_padded (shown_text style.tick_strings p key) (columns_left columns text) layout.align true shows in
+        cond_both (ends_in_filler text) (encode_utf8_all (drop_trailing_whitespace (chars shown))) shown (λ x. IsPlainText x) (λ _. plain_trimmed shown plain) (λ _. plain)
 
-    filled_plain : (text : List ℕ) (wide : Option Wide) → Mixed text → (wide ≡ None → IsPlainText text) → IsPlainText (filled style p columns wide text)
-    filled_plain text None x none = none refl
-    filled_plain text (Some wide) x none = mixed_filled (wide_text style p columns text wide) text (wide_plain text wide) x
+    filled_plain : (text : List ℕ) (wide : Option Wide) → ShowsPlain wide → Mixed text → (wide ≡ None → IsPlainText text) → IsPlainText (filled style p columns wide text)
+    filled_plain text None shows x none = none refl
+    filled_plain text (Some wide) shows x none = mixed_filled (wide_text style p columns text wide) text (wide_plain text wide shows) x
 
     line_plain : (text : List ℕ) (wide : Option Wide) → IsPlainText (filled style p columns wide text) → AllByRecursion IsPlainText (lines_with style p columns wide text)
     line_plain text wide plain =
@@ -151,26 +165,26 @@ module _ {K : Type 0} (m : Tracking K) (style : BarStyle K) (p : Progress) (now 
         let alone = slice_split_none is_newline line (takes_without 0x0A (text_columns line) line strange_newline (plain_takes line plain)) in
         subst (AllByRecursion IsPlainText) (sym alone) (plain, tt)
 
-    group_lines : (parts : List TemplatePart) (wide : Option Wide) → AllByRecursion (IsPlainPart m style p now) parts
+    group_lines : (parts : List TemplatePart) (wide : Option Wide) → AllByRecursion (IsPlainPart m style p now) parts → ShowsPlain wide
         → AllByRecursion IsPlainText (lines_with style p columns (latest_wide m style p now wide parts) (flat_map (part_text m style p now) parts))
-    group_lines parts wide all =
+    group_lines parts wide all before =
         line_plain (flat_map (part_text m style p now) parts) (latest_wide m style p now wide parts)
-        (filled_plain (flat_map (part_text m style p now) parts) (latest_wide m style p now wide parts) (group_mixed parts all) (group_plain parts wide all))
+        (filled_plain (flat_map (part_text m style p now) parts) (latest_wide m style p now wide parts) (latest_plain parts wide all before) (group_mixed parts all) (group_plain parts wide all))
 
-    groups_plain : (groups : List (List TemplatePart)) (wide : Option Wide) → AllByRecursion (λ g. AllByRecursion (IsPlainPart m style p now) g) groups
+    groups_plain : (groups : List (List TemplatePart)) (wide : Option Wide) → AllByRecursion (λ g. AllByRecursion (IsPlainPart m style p now) g) groups → ShowsPlain wide
         → AllByRecursion IsPlainText (lines_of_groups m style p now columns wide groups)
-    groups_plain [] wide all = tt
-    groups_plain (g ∷ []) wide all =
+    groups_plain [] wide all before = tt
+    groups_plain (g ∷ []) wide all before =
         let text = flat_map (part_text m style p now) g in
-        cond_both (length text == 0) [] (lines_with style p columns (latest_wide m style p now wide g) text) (AllByRecursion IsPlainText) (λ _. tt) (λ _. group_lines g wide all.0)
-    groups_plain (g ∷ n ∷ gs) wide all =
+        cond_both (length text == 0) [] (lines_with style p columns (latest_wide m style p now wide g) text) (AllByRecursion IsPlainText) (λ _. tt) (λ _. group_lines g wide all.0 before)
+    groups_plain (g ∷ n ∷ gs) wide all before =
         let next = latest_wide m style p now wide g in
         all_both IsPlainText (lines_with style p columns next (flat_map (part_text m style p now) g)) (lines_of_groups m style p now columns next (n ∷ gs))
-        (group_lines g wide all.0) (groups_plain (n ∷ gs) next all.1)
+        (group_lines g wide all.0 before) (groups_plain (n ∷ gs) next all.1 (latest_plain g wide all.0 before))
 
 pub plain_parts_give_plain_lines : {K : Type 0} → PlainPartsGivePlainLines K
 unfolding lines
 plain_parts_give_plain_lines m style p now columns h =
     let split = split_all (IsPlainPart m style p now) is_line_break style.parts (recursion_from_All (IsPlainPart m style p now) style.parts h.parts) in
     All-from_recursion IsPlainText (lines_of_groups m style p now columns None (slice_split is_line_break style.parts))
-    (groups_plain m style p now h columns (slice_split is_line_break style.parts) None split)
+    (groups_plain m style p now h columns (slice_split is_line_break style.parts) None split tt)

@@ -1,6 +1,6 @@
 -- A line with one wide bar of clusters of one column fills its row exactly.
 use Rattle.std.proofs.Common.{◌≡◌, ◌≢◌, ℕ, suc, ◌+◌, ◌-◌, ◌*◌, ◌/◌, ◌%◌, ◌<◌, ◌≤◌, Bool, true, false, ◌||◌, List, [], ◌∷◌, ◌++◌, append-nil, append_assoc, length, length-append, refl, sym, ◌∙◌, ap, subst, arith, if◌then◌else◌, Option, Some, None}
-use Rattle.std.specs.Prelude.{◌==◌, nat_lt, sum_by, flat_map, find, is_some, unwrap_or, codes, All, encode_utf8_all}
+use Rattle.std.specs.Prelude.{◌==◌, nat_lt, sum_by, flat_map, find, is_some, unwrap_or, All, encode_utf8_all}
 use Rattle.std.specs.Option.{option_map_or}
 use Rattle.std.specs.List.{list_all, list_any, slice_split, last_or, AllByRecursion}
 use Rattle.std.specs.Str.{chars}
@@ -240,31 +240,31 @@ filled_row : (columns : ℕ) (line : List ℕ) → Takes columns line → FillsR
 filled_row columns line t = record { plain = (t.utf8, t.plain); columns_are = t.columns; one_row = one_row (chars line) columns (omega (arith, t.columns)) }
 
 module _ {K : Type 0} (m : Tracking K) (style : BarStyle K) (p : Progress) (now columns : ℕ) (h : HasWideBar m style p now columns) where
-  bar_named : named_text m style p now (encode_utf8_all (codes "wide_bar")) h.layout ≡ filler
-  unfolding encode
+  bar_named : named_text m style p now (encode_utf8_all h.name) h.layout ≡ filler
   bar_named = ap (λ o. elim o as (λ _. List ℕ) [
     | Some k ↦ expanded style.tab (m.text k p now)
-    | None ↦ option_map_or (key_text m style p now h.layout) (key_named (codes "wide_bar")) []
+    | None ↦ option_map_or (key_text m style p now h.layout) (key_named (encode_utf8_all h.name)) []
   ]) h.no_tracker
+      ∙ ap (λ key. option_map_or (key_text m style p now h.layout) key []) h.is_bar
 
-  bar_filler : SomeFiller (part_text m style p now (KeyText (codes "wide_bar") h.layout))
+  bar_filler : SomeFiller (part_text m style p now (KeyText h.name h.layout))
   bar_filler = subst (λ t. SomeFiller (in_layout m style p now h.layout t)) (sym bar_named)
       (filler_styled style.colours (unwrap_or h.layout.style []) _ (sized_filler h.layout.align h.layout.truncate h.layout.width))
 
   text_filler : SomeFiller (parts_text m style p now style.parts)
   text_filler =
       let before = parts_text m style p now h.front in
-      let bar = part_text m style p now (KeyText (codes "wide_bar") h.layout) in
+      let bar = part_text m style p now (KeyText h.name h.layout) in
       let behind = parts_text m style p now h.back in
       let whole : parts_text m style p now style.parts ≡ before ++ (bar ++ behind) = ap (parts_text m style p now) h.parts
-      ∙ flat_map-append (part_text m style p now) h.front (KeyText (codes "wide_bar") h.layout ∷ h.back) in
+      ∙ flat_map-append (part_text m style p now) h.front (KeyText h.name h.layout ∷ h.back) in
       let inner = filler_behind (text_columns behind) bar_filler.many behind bar (plain_takes behind h.plain_back) bar_filler.is in
       let all = filler_before (text_columns before) (bar_filler.many + text_columns behind) before (bar ++ behind) (plain_takes before h.plain_front) inner in
       subst SomeFiller (sym whole) (record { many = text_columns before + (bar_filler.many + text_columns behind); is = all })
 
   -- the line: the text with the bar in the place of its filler
   abbrev text_of_line : List ℕ
-  text_of_line = with_fillers_as (wide_text style p columns (parts_text m style p now style.parts) (WideBarOf h.layout)) (parts_text m style p now style.parts)
+  text_of_line = with_fillers_as (wide_text style p columns (parts_text m style p now style.parts) (WideBarOf h.bar h.layout)) (parts_text m style p now style.parts)
 
   line_takes : Takes columns text_of_line
   line_takes =
@@ -274,10 +274,10 @@ module _ {K : Type 0} (m : Tracking K) (style : BarStyle K) (p : Progress) (now 
       let u = text_columns (cluster style.clusters 0) in
       let left = columns_left columns text in
       let even : left % u ≡ 0 = ap (λ k. left % k) h.narrow ∙ omega arith in
-      let bar = takes_bar style.clusters style.colours (unwrap_or h.layout.alternative []) p.position p.len left h.clusters in
+      let bar = takes_bar style.clusters style.colours (unwrap_or h.layout.alternative []) p h.bar left h.clusters in
       let shown = takes_as (cells_in style.clusters left * u) left _ (exact left u even) bar in
       let all : n + left ≡ columns = omega (arith, left_is n text x columns, columns_with_filler n text x, h.room) in
-      takes_as (n + left) columns text_of_line all (replaced_takes n text x left (wide_text style p columns text (WideBarOf h.layout)) shown)
+      takes_as (n + left) columns text_of_line all (replaced_takes n text x left (wide_text style p columns text (WideBarOf h.bar h.layout)) shown)
 
   line_alone : lines m style p now columns ≡ text_of_line ∷ []
   unfolding lines

@@ -1,6 +1,6 @@
 -- What only the contracts of private functions cite.
 pub mod Lone
-pub mod Writings
+pub mod Shown
 pub mod Bars
 pub mod Steps
 pub mod Texts

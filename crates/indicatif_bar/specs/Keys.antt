@@ -1,5 +1,5 @@
--- The keys of a template that need no tracker: their names, and the texts and numbers that they show. Texts are lists of bytes in UTF-8.
-use Rattle.std.specs.Prelude.{ℕ, ◌-◌, ◌*◌, ◌%◌, List, [], ◌∷◌, ◌++◌, length, Option, Some, None, if◌then◌else◌, unwrap_or, codes, decimal, bytes_eq}
+-- The keys of a template that need no tracker: their names, and the bars, texts and numbers that they show. Texts are lists of bytes in UTF-8.
+use Rattle.std.specs.Prelude.{ℕ, ◌-◌, ◌*◌, ◌%◌, min, List, [], ◌∷◌, ◌++◌, length, Option, Some, None, if◌then◌else◌, unwrap_or, codes, decimal, bytes_eq}
 use Rattle.std.specs.List.{slice_index_or}
 use Rattle.indicatif_text.specs.Format.{human_count, human_float_count, fixed_point, binary_bytes, decimal_bytes, formatted_duration, short_duration}
 use Rattle.indicatif_bar.specs.declared.measures.Fraction.{Fraction}
@@ -8,10 +8,12 @@ use Rattle.indicatif_bar.specs.declared.style.keys.CountForm.{CountForm}
 use Rattle.indicatif_bar.specs.declared.style.keys.CountForm.TheVariants.{Plain, Human, Binary, Decimal}
 use Rattle.indicatif_bar.specs.declared.style.keys.TimeForm.{TimeForm}
 use Rattle.indicatif_bar.specs.declared.style.keys.TimeForm.TheVariants.{Clock, Short}
+use Rattle.indicatif_bar.specs.declared.style.keys.BarKey.{BarKey}
+use Rattle.indicatif_bar.specs.declared.style.keys.BarKey.TheVariants.{Done}
 use Rattle.indicatif_bar.specs.declared.style.keys.TextKey.{TextKey}
 use Rattle.indicatif_bar.specs.declared.style.keys.TextKey.TheVariants.{Spinner, Prefix, Message}
 use Rattle.indicatif_bar.specs.declared.style.keys.NumberKey.{NumberKey}
-use Rattle.indicatif_bar.specs.declared.style.keys.NumberKey.TheVariants.{Position, Length, Percent, PercentPrecise, Elapsed, Eta, Duration, PerSecond, BytesPerSecond}
+use Rattle.indicatif_bar.specs.declared.style.keys.NumberKey.TheVariants.{Position, Length, Percent, Elapsed, Eta, Duration, PerSecond, BytesPerSecond}
 use Rattle.indicatif_bar.specs.declared.style.keys.Key.{Key}
 use Rattle.indicatif_bar.specs.declared.style.keys.Key.TheVariants as key
 use Rattle.indicatif_bar.specs.Measures.{steps_a_second}
@@ -25,13 +27,13 @@ named name (entry ∷ entries) = if bytes_eq name entry.0 then Some entry.1 else
 -- the keys and their names
 abbrev pub key_names : List (List ℕ × Key)
 key_names =
-    (codes "bar", key.Bar) ∷ (codes "wide_bar", key.WideBar) ∷ (codes "wide_msg", key.WideMessage)
+    (codes "bar", key.Bar Done) ∷ (codes "wide_bar", key.WideBar Done) ∷ (codes "wide_msg", key.WideText Message)
     ∷ (codes "spinner", key.Text Spinner) ∷ (codes "prefix", key.Text Prefix) ∷ (codes "msg", key.Text Message)
     ∷ (codes "pos", key.Number (Position Plain)) ∷ (codes "human_pos", key.Number (Position Human)) ∷ (codes "bytes", key.Number (Position Binary))
     ∷ (codes "binary_bytes", key.Number (Position Binary)) ∷ (codes "decimal_bytes", key.Number (Position Decimal))
     ∷ (codes "len", key.Number (Length Plain)) ∷ (codes "human_len", key.Number (Length Human)) ∷ (codes "total_bytes", key.Number (Length Binary))
     ∷ (codes "binary_total_bytes", key.Number (Length Binary)) ∷ (codes "decimal_total_bytes", key.Number (Length Decimal))
-    ∷ (codes "percent", key.Number Percent) ∷ (codes "percent_precise", key.Number PercentPrecise)
+    ∷ (codes "percent", key.Number (Percent 0)) ∷ (codes "percent_precise", key.Number (Percent 3))
     ∷ (codes "elapsed", key.Number (Elapsed Short)) ∷ (codes "elapsed_precise", key.Number (Elapsed Clock))
     ∷ (codes "eta", key.Number (Eta Short)) ∷ (codes "eta_precise", key.Number (Eta Clock))
     ∷ (codes "duration", key.Number (Duration Short)) ∷ (codes "duration_precise", key.Number (Duration Clock))
@@ -41,6 +43,12 @@ key_names =
 -- the key with a name
 abbrev pub key_named : List ℕ → Option Key
 key_named name = named name key_names
+
+-- ---- bars
+
+-- the fraction that a bar shows
+abbrev pub bar_fraction : Progress → BarKey → Fraction
+bar_fraction p Done = fraction p
 
 -- ---- texts
 
@@ -87,8 +95,7 @@ whole_rate_text form rate = count_text form (steps_a_second rate) ++ codes "/s"
 abbrev pub number_text : Progress → ℕ → Option ℕ → NumberKey → List ℕ
 number_text p now width (Position form) = count_text form p.position
 number_text p now width (Length form) = count_text form (length_shown p)
-number_text p now width Percent = percent_text (fraction p) 0
-number_text p now width PercentPrecise = percent_text (fraction p) 3
+number_text p now width (Percent places) = percent_text (fraction p) (min places 16)
 number_text p now width (Elapsed form) = time_text form (elapsed p now)
 number_text p now width (Eta form) = time_text form (eta p now)
 number_text p now width (Duration form) = time_text form (duration p now)

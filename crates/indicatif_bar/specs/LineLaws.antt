@@ -1,5 +1,5 @@
 -- Laws of a bar's lines, and of tabs in them. Texts are lists of bytes in UTF-8.
-use Rattle.std.specs.Prelude.{◌≡◌, ℕ, ◌≤◌, IsTrue, map, true, false, List, [], ◌∷◌, ◌++◌, length, None, All, flat_map, filter_map, codes, encode_utf8_all}
+use Rattle.std.specs.Prelude.{◌≡◌, ℕ, ◌≤◌, IsTrue, map, true, false, List, [], ◌∷◌, ◌++◌, length, Some, None, All, IfSome, flat_map, filter_map, encode_utf8_all}
 use Rattle.std.specs.Str.{chars}
 use Rattle.indicatif_text.specs.Columns.{rows_of}
 use Rattle.indicatif_text.specs.Template.{Layout, TemplatePart, LiteralText, LineBreak, KeyText}
@@ -8,8 +8,10 @@ use Rattle.indicatif_bar.specs.Tabs.{expanded}
 use Rattle.indicatif_bar.specs.Progress.{Progress, shown_message, shown_prefix}
 use Rattle.indicatif_bar.specs.Trackers.{Tracking}
 use Rattle.indicatif_bar.specs.Layout.{text_columns, cluster}
-use Rattle.indicatif_bar.specs.Keys.{named}
-use Rattle.indicatif_bar.specs.Styles.{BarStyle, WideBarOf, wide_part, part_text, is_line_break, lines, is_empty_style}
+use Rattle.indicatif_bar.specs.Keys.{named, key_named, shown_text}
+use Rattle.indicatif_bar.specs.declared.style.keys.BarKey.{BarKey}
+use Rattle.indicatif_bar.specs.declared.style.keys.Key.TheVariants.{WideBar}
+use Rattle.indicatif_bar.specs.Styles.{BarStyle, Wide, WideBarOf, WideTextOf, wide_part, part_text, is_line_break, lines, is_empty_style}
 use Rattle.indicatif_bar.specs.Commands.{BarRecord, SetTabWidth, obeyed}
 use Rattle.indicatif_bar.specs.StyleLaws.{IsPlainText, AreTaken}
 
@@ -24,11 +26,14 @@ module _ {K : Type 0} (m : Tracking K) (style : BarStyle K) (p : Progress) (now 
   pub record HasWideBar (columns : ℕ) : Type 0 where
     pub front : List TemplatePart
     pub back : List TemplatePart
+    pub name : List ℕ
     pub layout : Layout
-    pub parts : style.parts ≡ front ++ KeyText (codes "wide_bar") layout ∷ back
+    pub bar : BarKey
+    pub parts : style.parts ≡ front ++ KeyText name layout ∷ back
     pub one_line : All (λ part. is_line_break part ≡ false) style.parts
-    pub no_tracker : named (codes "wide_bar") style.keys ≡ None
-    pub alone : filter_map (wide_part m style p now) style.parts ≡ WideBarOf layout ∷ []
+    pub is_bar : key_named (encode_utf8_all name) ≡ Some (WideBar bar)
+    pub no_tracker : named (encode_utf8_all name) style.keys ≡ None
+    pub alone : filter_map (wide_part m style p now) style.parts ≡ WideBarOf bar layout ∷ []
     pub plain_front : IsPlainText (parts_text front)
     pub plain_back : IsPlainText (parts_text back)
     pub clusters : AreTaken style.clusters
@@ -49,15 +54,19 @@ WideBarsFill K = (m : Tracking K) (style : BarStyle K) (p : Progress) (now colum
 -- ---- plain lines
 
 module _ {K : Type 0} (m : Tracking K) (style : BarStyle K) (p : Progress) (now : ℕ) where
-  -- what a part of a template writes consists of characters with a width and colour sequences, if it is no wide key
-  abbrev pub IsPlainPart : TemplatePart → Type 0
-  IsPlainPart part = wide_part m style p now part ≡ None → IsPlainText (part_text m style p now part)
+  -- if a wide key shows a text, it consists of characters with a width and colour sequences
+  abbrev pub IsPlainWide : Wide → Type 0
+  IsPlainWide (WideBarOf bar layout) = Unit {0}
+  IsPlainWide (WideTextOf key layout) = IsPlainText (shown_text style.tick_strings p key)
 
-  -- this holds of all parts and of the message, and a style takes the clusters
+  -- so does what a part of a template writes, if it is no wide key, and otherwise what the wide key shows
+  abbrev pub IsPlainPart : TemplatePart → Type 0
+  IsPlainPart part = (wide_part m style p now part ≡ None → IsPlainText (part_text m style p now part)) × IfSome (wide_part m style p now part) IsPlainWide
+
+  -- this holds of all parts, and a style takes the clusters
   pub record HasPlainParts : Type 0 where
     pub parts : All IsPlainPart style.parts
     pub clusters : AreTaken style.clusters
-    pub message : IsPlainText (shown_message p)
 
 -- then it holds of the lines, whatever the wide keys are and however wide the terminal is
 abbrev pub PlainPartsGivePlainLines : Type 0 → Type 0

@@ -6,12 +6,14 @@ use Rattle.std.specs.Option.{option_map_or}
 use Rattle.indicatif_text.specs.StyleWords.{styled}
 use Rattle.indicatif_text.specs.Template.{Layout, TemplatePart, LiteralText, LineBreak, KeyText}
 use Rattle.indicatif_bar.specs.Tabs.{expanded}
-use Rattle.indicatif_bar.specs.Progress.{Progress, shown_message, fraction}
+use Rattle.indicatif_bar.specs.Progress.{Progress}
 use Rattle.indicatif_bar.specs.Trackers.{Tracking}
 use Rattle.indicatif_bar.specs.Layout.{text_columns, padded, bar_text}
-use Rattle.indicatif_bar.specs.Keys.{named, key_named, shown_text, number_text}
+use Rattle.indicatif_bar.specs.Keys.{named, key_named, bar_fraction, shown_text, number_text}
+use Rattle.indicatif_bar.specs.declared.style.keys.BarKey.{BarKey}
+use Rattle.indicatif_bar.specs.declared.style.keys.TextKey.{TextKey}
 use Rattle.indicatif_bar.specs.declared.style.keys.Key.{Key}
-use Rattle.indicatif_bar.specs.declared.style.keys.Key.TheVariants.{Bar, WideBar, WideMessage, Text, Number}
+use Rattle.indicatif_bar.specs.declared.style.keys.Key.TheVariants.{Bar, WideBar, Text, WideText, Number}
 
 -- how a bar looks, with trackers under your own keys
 pub record BarStyle (K : Type 0) : Type 0 where
@@ -30,12 +32,12 @@ pub record BarStyle (K : Type 0) : Type 0 where
 
 -- the placeholder of a wide key, as it is laid out
 pub data Wide : Type 0 where
-  WideBarOf : (layout : Layout) → Wide
-  WideMessageOf : (layout : Layout) → Wide
+  WideBarOf : (bar : BarKey) → (layout : Layout) → Wide
+  WideTextOf : (text : TextKey) → (layout : Layout) → Wide
 
 abbrev pub wide_of : Layout → Key → Option Wide
-wide_of layout WideBar = Some (WideBarOf layout)
-wide_of layout WideMessage = Some (WideMessageOf layout)
+wide_of layout (WideBar bar) = Some (WideBarOf bar layout)
+wide_of layout (WideText text) = Some (WideTextOf text layout)
 wide_of layout _ = None
 
 -- the filler that marks the place of a wide key
@@ -67,10 +69,10 @@ with_fillers_as shown text = flat_map (λ b. if is_filler b then shown else b �
 module _ {K : Type 0} (style : BarStyle K) (p : Progress) where
   -- the text that replaces each filler
   abbrev pub wide_text : ℕ → List ℕ → Wide → List ℕ
-  wide_text columns text (WideBarOf layout) = bar_text style.clusters style.colours (unwrap_or layout.alternative []) (fraction p) (columns_left columns text)
-  wide_text columns text (WideMessageOf layout) =
-      let message = padded (shown_message p) (columns_left columns text) layout.align true in
-      if ends_in_filler text then encode_utf8_all (drop_trailing_whitespace (chars message)) else message
+  wide_text columns text (WideBarOf bar layout) = bar_text style.clusters style.colours (unwrap_or layout.alternative []) (bar_fraction p bar) (columns_left columns text)
+  wide_text columns text (WideTextOf key layout) =
+      let shown = padded (shown_text style.tick_strings p key) (columns_left columns text) layout.align true in
+      if ends_in_filler text then encode_utf8_all (drop_trailing_whitespace (chars shown)) else shown
 
   -- a text with its fillers replaced, by the latest wide key
   abbrev pub filled : ℕ → Option Wide → List ℕ → List ℕ
@@ -88,10 +90,10 @@ bar_columns = 20
 module _ {K : Type 0} (m : Tracking K) (style : BarStyle K) (p : Progress) (now : ℕ) where
   -- the text of a key, for a placeholder's layout
   abbrev pub key_text : Layout → Key → List ℕ
-  key_text layout Bar = bar_text style.clusters style.colours (unwrap_or layout.alternative []) (fraction p) (unwrap_or layout.width bar_columns)
-  key_text layout WideBar = filler
-  key_text layout WideMessage = filler
+  key_text layout (Bar bar) = bar_text style.clusters style.colours (unwrap_or layout.alternative []) (bar_fraction p bar) (unwrap_or layout.width bar_columns)
+  key_text layout (WideBar bar) = filler
   key_text layout (Text key) = shown_text style.tick_strings p key
+  key_text layout (WideText key) = filler
   key_text layout (Number key) = number_text p now layout.width key
 
   -- the text of a name: its tracker's, its key's, or none if it is unknown
@@ -150,7 +152,7 @@ is_bare_layout colours layout = (unwrap_or layout.width 0 == 0) && not (colours 
 module _ {K : Type 0} (style : BarStyle K) (p : Progress) where
   -- a key whose text is empty at each moment: a bar of no columns, or a text that is empty
   abbrev pub is_empty_key : Layout → Key → Bool
-  is_empty_key layout Bar = (unwrap_or layout.width bar_columns == 0) && not (style.colours && is_some layout.alternative)
+  is_empty_key layout (Bar bar) = (unwrap_or layout.width bar_columns == 0) && not (style.colours && is_some layout.alternative)
   is_empty_key layout (Text key) = length (shown_text style.tick_strings p key) == 0
   is_empty_key layout _ = false
 

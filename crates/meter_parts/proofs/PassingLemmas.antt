@@ -5,7 +5,7 @@ use Rattle.std.proofs.KnownBytes.{Consumes-trans, Appends-trans}
 use Rattle.meter_parts.specs.declared.passing.Broken.{Broken}
 use Rattle.meter_parts.specs.declared.passing.Broken.TheVariants.{Input, Output}
 use Rattle.meter_parts.specs.Passing.{Passes, PassedOr}
-use Rattle.meter_parts.specs.Inside.Reads.{PassedSome}
+use Rattle.meter_parts.specs.Inside.Passing.{PassedSome}
 
 -- what came went, and then what came after it, but for what waits
 pub passes_on : (a b c u v w : Option (List ℕ)) (waiting : List ℕ) → Passes a b u v [] → Passes b c v w waiting → Passes a c u w waiting

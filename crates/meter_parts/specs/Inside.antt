@@ -1,2 +1,2 @@
 -- What only the contracts of private functions cite.
-pub mod Reads
+pub mod Passing

@@ -3,7 +3,7 @@ ghost use Rattle.std.specs.Prelude.{◌≡◌, ◌<◌, ◌≤◌, length, IfOk,
 ghost use Rattle.std.specs.Io.KnownBytes.{WriteAppends};
 ghost use Rattle.indicatif_term.specs.Term.{AppendsAllOrFront};
 ghost use Rattle.meter_parts.specs.Passing.{PassedAll, IsFinal, EndsAt};
-ghost use Rattle.meter_parts.specs.Inside.Reads.{PassedSome};
+ghost use Rattle.meter_parts.specs.Inside.Passing.{PassedSome};
 
 use std::io::{Error, ErrorKind, Read, Result as IoResult, Write};
 

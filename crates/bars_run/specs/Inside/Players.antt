@@ -14,7 +14,7 @@ use Rattle.bars_run.specs.declared.fault.Fault.{Fault}
 use Rattle.bars_run.specs.declared.fault.Fault.TheVariants.{BadCommand, Line}
 use Rattle.bars_run.specs.Arguments.{HasCells}
 use Rattle.bars_run.specs.Commands.{Spelled, input_lines, spelled, each}
-use Rattle.bars_run.specs.Plays.{Bar, Step, machine, sizing, script_step, script_of, script_outcome, rows_after, any_refused, SizesHaveCells, IsPlain}
+use Rattle.bars_run.specs.Player.{Bar, Step, machine, sizing, script_step, script_of, script_outcome, rows_after, any_refused, SizesHaveCells, IsPlain}
 
 -- a board in memory
 abbrev pub Played : Type 0

@@ -10,7 +10,7 @@ use Rattle.indicatif_bar.specs.Tabs.{expanded}
 use Rattle.indicatif_bar.specs.Progress.{Progress}
 use Rattle.indicatif_bar.specs.Trackers.{Tracking}
 use Rattle.indicatif_bar.specs.Keys.{key_named}
-use Rattle.indicatif_bar.specs.Styles.{BarStyle, Wide, WideBarOf, WideMessageOf, wide_of, key_text, in_layout, is_bare_layout, is_empty_key}
+use Rattle.indicatif_bar.specs.Styles.{BarStyle, Wide, WideBarOf, WideTextOf, wide_of, key_text, in_layout, is_bare_layout, is_empty_key}
 use Rattle.indicatif_bar.specs.declared.style.steps.Source.{Source}
 use Rattle.indicatif_bar.specs.declared.style.steps.Source.TheVariants.{Tracker, Known, Nothing}
 use Rattle.indicatif_bar.specs.declared.style.steps.Placeholder.{Placeholder}
@@ -67,8 +67,8 @@ wide_source layout _ = None
 
 -- the wide placeholder of a value
 abbrev pub wide_found : WideKey → Wide
-wide_found (wide_key.Bar placeholder) = WideBarOf (placeholder_layout placeholder.now)
-wide_found (wide_key.Message placeholder) = WideMessageOf (placeholder_layout placeholder.now)
+wide_found (wide_key.Bar bar placeholder) = WideBarOf bar (placeholder_layout placeholder.now)
+wide_found (wide_key.Text text placeholder) = WideTextOf text (placeholder_layout placeholder.now)
 
 module _ {K : Type 0} (m : Tracking K) (style : BarStyle K) (p : Progress) (now : ℕ) where
   -- the text from a source

@@ -1,6 +1,6 @@
 //! A bar of clusters.
 ghost use Rattle.std.specs.Prelude.{◌≡◌, ◌<◌, ◌≤◌, ◌++◌, ◌*◌, ◌/◌, ◌%◌, string_bytes, length, OnOk, IfOk, IfErr, IfSome, [], unwrap_or};
-ghost use Rattle.indicatif_bar.specs.Progress.{fraction};
+ghost use Rattle.indicatif_bar.specs.Keys.{bar_fraction};
 ghost use Rattle.indicatif_bar.specs.Layout.{bar_text};
 ghost use Rattle.indicatif_bar.specs.Inside.Bars.{shade_of, begun_text, cells_left};
 ghost use Rattle.indicatif_bar.specs.Inside.Steps.{placeholder_layout};
@@ -9,6 +9,7 @@ ghost use Rattle.indicatif_bar.specs.Inside.Texts.{texts_in};
 use crate::measures::Fraction;
 use crate::progress::ProgressState;
 use crate::style::ProgressStyle;
+use crate::style::keys::BarKey;
 use crate::style::padding::push_times;
 use crate::style::steps::{Placeholder, open_style};
 use crate::style::texts::Texts;
@@ -75,17 +76,18 @@ impl<K: Tracks> ProgressStyle<K> {
     /// Appends a bar of `width` columns in the layout of its placeholder.
     pub(crate) fn push_bar(
         &self,
+        bar: BarKey,
         placeholder: &Placeholder,
         state: &ProgressState,
         width: u64,
         out: &mut String,
     ) -> Result<(), Refusal>
         ensures text { OnOk result (string_bytes out.new ≡ string_bytes out.old
-            ++ bar_text self.now.clusters self.now.colours (unwrap_or (placeholder_layout placeholder.now).alternative []) (fraction state.now) width) }
+            ++ bar_text self.now.clusters self.now.colours (unwrap_or (placeholder_layout placeholder.now).alternative []) (bar_fraction state.now bar) width) }
         ensures memory { IfErr result (λ e. e ≡ Refusal.Memory) }
     {
         let cells = width / self.cell_columns as u64;
-        let left = push_begun(&self.clusters, state.fraction(), cells, out)?;
+        let left = push_begun(&self.clusters, bar.fraction(state), cells, out)?;
         let some = open_style(&placeholder.alternative, self.colours, out)?;
         push_times(
             self.clusters.at(self.clusters.len() - 1),

@@ -6,7 +6,6 @@ ghost use Rattle.indicatif_bar.specs.Bars.{is_bar_line};
 ghost use Rattle.std.specs.Str.{trim_end};
 ghost use Rattle.indicatif_term.specs.Lines.{line_text};
 ghost use Rattle.indicatif_bar.specs.Tabs.{expanded};
-ghost use Rattle.indicatif_bar.specs.Progress.{shown_message};
 ghost use Rattle.indicatif_bar.specs.Layout.{padded};
 ghost use Rattle.indicatif_bar.specs.Styles.{key_text, wide_text, with_fillers_as, lines_with, lines, columns_left, ends_in_filler, is_filler, is_empty_style};
 ghost use Rattle.indicatif_bar.specs.Inside.Steps.{PutsSource, placeholder_layout, source_text, effect_text, wide_found};
@@ -43,11 +42,11 @@ impl<K: Tracks> ProgressStyle<K> {
         ensures memory { IfErr result (λ e. e ≡ Refusal.Memory) }
     {
         match key {
-            Key::Bar => {
+            Key::Bar(bar) => {
                 let width = u64::from(placeholder.width.unwrap_or(BAR_COLUMNS));
-                self.push_bar(placeholder, state, width, out)?;
+                self.push_bar(bar, placeholder, state, width, out)?;
             }
-            Key::WideBar | Key::WideMessage => out.push_str("\0")?,
+            Key::WideBar(_) | Key::WideText(_) => out.push_str("\0")?,
             Key::Text(key) => out.push_str(self.shown_text(key, state))?,
             Key::Number(key) => key.push(state, now, placeholder.width, out)?,
         }
@@ -181,16 +180,17 @@ impl<K: Tracks> ProgressStyle<K> {
         ensures memory { IfErr result (λ e. e ≡ Refusal.Memory) }
     {
         match wide {
-            WideKey::Bar(placeholder) => self.push_bar(
+            WideKey::Bar(bar, placeholder) => self.push_bar(
+                bar,
                 placeholder,
                 state,
                 gap.columns as u64,
                 out,
             )?,
-            WideKey::Message(placeholder) => push_message(
+            WideKey::Text(key, placeholder) => push_in_gap(
+                self.shown_text(key, state),
                 placeholder.align,
                 gap,
-                state,
                 spare,
                 out,
             )?,
@@ -272,8 +272,8 @@ impl<K: Tracks> ProgressStyle<K> {
         self.push_filled(text, wide, gap, state, spare, &mut filled)?;
         let _read = self.tab;
         match wide {
-            WideKey::Bar(_) if !gap.has_break => push_line(filled, lines)?,
-            WideKey::Bar(_) | WideKey::Message(_) => push_lines(filled, spare, lines)?,
+            WideKey::Bar(_, _) if !gap.has_break => push_line(filled, lines)?,
+            WideKey::Bar(_, _) | WideKey::Text(_, _) => push_lines(filled, spare, lines)?,
         }
         Ok(())
     }
@@ -369,17 +369,17 @@ impl<'a> Line<'a> {
     }
 }
 
-/// Appends the message at a gap's columns; if the gap ends its text, without white space at its end.
-fn push_message(
+/// Appends a text at a gap's columns; if the gap ends its line's text, without white space at its end.
+fn push_in_gap(
+    text: &str,
     align: Alignment,
     gap: Gap,
-    state: &ProgressState,
     spare: &mut SpareLines,
     out: &mut String,
 ) -> Result<(), Refusal>
-    ensures text { let message = padded (shown_message state.now) gap.columns align true in
+    ensures text { let shown = padded text.now gap.columns align true in
         OnOk result (string_bytes out.new ≡ string_bytes out.old
-        ++ (if gap.is_last then trim_end message else message)) }
+        ++ (if gap.is_last then trim_end shown else shown)) }
     ensures memory { IfErr result (λ e. e ≡ Refusal.Memory) }
 {
     let place = AtWidth {
@@ -388,12 +388,12 @@ fn push_message(
         truncate: true,
     };
     if !gap.is_last {
-        push_padded(state.message(), place, out)?;
+        push_padded(text, place, out)?;
         return Ok(());
     }
-    let mut message = spare.text();
-    push_padded(state.message(), place, &mut message)?;
-    out.push_str(message.as_str().trim_end())?;
-    spare.store_text(message);
+    let mut shown = spare.text();
+    push_padded(text, place, &mut shown)?;
+    out.push_str(shown.as_str().trim_end())?;
+    spare.store_text(shown);
     Ok(())
 }

@@ -45,7 +45,7 @@ impl<K: Tracks> ProgressStyle<K> {
             return false;
         }
         match placeholder.source {
-            Source::Known(Key::Bar) => placeholder.is_bare_bar(self.colours),
+            Source::Known(Key::Bar(_)) => placeholder.is_bare_bar(self.colours),
             Source::Known(Key::Text(key)) => self.shown_text(key, state).is_empty(),
             Source::Nothing => true,
             Source::Known(_) | Source::Tracker(_) => false,

@@ -1,6 +1,7 @@
-//! The keys of a template that need no tracker: their names, and the texts and numbers that they show.
-ghost use Rattle.std.specs.Prelude.{◌≡◌, ◌<◌, ◌≤◌, ◌++◌, ◌+◌, ◌%◌, string_bytes, decimal, OnOk, IfErr};
-ghost use Rattle.indicatif_bar.specs.Keys.{key_named, shown_text, number_text, count_text, time_text, percent_text, rate_text, whole_rate_text};
+//! The keys of a template that need no tracker: their names, and the bars, texts and numbers that they show.
+ghost use Rattle.std.specs.Prelude.{◌≡◌, ◌<◌, ◌≤◌, ◌*◌, ◌^◌, ◌++◌, min, drop, string_bytes, decimal, OnOk, IfErr};
+ghost use Rattle.indicatif_text.specs.Format.{round};
+ghost use Rattle.indicatif_bar.specs.Keys.{key_named, bar_fraction, shown_text, number_text, count_text, time_text, percent_text, rate_text, whole_rate_text};
 
 use crate::measures::{Fraction, Rate};
 use crate::progress::ProgressState;
@@ -35,6 +36,13 @@ pub enum TimeForm {
     Short,
 }
 
+/// What a bar in a line shows.
+#[derive(Clone, Copy, Drop)]
+pub enum BarKey {
+    /// The part of the length that is done.
+    Done,
+}
+
 /// A key that shows a text of the bar or of its spinner.
 #[derive(Clone, Copy, Drop)]
 pub enum TextKey {
@@ -53,10 +61,8 @@ pub enum NumberKey {
     Position(CountForm),
     /// The length, or the position if there is none.
     Length(CountForm),
-    /// The part of the length that is done, in whole hundredths.
-    Percent,
-    /// The part of the length that is done, in hundredths with three decimals.
-    PercentPrecise,
+    /// The part of the length that is done, in hundredths with this number of decimals, at most 16.
+    Percent(u8),
     /// The time since the start.
     Elapsed(TimeForm),
     /// The time to the end.
@@ -72,12 +78,12 @@ pub enum NumberKey {
 /// A key that needs no tracker.
 #[derive(Clone, Copy, Drop)]
 pub enum Key {
-    /// The bar, at the placeholder's width or 20 columns.
-    Bar,
-    /// The bar, in the columns that the line leaves free.
-    WideBar,
-    /// The message, in the columns that the line leaves free.
-    WideMessage,
+    /// A bar, at the placeholder's width or 20 columns.
+    Bar(BarKey),
+    /// A bar, in the columns that the line leaves free.
+    WideBar(BarKey),
+    /// A text, in the columns that the line leaves free.
+    WideText(TextKey),
     /// A text.
     Text(TextKey),
     /// A number.
@@ -89,9 +95,9 @@ pub(crate) fn key_named(name: &str) -> Option<Key>
     ensures { result ≡ key_named name.now }
 {
     let key = match name {
-        "bar" => Key::Bar,
-        "wide_bar" => Key::WideBar,
-        "wide_msg" => Key::WideMessage,
+        "bar" => Key::Bar(BarKey::Done),
+        "wide_bar" => Key::WideBar(BarKey::Done),
+        "wide_msg" => Key::WideText(TextKey::Message),
         "spinner" => Key::Text(TextKey::Spinner),
         "prefix" => Key::Text(TextKey::Prefix),
         "msg" => Key::Text(TextKey::Message),
@@ -105,8 +111,8 @@ pub(crate) fn key_named(name: &str) -> Option<Key>
         "total_bytes" => Key::Number(NumberKey::Length(CountForm::Binary)),
         "binary_total_bytes" => Key::Number(NumberKey::Length(CountForm::Binary)),
         "decimal_total_bytes" => Key::Number(NumberKey::Length(CountForm::Decimal)),
-        "percent" => Key::Number(NumberKey::Percent),
-        "percent_precise" => Key::Number(NumberKey::PercentPrecise),
+        "percent" => Key::Number(NumberKey::Percent(0)),
+        "percent_precise" => Key::Number(NumberKey::Percent(3)),
         "elapsed" => Key::Number(NumberKey::Elapsed(TimeForm::Short)),
         "elapsed_precise" => Key::Number(NumberKey::Elapsed(TimeForm::Clock)),
         "eta" => Key::Number(NumberKey::Eta(TimeForm::Short)),
@@ -120,6 +126,20 @@ pub(crate) fn key_named(name: &str) -> Option<Key>
         _ => return None,
     };
     Some(key)
+}
+
+impl BarKey {
+    /// The fraction that a bar shows in this state.
+    #[inline(always)]
+    pub(crate) fn fraction(self, state: &ProgressState) -> Fraction
+        ensures fraction { result ≡ bar_fraction state.now self }
+        ensures some { 0 < result.den }
+        ensures whole { result.num ≤ result.den }
+    {
+        match self {
+            BarKey::Done => state.fraction(),
+        }
+    }
 }
 
 impl<K: Tracks> ProgressStyle<K> {
@@ -151,8 +171,7 @@ impl NumberKey {
         match self {
             NumberKey::Position(form) => push_count(form, state.pos(), out),
             NumberKey::Length(form) => push_count(form, state.len().unwrap_or(state.pos()), out),
-            NumberKey::Percent => push_percent(state.fraction(), out),
-            NumberKey::PercentPrecise => push_percent_precise(state.fraction(), out),
+            NumberKey::Percent(places) => push_percent(state.fraction(), places, out),
             NumberKey::Elapsed(form) => push_time(form, state.elapsed(now), out),
             NumberKey::Eta(form) => push_time(form, state.eta(now), out),
             NumberKey::Duration(form) => push_time(form, state.duration(now), out),
@@ -200,37 +219,53 @@ pub(crate) fn push_time(form: TimeForm, nanos: u64, out: &mut String) -> Result<
     Ok(())
 }
 
-/// Appends a fraction in whole hundredths.
-fn push_percent(done: Fraction, out: &mut String) -> Result<(), Refusal>
+/// Appends a fraction in hundredths with a number of decimals, at most 16. They are the digits of a number behind its first one, a 1.
+fn push_percent(done: Fraction, places: u8, out: &mut String) -> Result<(), Refusal>
     requires some { 0 < done.den }
     requires whole { done.num ≤ done.den }
-    ensures text { OnOk result (string_bytes out.new ≡ string_bytes out.old ++ percent_text done 0) }
+    ensures text { OnOk result (string_bytes out.new ≡ string_bytes out.old ++ percent_text done (min places 16)) }
     ensures memory { IfErr result (λ e. e ≡ Refusal.Memory) }
 {
-    push_number(nearest(u128::from(done.num) * 100, done.den), out)
+    if places == 0 {
+        return push_number(hundredths(done, 1), out);
+    }
+    let unit = power_of_ten(places.min(16));
+    let scaled = hundredths(done, unit);
+    push_number(scaled / unit, out)?;
+    out.push_str(".")?;
+    push_behind_first(unit + scaled % unit, out)
 }
 
-/// Appends a fraction in hundredths, with three decimals.
-fn push_percent_precise(done: Fraction, out: &mut String) -> Result<(), Refusal>
+/// A power of ten.
+fn power_of_ten(exponent: u8) -> u64
+    requires { exponent ≤ 16 }
+    ensures power { result ≡ 10 ^ exponent }
+    ensures some { 0 < result }
+    ensures small { result ≤ 10 ^ 16 }
+{
+    10u64.pow(u32::from(exponent))
+}
+
+/// The hundredths of a fraction times `unit`, as the nearest whole number.
+#[inline(always)]
+fn hundredths(done: Fraction, unit: u64) -> u64
     requires some { 0 < done.den }
     requires whole { done.num ≤ done.den }
-    ensures text { OnOk result (string_bytes out.new ≡ string_bytes out.old ++ percent_text done 3) }
+    requires small { unit ≤ 10 ^ 16 }
+    ensures { result ≡ round (100 * done.num * unit) done.den }
+{
+    nearest(u128::from(done.num) * u128::from(100 * unit), done.den)
+}
+
+/// Appends the decimal digits of a number behind the first one.
+fn push_behind_first(n: u64, out: &mut String) -> Result<(), Refusal>
+    ensures text { OnOk result (string_bytes out.new ≡ string_bytes out.old ++ drop 1 (decimal n)) }
     ensures memory { IfErr result (λ e. e ≡ Refusal.Memory) }
 {
-    let scaled = nearest(u128::from(done.num) * 100_000, done.den);
-    push_number(scaled / 1000, out)?;
-    out.push('.')?;
-    out.push(digit(scaled / 100))?;
-    out.push(digit(scaled / 10))?;
-    out.push(digit(scaled))?;
+    let mut digits = Buffer::new();
+    let (_, behind) = digits.format(n).split_at(1);
+    out.push_str(behind)?;
     Ok(())
-}
-
-/// The last decimal digit of a number.
-fn digit(n: u64) -> char
-    ensures { result ≡ 48 + n % 10 }
-{
-    char::from(b'0' + (n % 10) as u8)
 }
 
 /// Appends the steps a second, rounded to `decimals` decimals.

@@ -6,7 +6,7 @@ ghost use Rattle.indicatif_text.specs.Template.{TemplatePart, part_of};
 ghost use Rattle.indicatif_bar.specs.Styles.{bar_columns, is_bare_layout};
 ghost use Rattle.indicatif_bar.specs.Inside.Steps.{wide_found, wide_source, placeholder_layout, names_of, literal_text, effect_of, effect_of_part, source_of};
 
-use crate::style::keys::{Key, key_named};
+use crate::style::keys::{BarKey, Key, TextKey, key_named};
 use crate::tabs::{has_tab, push_expanded};
 use indicatif_text::columns::{Refusal, Style};
 use indicatif_text::template::{Alignment, Part, Template};
@@ -40,10 +40,10 @@ pub(crate) struct Placeholder {
 /// The placeholder of a wide key.
 #[derive(Clone, Copy, Drop)]
 pub(crate) enum WideKey<'a> {
-    /// Of `{wide_bar}`.
-    Bar(&'a Placeholder),
-    /// Of `{wide_msg}`.
-    Message(&'a Placeholder),
+    /// Of a wide bar.
+    Bar(BarKey, &'a Placeholder),
+    /// Of a wide text.
+    Text(TextKey, &'a Placeholder),
 }
 
 impl Placeholder {
@@ -52,8 +52,8 @@ impl Placeholder {
         ensures { option_map wide_found result ≡ wide_source (placeholder_layout self.now) self.now.source }
     {
         match self.source {
-            Source::Known(Key::WideBar) => Some(WideKey::Bar(self)),
-            Source::Known(Key::WideMessage) => Some(WideKey::Message(self)),
+            Source::Known(Key::WideBar(bar)) => Some(WideKey::Bar(bar, self)),
+            Source::Known(Key::WideText(text)) => Some(WideKey::Text(text, self)),
             _ => None,
         }
     }

@@ -4,7 +4,7 @@ use Rattle.std.specs.Io.KnownBytes.{Appends}
 use Rattle.indicatif_term.specs.Pictures.{row_text}
 use Rattle.bars_run.specs.declared.arguments.Asked.{Asked}
 use Rattle.bars_run.specs.Commands.{each}
-use Rattle.bars_run.specs.Plays.{script_step, rows_after, IsPlain}
+use Rattle.bars_run.specs.Player.{script_step, rows_after, IsPlain}
 use Rattle.bars_run.specs.Printing.{printed}
 use Rattle.bars_run.proofs.laws.what_is_printed.Goals as goal
 

@@ -8,7 +8,7 @@ use Rattle.indicatif_bar.specs.StyleLaws.{IsPlainText}
 use Rattle.bars_run.specs.Arguments.{asked_by}
 use Rattle.bars_run.specs.Cases.{small}
 use Rattle.bars_run.specs.Commands.{Spelled, Add, Log, OfBar, Tick}
-use Rattle.bars_run.specs.Plays.{IsPlain}
+use Rattle.bars_run.specs.Player.{IsPlain}
 use Rattle.bars_run.specs.Printing.{Prints}
 use Rattle.uses.proofs.PlainLemmas.{first_name, first_plain, printed_plain}
 use Rattle.uses.proofs.programs.print_name.Goals as goal

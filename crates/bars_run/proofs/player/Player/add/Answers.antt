@@ -1,7 +1,7 @@
 use Rattle.std.proofs.Common.{ap, sym, Some}
 use Rattle.indicatif_board.specs.Boards as on
 use Rattle.bars_run.specs.Commands.{Add}
-use Rattle.bars_run.specs.Plays.{Bar, calling}
+use Rattle.bars_run.specs.Player.{Bar, calling}
 use Rattle.bars_run.proofs.PlayLemmas.{obeyed}
 use Rattle.bars_run.proofs.player.Player.add.Goals as goal
 

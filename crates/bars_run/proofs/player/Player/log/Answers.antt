@@ -1,7 +1,7 @@
 use Rattle.std.proofs.Common.{ap, sym, Some, string_bytes}
 use Rattle.indicatif_board.specs.Boards as on
 use Rattle.bars_run.specs.Commands.{Log}
-use Rattle.bars_run.specs.Plays.{calling}
+use Rattle.bars_run.specs.Player.{calling}
 use Rattle.bars_run.proofs.PlayLemmas.{obeyed}
 use Rattle.bars_run.proofs.player.Player.log.Goals as goal
 

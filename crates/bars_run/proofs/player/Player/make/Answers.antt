@@ -3,7 +3,7 @@ use Rattle.indicatif_term.specs.Cells.{view_of}
 use Rattle.indicatif_bar.specs.Trackers.{writes_nothing}
 use Rattle.indicatif_board.specs.Calls.{answer_of, call_of}
 use Rattle.indicatif_board.specs.Multi.{LeadsBy}
-use Rattle.bars_run.specs.Plays.{is_refused}
+use Rattle.bars_run.specs.Player.{is_refused}
 use Rattle.bars_run.proofs.PlayLemmas.{called}
 use Rattle.bars_run.proofs.player.Player.make.Goals as goal
 

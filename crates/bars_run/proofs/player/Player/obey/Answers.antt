@@ -2,7 +2,7 @@ use Rattle.std.proofs.Common.{ap}
 use Rattle.indicatif_bar.specs.Scripts.{Size}
 use Rattle.indicatif_board.specs.Boards as on
 use Rattle.bars_run.specs.Commands.{command_of}
-use Rattle.bars_run.specs.Plays.{calling, script_step}
+use Rattle.bars_run.specs.Player.{calling, script_step}
 use Rattle.bars_run.proofs.PlayLemmas.{obeyed}
 use Rattle.bars_run.proofs.player.Player.obey.Goals as goal
 

@@ -1,7 +1,7 @@
 use Rattle.std.proofs.Common.{◌∙◌, ap, sym, Some}
 use Rattle.indicatif_board.specs.Calls.{call_of}
 use Rattle.bars_run.specs.Commands.{OfBar, action_of}
-use Rattle.bars_run.specs.Plays.{calling, call_on, script_step}
+use Rattle.bars_run.specs.Player.{calling, call_on, script_step}
 use Rattle.bars_run.proofs.PlayLemmas.{obeyed}
 use Rattle.bars_run.proofs.player.Player.tell.Goals as goal
 

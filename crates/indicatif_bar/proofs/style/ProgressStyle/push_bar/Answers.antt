@@ -3,7 +3,7 @@ use Rattle.std.specs.Prelude.{unwrap_or}
 use Rattle.indicatif_text.specs.StyleWords.{opening_of, sequence_of}
 use Rattle.indicatif_bar.proofs.LayoutLemmas.{rest_text, last_sequence, rest_is, bar_parts, styled_opened, styled_alone, grown, grown_three}
 use Rattle.indicatif_bar.specs.Styles.{BarStyle}
-use Rattle.indicatif_bar.specs.Progress.{fraction}
+use Rattle.indicatif_bar.specs.Keys.{bar_fraction}
 use Rattle.indicatif_bar.specs.Layout.{cluster, text_columns, bar_text}
 use Rattle.indicatif_bar.specs.Inside.Bars.{begun_text}
 use Rattle.indicatif_bar.specs.Inside.Steps.{placeholder_layout}
@@ -29,8 +29,8 @@ returns-then-some-clause-text g c =
     grown _ _ _ (begun_text texts done cells) (opening_of colours numbers ++ rest ++ sequence_of 0) c.in_ok-left.ensures.text closed
     ∙ ap (λ t. old ++ (begun_text texts done cells ++ t)) (sym style)
     ∙ ap (λ t. old ++ t) (sym (bar_parts texts colours numbers done c.args.width cells cells_are))
-    ∙ ap (λ f. old ++ bar_text texts colours numbers f c.args.width) c.fraction.ensures
-    ∙ ap (λ (s : BarStyle g.row.K.Denot). old ++ bar_text s.clusters s.colours numbers (fraction c.args.state.now) c.args.width) c.self.view_is
+    ∙ ap (λ f. old ++ bar_text texts colours numbers f c.args.width) c.fraction.ensures.fraction
+    ∙ ap (λ (s : BarStyle g.row.K.Denot). old ++ bar_text s.clusters s.colours numbers (bar_fraction c.args.state.now c.args.bar) c.args.width) c.self.view_is
 
 pub returns-clause-text : goal.returns-clause-text
 returns-clause-text g c =
@@ -50,5 +50,5 @@ returns-clause-text g c =
     (grown _ _ _ (opening_of colours numbers) rest c.in_ok-some.ensures.bytes pushed)
     ∙ ap (λ t. old ++ (begun_text texts done cells ++ t)) (sym style)
     ∙ ap (λ t. old ++ t) (sym (bar_parts texts colours numbers done c.args.width cells cells_are))
-    ∙ ap (λ f. old ++ bar_text texts colours numbers f c.args.width) c.fraction.ensures
-    ∙ ap (λ (s : BarStyle g.row.K.Denot). old ++ bar_text s.clusters s.colours numbers (fraction c.args.state.now) c.args.width) c.self.view_is
+    ∙ ap (λ f. old ++ bar_text texts colours numbers f c.args.width) c.fraction.ensures.fraction
+    ∙ ap (λ (s : BarStyle g.row.K.Denot). old ++ bar_text s.clusters s.colours numbers (bar_fraction c.args.state.now c.args.bar) c.args.width) c.self.view_is
