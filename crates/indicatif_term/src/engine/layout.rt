@@ -297,11 +297,26 @@ fn lay_line(
     let Some(line) = next_beside(laid, beside.lines, own.bar, window) else {
         return lay_new(laid, spare, beside.known, own, window);
     };
-    if line.text.as_str() == own.text {
+    if is_same(line.text.as_str(), own.text) {
         go_on(laid, line.rows);
         return Ok(());
     }
     lay_changed(laid, spare, beside.lines, own, window)
+}
+
+/// Whether two texts are the same. Most lines change near their end, which is looked at first.
+#[inline(always)]
+fn is_same(a: &str, b: &str) -> bool
+    ensures { IsTrue result → a.now ≡ b.now }
+{
+    let count = a.len();
+    if count != b.len() {
+        return false;
+    }
+    if count >= 16 && a.as_bytes()[count - 16..] != b.as_bytes()[count - 16..] {
+        return false;
+    }
+    a == b
 }
 
 /// Lays out one more line in the place of the one that stands there, if it has as many rows, else below.
