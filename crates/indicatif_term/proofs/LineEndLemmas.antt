@@ -2,12 +2,8 @@
 use Rattle.std.proofs.Common.{◌≡◌, ℕ, ◌+◌, ◌<◌, true, false, List, [], ◌∷◌, ◌++◌, length, map, take, replicate, get_or, refl, sym, ◌∙◌, ap, arith, append-nil, length-append, Option, Some, None, Bool, Bor, Result, Ok, Err, chars, subst}
 use Rattle.std.proofs.lemmas.Str.{chars-nil}
 use Rattle.indicatif_text.specs.Columns.{last_columns, visible, rows_of}
-use Rattle.indicatif_text.specs.declared.columns.Metrics.{Metrics}
-use Rattle.indicatif_text.specs.declared.refusal.Refusal.{Refusal}
 use Rattle.std.specs.Prelude.{option_map, unwrap_or, fold}
 use Rattle.std.proofs.lemmas.List.{take_more, take_all, take-map, map-append, take-append-le, length-take-le, nil_from_length}
-use Rattle.indicatif_term.specs.Inside.Plans.{MeasuredLine, MeasuredText}
-use Rattle.indicatif_term.proofs.MeasureLemmas.{empty_height, empty_narrow}
 use Rattle.indicatif_term.specs.Inside.Fills.{last_of, line_end, fill_columns, line_or_none, last_or_none}
 use Rattle.indicatif_term.specs.Inside.Changing.{PlacedLine}
 use Rattle.indicatif_term.specs.Standing.{placed, texts, AreLines}
@@ -37,11 +33,6 @@ came_end w came x = ap (λ o. line_end w (line_or_none o)) (sym (ap last_of (map
 pub one_row : (w : ℕ) → length (rows_of w (chars [])) ≡ 1
 unfolding rows_of visible
 one_row w = rw chars-nil refl
-
--- an empty text is one empty line
-pub empty_measured : (w : ℕ) (r : Result Metrics Refusal) → 0 < w → MeasuredLine w (chars []) r → MeasuredText w ([] ∷ []) r
-empty_measured w (Ok m) p h = (empty_narrow w, h.1 ∙ one_row w ∙ omega (arith, empty_height w), h.2)
-empty_measured w (Err e) p h = h
 
 -- ---- the last line of a drawing
 

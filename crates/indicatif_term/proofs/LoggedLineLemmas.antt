@@ -12,13 +12,9 @@ use Rattle.std.proofs.lemmas.Bool.{cond_both, cases_lt}
 use Rattle.std.proofs.lemmas.Bool.Decides.{nat_tests}
 use Rattle.indicatif_term.specs.Lines.{logged_lines}
 
-pub logged_some : (text : List ℕ) → (length text == 0) ≡ false → logged_lines text ≡ lines text
-logged_some [] e = cc
+pub logged_some : (text : List ℕ) → 0 < length text → logged_lines text ≡ lines text
+logged_some [] e = absurd (omega arith)
 logged_some (b ∷ text) e = refl
-
-pub logged_none : (text : List ℕ) → (length text == 0) ≡ true → logged_lines text ≡ [] ∷ []
-logged_none [] e = refl
-logged_none (b ∷ text) e = absurd (grind (arith, nat_tests))
 
 -- ---- at least one line
 

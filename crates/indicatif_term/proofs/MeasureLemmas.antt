@@ -60,10 +60,6 @@ text_refused w text came x rest e r q whole m =
     rw q (withheld_by w (chars x.now ∷ []) (text_lines text) e (λ t. ap (some_wide w) lines ∙ wide_among w (text_lines (map (λ line. line.now) came)) (chars x.now) (text_lines rest) t) m)
 
 -- an empty text
-pub empty_height : (w : ℕ) → text_height w (text_lines ([] ∷ [])) ≡ 1
-unfolding rows_of visible
-empty_height w = rw chars-nil refl
-
 pub empty_narrow : (w : ℕ) → some_wide w (text_lines ([] ∷ [])) ≡ false
 unfolding has_wide visible
 empty_narrow w = rw chars-nil refl

@@ -191,7 +191,7 @@ parted_last w k n old new t =
     let none : columns_in (let empty : List Glyph = [] in empty) ≡ 0 = refl in
     ap (λ g. columns_of_last (pieces_of w g)) glyphs ∙ ap columns_of_last (one_piece w [] gs (omega (arith, columns, none, t.room, t.few_news))) ∙ columns
 
-ones_fit : (w : ℕ) (cs : List ℕ) → AllByRecursion IsOne cs → length cs ≤ w → list_any (λ c. nat_lt w (width_of c)) cs ≡ false
+pub ones_fit : (w : ℕ) (cs : List ℕ) → AllByRecursion IsOne cs → length cs ≤ w → list_any (λ c. nat_lt w (width_of c)) cs ≡ false
 ones_fit w [] all few = refl
 ones_fit w (c ∷ cs) all few =
     let fits : nat_lt w (width_of c) ≡ false = ap (nat_lt w) all.0 ∙ le-ltb w 1 (omega arith) in

@@ -1,9 +1,10 @@
 -- What two texts begin with alike, and printable ASCII.
 use Rattle.std.proofs.Common.{◌≡◌, ℕ, ◌+◌, ◌-◌, ◌<◌, ◌≤◌, Bool, false, List, [], ◌∷◌, ◌++◌, length, get_or, take, drop, chars, refl, sym, ◌∙◌, ap, subst, arith}
-use Rattle.std.specs.Prelude.{◌==◌, All}
+use Rattle.std.specs.Prelude.{◌==◌, ◌||◌, All}
 use Rattle.std.specs.Int.{IsInRange}
 use Rattle.std.specs.List.{AllByRecursion, list_any}
 use Rattle.std.specs.Str.{IsAscii}
+use Rattle.std.proofs.Math.Bool.{or-false}
 use Rattle.std.proofs.Math.Seq.{take-add}
 use Rattle.std.proofs.lemmas.Bool.{or_parts}
 use Rattle.std.proofs.lemmas.List.{length-drop, length-take-le, take-take, take_all, take_more}
@@ -17,7 +18,7 @@ use Rattle.indicatif_term.specs.Inside.Rests.{AreShared}
 
 -- ---- the same bytes
 
-abbrev has_escape : List ℕ → Bool
+abbrev pub has_escape : List ℕ → Bool
 has_escape bs = list_any (λ b. b == 0x1B) bs
 
 pub shared_none : (a b : List ℕ) → AreShared 0 a b
@@ -57,11 +58,16 @@ shared_block n a b x y xa yb fits fits' s =
       plain = ap has_escape (sym xa ∙ sym all) ∙ s.plain;
     }
 
--- of a text of which the last byte isn't looked at
-pub shared_front : (n m : ℕ) (a b : List ℕ) → m ≤ length b → AreShared n a (take m b) → AreShared n a b
-shared_front n m a b fits s =
-    let few : n ≤ m = omega (arith, s.other, length-take-le m b fits) in
-    record { own = s.own; other = omega (arith, few, fits); same = s.same ∙ take-take n m b few; plain = s.plain }
+-- of the fronts of two texts
+pub shared_front : (n m : ℕ) (a b : List ℕ) → m ≤ length a → m ≤ length b → AreShared n (take m a) (take m b) → AreShared n a b
+shared_front n m a b fits fits' s =
+    let few : n ≤ m = omega (arith, s.other, length-take-le m b fits') in
+    record {
+      own = omega (arith, few, fits);
+      other = omega (arith, few, fits');
+      same = sym (take-take n m a few) ∙ s.same ∙ take-take n m b few;
+      plain = ap has_escape (sym (take-take n m a few)) ∙ s.plain;
+    }
 
 -- one more byte
 pub shared_next : (n : ℕ) (a b : List ℕ) → AreShared n a b → n < length a → n < length b → get_or a n 0 ≡ get_or b n 0 → (get_or a n 0 == 0x1B) ≡ false → AreShared (n + 1) a b
@@ -71,6 +77,13 @@ shared_next n a b s within within' same plain = record {
   same = take_more a n 0 within ∙ ap (λ x. x ++ get_or a n 0 ∷ []) s.same ∙ ap (λ x. take n b ++ x ∷ []) same ∙ sym (take_more b n 0 within');
   plain = ap has_escape (take_more a n 0 within) ∙ list_any-append (λ b. b == 0x1B) (take n a) (get_or a n 0 ∷ []) ∙ rw (s.plain, plain) refl;
 }
+
+-- an escape character up to one more byte
+pub escape_next : (bs : List ℕ) (i : ℕ) (found : Bool) → i < length bs → found ≡ has_escape (take i bs) → (found || (get_or bs i 0 == 0x1B)) ≡ has_escape (take (i + 1) bs)
+escape_next bs i found within e =
+    let x = get_or bs i 0 in
+    ap (λ b. b || (x == 0x1B)) e
+    ∙ sym (ap has_escape (take_more bs i 0 within) ∙ list_any-append (λ b. b == 0x1B) (take i bs) (x ∷ []) ∙ ap (λ b. has_escape (take i bs) || b) (or-false (x == 0x1B)))
 
 -- ---- printable ASCII
 

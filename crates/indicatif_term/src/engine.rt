@@ -21,6 +21,7 @@
 //!
 //! - `layout`: a frame beside the lines that stand, in one pass (`Laid`): which of these stay, which new ones come in their place, which are
 //!   written below; and how many rows all take (`Plan`).
+//! - `logged`: the text that is logged above them (`Logged`).
 //! - `beside`: the lines that stand there (`Beside`), blank ones above a frame, and the room that is left for it (`Room`);
 //!   new lines (`NewLine`) in the place of those that stand.
 //! - `comparing`: what becomes of one line where another text comes in its place (`Turn`, `Step`): from the byte on where both part, how many
@@ -49,6 +50,7 @@ pub(crate) mod comparing;
 pub(crate) mod counts;
 pub(crate) mod inks;
 pub(crate) mod layout;
+pub(crate) mod logged;
 pub(crate) mod recutting;
 pub(crate) mod remembered;
 pub(crate) mod row_edits;
@@ -58,8 +60,8 @@ pub(crate) mod writing;
 use crate::engine::beside::{Room, height_of, last_column, lines_within};
 use crate::engine::changing::{are_even, fill_behind};
 use crate::engine::counts::{Counts, Fresh, Keep};
-use crate::engine::inks::leaves_open;
-use crate::engine::layout::{Asked, Laid, metrics_of_text, plan_drawing, run_of};
+use crate::engine::layout::{Asked, Laid, plan_drawing, run_of};
+use crate::engine::logged::Logged;
 use crate::engine::recutting::{CutLines, Widths};
 use crate::engine::remembered::{Remembered, Span, StandingLine};
 use crate::engine::spare::Spare;
@@ -133,7 +135,7 @@ impl<T: TermLike + Drop> Engine<T> {
     ghost use Rattle.indicatif_term.specs.Calls.{TermView};
     ghost use Rattle.indicatif_term.specs.Inside.MoveBytes.{Sends};
     ghost use Rattle.indicatif_term.specs.Lines.{bar_lines, all_lines, are_plain, logged_lines, text_lines, is_fault};
-    ghost use Rattle.indicatif_term.specs.Inside.Plans.{frame_lines, text_above};
+    ghost use Rattle.indicatif_term.specs.Inside.Plans.{frame_lines, logged_text};
     ghost use Rattle.indicatif_term.specs.Engines.{engine_moves, engine_term, Fits, is_failure, Answers, Counted, Paints, lists_after};
     ghost use Rattle.indicatif_term.specs.Inside.Remembered.{DrawWrites, Remembers, IsNext, IsNothing};
     ghost use Rattle.indicatif_term.specs.Inside.Layouts.{ArePut, CanPut};
@@ -290,7 +292,7 @@ impl<T: TermLike + Drop> Engine<T> {
         }
         let from = self.store(next, above, &mut laid, width)?;
         let writing = before.writing(fresh, &next, self.shown.behind(from), width);
-        self.write(&writing, None, from)
+        self.write(&writing, Logged::Nothing, from)
     }
 
     /// Writes the lines of the text, which stay, in the place of the kept and the live rows, and draws the frame below
@@ -325,7 +327,8 @@ impl<T: TermLike + Drop> Engine<T> {
             (text_lines (logged_lines text.now)) (map bar_lines frame.now) l)) }
     {
         let window = Window::of(&self.term)?;
-        let metrics = metrics_of_text(text, window)?;
+        let logged = Logged::of(text, window);
+        let metrics = logged.metrics(window)?;
         let old = self.counts;
         let anew = self.failed;
         let taken = old.kept + old.live;
@@ -355,7 +358,7 @@ impl<T: TermLike + Drop> Engine<T> {
             ends_below: next.below,
             fill: next.fill(Some(last), window.columns),
         };
-        self.write(&writing, Some(text), from)
+        self.write(&writing, logged, from)
     }
 
     /// Takes back the kept and the live rows. Takes no memory.
@@ -387,7 +390,7 @@ impl<T: TermLike + Drop> Engine<T> {
         };
         let forgotten = Remembered::nothing(self.alloc);
         self.remember(next, forgotten);
-        self.write(&writing, None, 0)
+        self.write(&writing, Logged::Nothing, 0)
     }
 
     /// The rows of a bar that is gone become kept rows, with the blank rows above them, if they are the first live ones of a
@@ -460,21 +463,21 @@ impl<T: TermLike + Drop> Engine<T> {
     }
 
     /// Writes this text, and the remembered lines behind the first `from`.
-    fn write(&mut self, writing: &Writing, text: Option<&str>, from: usize) -> Result<(), Refusal>
+    fn write(&mut self, writing: &Writing, logged: Logged<'_>, from: usize) -> Result<(), Refusal>
         requires sound { self.old.failed ≡ false }
         requires within { from ≤ length self.old.shown.lines }
         requires can { CanWrite writing.now.manner (drop from self.old.shown.lines) }
-        ensures draws { DrawWrites (writing_bytes writing.now (text_above text.entry) (drop from self.old.shown.lines))
+        ensures draws { DrawWrites (writing_bytes writing.now (logged_text logged.entry) (drop from self.old.shown.lines))
             (T.view (engine_term self.old)) (T.view (engine_term self.new)) result }
         ensures remembers { Remembers self.old.counts self.old.shown result self.new }
         ensures moves { engine_moves self.new ≡ engine_moves self.old }
     {
         let drawing = Drawing {
-            text,
+            logged,
             lines: self.shown.behind(from),
         };
         let written = write(&mut self.term, writing, &drawing);
-        self.drawings = drawings_below(self.drawings, text);
+        self.drawings = drawings_below(self.drawings, logged);
         self.ended(written)
     }
 
@@ -749,7 +752,7 @@ impl Before {
 /// colours open, which it does only in a whole drawing, they are those of the lines below it, too, so the next drawing is whole.
 fn drawings_behind(drawings: usize, laid: &Laid) -> usize {
     if laid.at == 0 {
-        return if laid.leaves_open() { MOST_DRAWINGS } else { 0 };
+        return if laid.leaves_open { MOST_DRAWINGS } else { 0 };
     }
     if laid.changed.is_empty() && laid.more.is_empty() {
         return drawings;
@@ -758,10 +761,11 @@ fn drawings_behind(drawings: usize, laid: &Laid) -> usize {
 }
 
 /// The same behind a text that was written above the lines.
-fn drawings_below(drawings: usize, text: Option<&str>) -> usize {
-    match text {
-        Some(text) if leaves_open(text) => MOST_DRAWINGS,
-        _ => drawings,
+fn drawings_below(drawings: usize, logged: Logged<'_>) -> usize {
+    if logged.leaves_open() {
+        MOST_DRAWINGS
+    } else {
+        drawings
     }
 }
 

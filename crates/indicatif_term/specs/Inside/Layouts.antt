@@ -1,22 +1,23 @@
 -- A frame laid out beside the lines that stand.
-use Rattle.std.specs.Prelude.{◌≡◌, ℕ, ◌+◌, ◌-◌, ◌<◌, ◌≤◌, max, false, Bool, IsTrue, IsFalse, List, [], ◌∷◌, ◌++◌, chars, map, length, take, drop, get_or, replicate, Result, MatchResult}
+use Rattle.std.specs.Prelude.{◌≡◌, ℕ, ◌+◌, ◌-◌, ◌<◌, ◌≤◌, max, false, Bool, IsTrue, IsFalse, List, [], ◌∷◌, ◌++◌, chars, map, length, take, drop, get_or, replicate, string_bytes, Result, MatchResult}
 use Rattle.std.specs.List.{AllByRecursion}
 use Rattle.indicatif_text.specs.Columns.{Cell, has_wide, rows_of, last_columns}
 use Rattle.indicatif_text.specs.declared.refusal.Refusal.{Refusal}
 use Rattle.indicatif_term.specs.Lists.{BarRows, lines_of, blanks_for}
 use Rattle.indicatif_term.specs.Shows.{looks_of}
 use Rattle.indicatif_term.specs.Counts.{RowCount, line_counts}
-use Rattle.indicatif_term.specs.Lines.{bar_lines, all_lines, some_wide}
+use Rattle.indicatif_term.specs.Lines.{bar_lines, all_lines, line_text, some_wide}
 use Rattle.indicatif_term.specs.Remembered.{live_lines}
 use Rattle.indicatif_term.specs.Inside.Inks.{IsRead}
 use Rattle.indicatif_term.specs.Inside.Owned.{blank_count, no_plan}
 use Rattle.indicatif_term.specs.Inside.Changing.{AreSitting}
-use Rattle.indicatif_term.specs.Inside.Plans.{IsPlan, IsSummed, IsLaidOut, IsWithheld, frame_lines}
+use Rattle.indicatif_term.specs.Inside.Plans.{IsPlan, IsSummed, IsLaidOut, IsWithheld, frame_lines, passing_of}
 use Rattle.indicatif_term.specs.Inside.Renewed.{AreFitting, renewed}
 use Rattle.indicatif_term.specs.Standing.{placed, texts, standing_rows, AreLines, AreReady}
 use Rattle.indicatif_term.specs.declared.engine.comparing.Turn.{Turn}
 use Rattle.indicatif_term.specs.declared.engine.layout.Laid.{Laid}
 use Rattle.indicatif_term.specs.declared.engine.layout.OwnLine.{OwnLine}
+use Rattle.indicatif_term.specs.declared.target.lines.LineType.{LineType}
 use Rattle.indicatif_term.specs.declared.target.lines.Segment.{Segment}
 use Rattle.indicatif_term.specs.declared.engine.comparing.Step.TheVariants.{Whole}
 use Rattle.indicatif_term.specs.declared.engine.remembered.Remembered.{Remembered}
@@ -93,6 +94,19 @@ LaidOn w h on texts lines bars old new result = MatchResult result (λ _. IsLaid
 abbrev pub LineLaidOn : ℕ → ℕ → List StandingLine → OwnLine → Laid → Laid → Result Unit Refusal → Type 0
 LineLaidOn w h on own old new result =
     LaidOn w h on (own.text.now ∷ []) (chars own.text.now ∷ []) (record { bar = own.bar; rows = rows_of w (chars own.text.now) } ∷ []) old new result
+
+-- the first i members of a frame laid out, with the first `pass` dropped
+pub record FrontLaid (w h pass : ℕ) (on : List StandingLine) (frame : List Segment) (i : ℕ) (l : Laid) : Type 0 where
+  pub summed : IsSummed h l.plan
+  pub narrow : IsFalse (some_wide w (all_lines (map bar_lines (take i frame))))
+  pub passing : l.plan.passing ≡ passing_of w h pass i frame
+  pub laid : IsLaid w h on (frame_lines (take i frame)) (lines_of w (map bar_lines (take i frame))) l
+
+-- a line has the text of the only line of a member
+pub record IsOnlyLine (s : Segment) (x : StandingLine) : Type 0 where
+  pub line : LineType
+  pub lines_are : s.lines.items ≡ line ∷ []
+  pub text_is : string_bytes x.text ≡ line_text line
 
 -- a frame laid out, with the first `pass` members dropped
 pub record IsFrameLaid (w h pass : ℕ) (on : List StandingLine) (frame : List Segment) (l : Laid) : Type 0 where

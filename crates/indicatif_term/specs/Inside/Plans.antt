@@ -1,16 +1,19 @@
 -- How a frame is counted before it is written.
-use Rattle.std.specs.Prelude.{◌≡◌, ℕ, ◌-◌, ◌≤◌, ◌^◌, min, true, false, IsFalse, List, [], ◌∷◌, ◌++◌, map, length, flat_map, sum_by, take, Option, Some, None, Result, MatchResult}
-use Rattle.std.specs.Borrow.{Bor}
+use Rattle.std.specs.Prelude.{◌≡◌, ℕ, ◌-◌, ◌≤◌, ◌^◌, min, true, false, IsFalse, List, [], ◌∷◌, ◌++◌, map, length, flat_map, sum_by, take, All, Result, MatchResult}
+use Rattle.std.specs.Int.{IsInRange}
+use Rattle.std.specs.Str.Lines.{lines}
 use Rattle.indicatif_text.specs.Columns.{has_wide, rows_of, last_columns}
 use Rattle.indicatif_text.specs.declared.columns.Metrics.{Metrics}
 use Rattle.indicatif_text.specs.declared.refusal.Refusal.{Refusal}
 use Rattle.indicatif_term.specs.Lists.{BarLines, BarRows, shown_rows, fitting, lines_of, segments_height}
-use Rattle.indicatif_term.specs.Lines.{line_text, bar_lines, text_lines, logged_lines, some_wide, RefusesLines, is_fault}
+use Rattle.indicatif_term.specs.Lines.{line_text, bar_lines, text_lines, some_wide, RefusesLines, is_fault}
 use Rattle.indicatif_term.specs.Counts.{RowCount, row_count}
 use Rattle.indicatif_term.specs.Inside.Owned.{through}
 use Rattle.indicatif_term.specs.Inside.Fills.{line_end, last_or_none}
 use Rattle.indicatif_term.specs.declared.target.lines.Segment.{Segment}
 use Rattle.indicatif_term.specs.declared.engine.layout.Plan.{Plan}
+use Rattle.indicatif_term.specs.declared.engine.logged.Logged.{Logged}
+use Rattle.indicatif_term.specs.declared.engine.logged.Logged.TheVariants.{Nothing, Row, Lines}
 
 -- ---- what a draw writes
 
@@ -19,9 +22,21 @@ abbrev pub frame_lines : List Segment → List (List ℕ)
 frame_lines frame = flat_map (λ (s : Segment). map line_text s.lines.items) frame
 
 -- the lines of the logged text, if any
-abbrev pub text_above : Option (Bor (List ℕ)) → List (List ℕ)
-text_above None = []
-text_above (Some text) = logged_lines text.now
+abbrev pub logged_text : Logged → List (List ℕ)
+logged_text Nothing = []
+logged_text (Row text) = text.now ∷ []
+logged_text (Lines text) = lines text.now
+
+-- printable ASCII that fits in a row
+pub record IsPlainRow (w : ℕ) (text : List ℕ) : Type 0 where
+  pub printable : All (IsInRange 0x20 0x7E) text
+  pub fits : length text ≤ w
+
+-- a logged text that is told apart as a row is one
+abbrev pub HasPlainRow : ℕ → Logged → Type 0
+HasPlainRow w Nothing = Unit {0}
+HasPlainRow w (Row text) = IsPlainRow w text.now
+HasPlainRow w (Lines text) = Unit {0}
 
 -- how many rows lines take
 abbrev pub text_height : ℕ → List (List ℕ) → ℕ

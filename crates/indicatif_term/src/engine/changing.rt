@@ -11,7 +11,7 @@ ghost use Rattle.indicatif_term.specs.Standing.{placed_of, placed, AreReady};
 
 use crate::engine::beside::height_of;
 use crate::engine::comparing::Step;
-use crate::engine::inks::{InkedText, NO_COLOURS, next_cell};
+use crate::engine::inks::{InkedText, NO_COLOURS, has_escape, next_cell};
 use crate::engine::remembered::StandingLine;
 use crate::engine::row_edits::{go_right, write_part};
 use crate::engine::writing::{Sent, empty_down, go_down, go_up, put_spaces, put_str};
@@ -172,7 +172,7 @@ fn ends_plainly(line: &str) -> bool
         return false;
     }
     let last = bytes[count - 1];
-    last >= 0x20 && last <= 0x7E && !bytes.contains(&0x1B)
+    last >= 0x20 && last <= 0x7E && !has_escape(bytes)
 }
 
 /// The last character of a line that ends plainly.

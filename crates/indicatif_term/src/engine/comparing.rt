@@ -1,5 +1,5 @@
 //! A line that stands beside the one that is to stand there: does it stay, is a part of it written, or all?
-ghost use Rattle.std.specs.Prelude.{◌≡◌, ◌≤◌, ◌-◌, ◌∷◌, ◌^◌, [], ℕ, List, All, min, length, chars, IsTrue, IfOk, IfSome, MatchResult, string_bytes};
+ghost use Rattle.std.specs.Prelude.{◌≡◌, ◌≢◌, Err, ◌≤◌, ◌-◌, ◌∷◌, ◌^◌, [], ℕ, List, All, min, length, chars, IsTrue, IsFalse, ◌<◌, IfOk, IfSome, MatchResult, string_bytes};
 ghost use Rattle.std.specs.Int.{IsInRange};
 ghost use Rattle.indicatif_text.specs.Columns.{width_of, visible};
 ghost use Rattle.indicatif_text.specs.Pieces.{TextPiece, text_piece};
@@ -9,14 +9,13 @@ ghost use Rattle.indicatif_term.specs.Inside.RowEdits.{AreSingle};
 ghost use Rattle.indicatif_term.specs.Inside.Inks.{IsRead, is_tidy};
 ghost use Rattle.indicatif_term.specs.Inside.Parting.{Parted, IsTurned};
 ghost use Rattle.indicatif_term.specs.Inside.Rests.{ArePlain};
-ghost use Rattle.indicatif_term.specs.Inside.Plans.{IsWithheld};
+ghost use Rattle.indicatif_term.specs.Inside.Plans.{IsPlainRow, IsWithheld, MeasuredLine};
 ghost use Rattle.indicatif_term.specs.Inside.Layouts.{IsSized};
 
 use crate::engine::inks::{Alike, char_count, closes, split};
-use crate::engine::layout::metrics_of;
 use crate::engine::remembered::StandingLine;
 use crate::target::window::Window;
-use indicatif_text::columns::{Piece, Refusal, pieces, width};
+use indicatif_text::columns::{Metrics, Piece, Refusal, pieces, width, wrapped};
 
 /// What is written of a line whose text parts from the one that stands there at a byte: some columns from one on, and whether the cursor is
 /// to wait behind the last of them; and how many columns the line takes then.
@@ -123,6 +122,14 @@ pub fn measure(text: &str, window: Window) -> Result<Turn, Refusal>
     ensures sized { MatchResult result (λ t. IsSized window.columns (chars text.now) t) (λ e. IsWithheld window.columns (chars text.now ∷ []) e) }
     ensures whole { IfOk result (λ t. t.step ≡ Step.Whole) }
 {
+    if is_plain_row(text, window) {
+        return Ok(Turn {
+            step: Step::Whole,
+            rows: 1,
+            last: text.len(),
+            narrow: true,
+        });
+    }
     let metrics = metrics_of(text, window)?;
     Ok(Turn {
         step: Step::Whole,
@@ -130,6 +137,14 @@ pub fn measure(text: &str, window: Window) -> Result<Turn, Refusal>
         last: metrics.last_line_width,
         narrow: false,
     })
+}
+
+/// The rows of a line, and how many columns it takes of the last one.
+pub fn metrics_of(line: &str, window: Window) -> Result<Metrics, Refusal>
+    ensures measured { MeasuredLine window.columns (chars line.now) result }
+    ensures no_memory { result ≢ Err Refusal.Memory }
+{
+    wrapped(line, window.columns)
 }
 
 /// How many columns the rest of a line that stands takes, if each visible character of the line takes one, in colours that are read right.
@@ -255,14 +270,45 @@ fn is_narrow(c: char, before: char) -> bool
     width(c) == 1
 }
 
-/// Whether all bytes are printable ASCII.
+/// Whether a text is printable ASCII, and fits in a row.
+pub fn is_plain_row(text: &str, window: Window) -> bool
+    ensures row { IsTrue result → IsPlainRow window.columns text.now }
+    ensures some { IsFalse result → 0 < length text.now }
+{
+    if text.is_empty() {
+        return true;
+    }
+    if text.len() > window.columns {
+        return false;
+    }
+    is_printable(text.as_bytes())
+}
+
+/// Whether all bytes are printable ASCII. They are looked at in blocks; the last block may begin within the one before.
+#[inline(always)]
 fn is_printable(bytes: &[u8]) -> bool
     ensures { IsTrue result → All (IsInRange 0x20 0x7E) bytes.now }
 {
-    for byte in bytes {
-        if *byte < 0x20 || *byte > 0x7E {
-            return false;
-        }
+    let count = bytes.len();
+    if count < 16 {
+        return are_printable(bytes);
     }
-    true
+    let last = count - 16;
+    let mut at: usize = 0;
+    'whole: while at < last && are_printable(&bytes[at..at + 16]) {
+        at += 16;
+    }
+    at >= last && are_printable(&bytes[last..])
+}
+
+/// The same. It looks at each byte, so that many are compared at once.
+#[inline(always)]
+fn are_printable(bytes: &[u8]) -> bool
+    ensures { IsTrue result → All (IsInRange 0x20 0x7E) bytes.now }
+{
+    let mut all = true;
+    'bytes: for byte in bytes {
+        all = all & (*byte >= 0x20) & (*byte <= 0x7E);
+    }
+    all
 }

@@ -1,5 +1,6 @@
 //! A text read cell by cell, with the colour sequences that are open at each; and what two texts begin with alike.
-ghost use Rattle.std.specs.Prelude.{◌≡◌, ◌≤◌, ◌-◌, ◌∷◌, suc, ℕ, [], IsTrue, IsCharBoundary, None, drop, length, chars, if◌then◌else◌};
+ghost use Rattle.std.specs.Prelude.{◌≡◌, ◌==◌, ◌≤◌, ◌-◌, ◌∷◌, suc, ℕ, [], IsTrue, IsCharBoundary, None, drop, length, chars, if◌then◌else◌};
+ghost use Rattle.std.specs.List.{list_any};
 ghost use Rattle.indicatif_text.specs.Columns.{colour_length};
 ghost use Rattle.indicatif_term.specs.Inside.Inks.{NONE, closes, same_ink, in_ink, padded, read};
 ghost use Rattle.indicatif_term.specs.Inside.Rests.{ArePlain, AreShared, ink_of, cells};
@@ -107,11 +108,7 @@ pub fn closes(sequence: &str) -> bool
 /// Whether a text leaves colours open: whether its last escape character begins another sequence than the one that closes all.
 pub fn leaves_open(text: &str) -> bool {
     let bytes = text.as_bytes();
-    let mut at = if bytes.contains(&0x1B) {
-        bytes.len()
-    } else {
-        0
-    };
+    let mut at = if has_escape(bytes) { bytes.len() } else { 0 };
     'bytes: while at > 0 {
         at -= 1;
         if bytes[at] == 0x1B {
@@ -119,6 +116,18 @@ pub fn leaves_open(text: &str) -> bool {
         }
     }
     false
+}
+
+/// Whether there is an escape character. It looks at each byte, so that many are compared at once.
+#[inline(always)]
+pub fn has_escape(bytes: &[u8]) -> bool
+    ensures { result ≡ list_any (λ b. b == 0x1B) bytes.now }
+{
+    let mut found = false;
+    'bytes: for byte in bytes {
+        found = found | (*byte == 0x1B);
+    }
+    found
 }
 
 /// What two texts begin with, without an escape character, and what follows in each.
@@ -144,9 +153,10 @@ fn shared(old: &str, new: &str) -> usize
     ensures boundary { IsCharBoundary old.now result }
     ensures same { AreShared result old.now new.now }
 {
+    let olds = old.as_bytes();
     let news = new.as_bytes();
-    let most = news.len().saturating_sub(1);
-    old.floor_char_boundary(shared_bytes(old.as_bytes(), &news[..most]))
+    let most = olds.len().min(news.len().saturating_sub(1));
+    old.floor_char_boundary(shared_bytes(&olds[..most], &news[..most]))
 }
 
 /// How many bytes two texts begin with alike, up to the first escape character.

@@ -1,11 +1,11 @@
 //! A frame laid out beside the lines that stand: which of these stay, which new ones come in their place, and which are written below them.
 ghost use Rattle.std.specs.Prelude.{◌≡◌, ◌≢◌, IsTrue, Err, ◌==◌, ◌<◌, ◌≤◌, ◌+◌, ◌-◌, ◌^◌, ◌∷◌, [], min, map, length, take, chars, get_or, List, IfOk, IfSome, MatchResult, false, if◌then◌else◌};
 ghost use Rattle.indicatif_term.specs.Lists.{lines_of};
-ghost use Rattle.indicatif_term.specs.Lines.{bar_lines, line_text, all_lines, logged_lines};
+ghost use Rattle.indicatif_term.specs.Lines.{bar_lines, line_text, all_lines};
 ghost use Rattle.indicatif_term.specs.Standing.{placed, AreLines};
 ghost use Rattle.indicatif_term.specs.Inside.Changing.{placed_height};
-ghost use Rattle.indicatif_term.specs.Inside.Plans.{IsSummed, IsWithheld, MeasuredLine, MeasuredText};
-ghost use Rattle.indicatif_term.specs.Inside.Layouts.{IsSized, IsBeside, AreBlank, AreBlanksFor, own_lines, LaidOn, LineLaidOn, IsNoneLaid, IsFrameLaid, FrameLaid, PlannedFor};
+ghost use Rattle.indicatif_term.specs.Inside.Plans.{IsSummed, IsWithheld};
+ghost use Rattle.indicatif_term.specs.Inside.Layouts.{IsSized, IsBeside, AreBlank, AreBlanksFor, own_lines, FrontLaid, IsOnlyLine, LaidOn, LineLaidOn, IsNoneLaid, IsFrameLaid, FrameLaid, PlannedFor};
 ghost use Rattle.indicatif_term.specs.Counts.{line_counts};
 ghost use Rattle.indicatif_term.specs.Inside.Owned.{run_length, through, kept_below, no_plan};
 
@@ -15,9 +15,9 @@ use crate::engine::counts::blanks_of;
 use crate::engine::inks::leaves_open;
 use crate::engine::remembered::{Remembered, StandingLine};
 use crate::engine::spare::Spare;
-use crate::target::lines::Segment;
+use crate::target::lines::{LineType, Segment};
 use crate::target::window::Window;
-use indicatif_text::columns::{Metrics, Refusal, wrapped};
+use indicatif_text::columns::Refusal;
 use std::convert::AsStr;
 
 /// What a frame shows: how many lines and rows of which bars.
@@ -69,28 +69,8 @@ pub struct Laid {
     pub at: usize,
     pub changed: Vec<NewLine>,
     pub more: Vec<StandingLine>,
-}
-
-impl Laid {
     /// Whether a new line leaves colours open.
-    pub fn leaves_open(&self) -> bool {
-        for line in &self.changed {
-            if !line.turn.narrow && leaves_open(&line.text) {
-                return true;
-            }
-        }
-        some_open(&self.more)
-    }
-}
-
-/// Whether some of these lines leaves colours open.
-fn some_open(lines: &[StandingLine]) -> bool {
-    for line in lines {
-        if !line.narrow && leaves_open(&line.text) {
-            return true;
-        }
-    }
-    false
+    pub leaves_open: bool,
 }
 
 /// What a drawing has to show: bars, of which the first `pass` are dropped, in the place of what stands.
@@ -150,7 +130,7 @@ fn lay_out(
 {
     lay_frame(spare, laid, beside, asked, window)?;
     let blanks = blanks_of(asked.bottom, asked.taken, laid.plan.rows);
-    if laid.blanks == blanks && !laid.leaves_open() {
+    if laid.blanks == blanks && !laid.leaves_open {
         return Ok(());
     }
     beside_nothing(spare, laid, asked, window)?;
@@ -195,16 +175,77 @@ fn lay_frame(
     laid.blanks = beside.blanks;
     laid.at = beside.blanks;
     let frame = asked.frame;
-    for at in 0..frame.len() {
+    let mut at: usize = 0;
+    'members: while at < frame.len() {
         lay_member(laid, spare, beside, &frame[at], window)?;
-        if at < asked.pass {
-            laid.plan.passing = laid.plan.lines;
-        }
+        laid.plan.passing = passing_behind(&laid.plan, at < asked.pass);
+        at = pass_standing(laid, beside.lines, asked, at + 1, window);
     }
     let passing = through_run(laid, beside.lines);
     laid.plan.passing_rows = height_passing(laid, beside.lines, passing);
     laid.plan.passing = passing;
     Ok(())
+}
+
+/// How many lines of members to be dropped there are so far, behind one that is to be dropped, or isn't.
+#[inline(always)]
+fn passing_behind(plan: &Plan, drops: bool) -> usize
+    ensures { result ≡ (if drops then plan.now.lines else plan.now.passing) }
+{
+    if drops { plan.lines } else { plan.passing }
+}
+
+/// Passes the members of one line that stand as they are, from one on, behind those to be dropped. Returns the index of the first that doesn't.
+#[inline(never)]
+fn pass_standing(
+    laid: &mut Laid,
+    standing: &[StandingLine],
+    asked: &Asked<'_>,
+    from: usize,
+    window: Window,
+) -> usize
+    requires standing { AreLines window.columns standing.now }
+    requires within { from ≤ length asked.now.frame.now }
+    requires front { FrontLaid window.columns window.rows asked.now.pass standing.now asked.now.frame.now from laid.old }
+    ensures within { (from ≤ result) × (result ≤ length asked.now.frame.now) }
+    ensures front { FrontLaid window.columns window.rows asked.now.pass standing.now asked.now.frame.now result laid.new }
+    ensures blanks { laid.new.blanks ≡ laid.old.blanks }
+{
+    if from < asked.pass {
+        return from;
+    }
+    let frame = asked.frame;
+    for at in from..frame.len() {
+        match line_as_it_is(laid, standing, &frame[at], window) {
+            Some(line) => go_on(laid, line.rows),
+            None => return at,
+        }
+    }
+    frame.len()
+}
+
+/// The line that stands where a member's line is to stand, if the member has just that line, and it stands as it is.
+#[inline(always)]
+fn line_as_it_is<'a>(
+    laid: &Laid,
+    standing: &'a [StandingLine],
+    member: &Segment,
+    window: Window,
+) -> Option<&'a StandingLine>
+    requires { IsSummed window.rows laid.now.plan }
+    ensures { IfSome result (λ line. IsBeside window.rows standing.now laid.now member.now.bar line.now × IsOnlyLine member.now line.now) }
+{
+    let lines: &[LineType] = &member.lines;
+    if lines.len() != 1 {
+        return None;
+    }
+    let Some(line) = next_beside(laid, standing, member.bar, window) else {
+        return None;
+    };
+    if line.text.as_str() == lines[0].as_str() {
+        return Some(line);
+    }
+    None
 }
 
 /// Lays out the lines of one member of the frame.
@@ -256,11 +297,26 @@ fn lay_line(
     let Some(line) = next_beside(laid, beside.lines, own.bar, window) else {
         return lay_new(laid, spare, beside.known, own, window);
     };
-    if line.text.as_str() == own.text {
+    if is_same(line.text.as_str(), own.text) {
         go_on(laid, line.rows);
         return Ok(());
     }
     lay_changed(laid, spare, beside.lines, own, window)
+}
+
+/// Whether two texts are the same. Most lines change near their end, which is looked at first.
+#[inline(always)]
+fn is_same(a: &str, b: &str) -> bool
+    ensures { IsTrue result → a.now ≡ b.now }
+{
+    let count = a.len();
+    if count != b.len() {
+        return false;
+    }
+    if count >= 16 && a.as_bytes()[count - 16..] != b.as_bytes()[count - 16..] {
+        return false;
+    }
+    a == b
 }
 
 /// Lays out one more line in the place of the one that stands there, if it has as many rows, else below.
@@ -291,6 +347,7 @@ fn lay_changed(
         turn,
     };
     laid.changed.push(new)?;
+    laid.leaves_open = laid.leaves_open | is_left_open(own.text, turn.narrow);
     go_on(laid, turn.rows);
     Ok(())
 }
@@ -339,6 +396,7 @@ fn measure_beside(
 
 /// The line that stands where the next one of this bar is to stand, if it is of the same bar, its rows fit, and all lines before it keep their
 /// rows.
+#[inline(always)]
 fn next_beside<'a>(
     laid: &Laid,
     standing: &'a [StandingLine],
@@ -397,9 +455,15 @@ fn lay_below(
         narrow: turn.narrow,
         step: Step::Whole,
     })?;
+    laid.leaves_open = laid.leaves_open | is_left_open(own.text, turn.narrow);
     laid.plan.rows += turn.rows;
     laid.plan.lines += 1;
     Ok(())
+}
+
+/// Whether a line of this text leaves colours open. One that is known to be narrow leaves none.
+fn is_left_open(text: &str, narrow: bool) -> bool {
+    !narrow && leaves_open(text)
 }
 
 /// The line at this place of those of the frame.
@@ -461,34 +525,4 @@ pub fn run_of(lines: &[StandingLine], bar: u64) -> usize
         }
     }
     lines.len()
-}
-
-/// The rows of a line, and how many columns it takes of the last one.
-pub fn metrics_of(line: &str, window: Window) -> Result<Metrics, Refusal>
-    ensures measured { MeasuredLine window.columns (chars line.now) result }
-    ensures no_memory { result ≢ Err Refusal.Memory }
-{
-    wrapped(line, window.columns)
-}
-
-/// The rows of the lines of a logged text, or 2^64 - 1 if there are more, and how many columns the last line takes of its last row.
-pub fn metrics_of_text(text: &str, window: Window) -> Result<Metrics, Refusal>
-    ensures measured { MeasuredText window.columns (logged_lines text.now) result }
-    ensures no_memory { result ≢ Err Refusal.Memory }
-{
-    if text.is_empty() {
-        return metrics_of("", window);
-    }
-    let mut all = Metrics {
-        height: 0,
-        last_line_width: 0,
-    };
-    for line in text.lines() {
-        let metrics = metrics_of(line, window)?;
-        all = Metrics {
-            height: all.height.saturating_add(metrics.height),
-            last_line_width: metrics.last_line_width,
-        };
-    }
-    Ok(all)
 }

@@ -57,6 +57,7 @@ impl Spare {
             at: 0,
             changed: replace(&mut self.changed, Vec::new(self.alloc)),
             more: replace(&mut self.lines, Vec::new(self.alloc)),
+            leaves_open: false,
         };
         laid.changed.clear();
         laid.more.clear();
@@ -95,6 +96,7 @@ impl Spare {
         laid.plan = Plan::none();
         laid.blanks = 0;
         laid.at = 0;
+        laid.leaves_open = false;
         self.store_new(&mut laid.changed);
         self.store_behind(&mut laid.more, 0);
     }

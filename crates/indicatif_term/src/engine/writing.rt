@@ -4,10 +4,11 @@ ghost use Rattle.indicatif_term.specs.Calls.{TermView, Writes, UP, DOWN, move_by
 ghost use Rattle.indicatif_term.specs.Inside.MoveBytes.{rows_down, reach_bytes, back_bytes, next_row, Puts, Sends};
 ghost use Rattle.indicatif_term.specs.Inside.Writings.{CanWrite, is_inside, is_at_end, lower_lines, begin_bytes, inside_bytes, lower_bytes, writing_bytes};
 ghost use Rattle.indicatif_term.specs.Standing.{texts};
-ghost use Rattle.indicatif_term.specs.Inside.Plans.{text_above};
+ghost use Rattle.indicatif_term.specs.Inside.Plans.{logged_text};
 
 use crate::engine::changing::{put_among, put_over};
 use crate::engine::counts::Fresh;
+use crate::engine::logged::Logged;
 use crate::engine::remembered::StandingLine;
 use crate::target::term_like::TermLike;
 use std::io;
@@ -19,8 +20,7 @@ pub type Sent = Result<(), ErrorKind>;
 /// What a drawing writes: a text that stays, and lines.
 #[derive(Clone, Copy)]
 pub struct Drawing<'a> {
-    /// The text that is logged, if any is.
-    pub text: Option<&'a str>,
+    pub logged: Logged<'a>,
     pub lines: &'a [StandingLine],
 }
 
@@ -89,7 +89,7 @@ impl Manner {
 /// goes below them, if asked, or fills the row.
 pub fn write<T: TermLike>(term: &mut T, writing: &Writing, drawing: &Drawing<'_>) -> Sent
     requires { CanWrite writing.now.manner drawing.now.lines.now }
-    ensures { Sends (writing_bytes writing.now (text_above drawing.now.text) drawing.now.lines.now) (T.view term.old) (T.view term.new) result }
+    ensures { Sends (writing_bytes writing.now (logged_text drawing.now.logged) drawing.now.lines.now) (T.view term.old) (T.view term.new) result }
 {
     begin(term, writing)?;
     let lines = drawing.lines;
@@ -122,27 +122,25 @@ fn begin_anew<T: TermLike>(term: &mut T, anew: bool) -> Sent
 /// Writes a text and the lines below all others; then it goes below them, if asked, or fills the row.
 fn put_rest<T: TermLike>(term: &mut T, writing: &Writing, drawing: &Drawing<'_>) -> Sent
     requires { CanWrite writing.now.manner drawing.now.lines.now }
-    ensures { Sends (lower_bytes writing.now (text_above drawing.now.text) drawing.now.lines.now) (T.view term.old) (T.view term.new) result }
+    ensures { Sends (lower_bytes writing.now (logged_text drawing.now.logged) drawing.now.lines.now) (T.view term.old) (T.view term.new) result }
 {
     let mut ended = writing.is_at_end();
-    put_text(term, &mut ended, drawing.text)?;
+    put_text(term, &mut ended, drawing.logged)?;
     put_lines(term, &mut ended, writing.manner.lower(drawing.lines))?;
     new_row(term, writing.ends_below & ended)?;
     put_spaces(term, writing.fill)?;
     told(term.flush())
 }
 
-/// Writes each line of the text that is logged, if any is, on a row of its own; an empty text is one empty line.
-fn put_text<T: TermLike>(term: &mut T, ended: &mut bool, text: Option<&str>) -> Sent
-    ensures { Puts ended.old (text_above text.entry) ended.new (T.view term.old) (T.view term.new) result }
+/// Writes each line of the text that is logged, if any is, on a row of its own.
+fn put_text<T: TermLike>(term: &mut T, ended: &mut bool, logged: Logged<'_>) -> Sent
+    ensures { Puts ended.old (logged_text logged.entry) ended.new (T.view term.old) (T.view term.new) result }
 {
-    let text = match text {
-        Some(text) => text,
-        None => return Ok(()),
+    let text = match logged {
+        Logged::Nothing => return Ok(()),
+        Logged::Row(text) => return put(term, ended, text),
+        Logged::Lines(text) => text,
     };
-    if text.is_empty() {
-        return put(term, ended, "");
-    }
     for line in text.lines() {
         put(term, ended, line)?;
     }

@@ -73,10 +73,10 @@ impl<W: Write> Term<W> {
     fn send(&mut self, bytes: &[u8]) -> io::Result<()>
         ensures writes { Writes bytes.now (view_behind W.contents self.old) (view_behind W.contents self.new) result }
     {
-        match write_whole(&mut self.writer, bytes) {
-            Ok(()) => Ok(()),
-            Err(e) => Err(self.counted(e)),
-        }
+        let Err(e) = write_whole(&mut self.writer, bytes) else {
+            return Ok(());
+        };
+        Err(self.counted(e))
     }
 
     /// Passes on an error, counts it, and keeps its kind.

@@ -84,7 +84,7 @@ store-requires-clause-suits g c = λ r ls put is.
     let columns = c.in_ok-window.ensures.0 in
     let rows_are = c.in_ok-window.ensures.1 in
     let p = planned_on _ s.columns _ s.rows _ _ _ _ _ _ columns rows_are c.in_ok-plan_drawing.ensures.planned in
-    let m = rw columns at c.in_ok-metrics.ensures.measured in
+    let m = rw (columns, c.of-logged.ensures.lines) at c.in_ok-metrics.ensures.measured in
     let f = p.frame_is in
     let o = f.is_laid in
     let win = c.in_ok-window.window in
@@ -111,7 +111,7 @@ returns-clause-answer g c =
     let columns = c.in_ok-window.ensures.0 in
     let rows_are = c.in_ok-window.ensures.1 in
     let p = planned_on _ s.columns _ s.rows _ _ _ _ _ _ columns rows_are c.in_ok-plan_drawing.ensures.planned in
-    let m = rw columns at c.in_ok-metrics.ensures.measured in
+    let m = rw (columns, c.of-logged.ensures.lines) at c.in_ok-metrics.ensures.measured in
     let w = c.in_ok-window.window.columns in
     rw (← columns) (answer_made w (text ++ frame) _ _ c.write.result c.write.new.self
     c.write.ensures.remembers c.in_ok-window.window.some
@@ -125,7 +125,7 @@ returns-clause-lists g c = λ x fits.
     let columns = c.in_ok-window.ensures.0 in
     let rows_are = c.in_ok-window.ensures.1 in
     let p = planned_on _ s.columns _ s.rows _ _ _ _ _ _ columns rows_are c.in_ok-plan_drawing.ensures.planned in
-    let m = rw columns at c.in_ok-metrics.ensures.measured in
+    let m = rw (columns, c.of-logged.ensures.lines) at c.in_ok-metrics.ensures.measured in
     let f = p.frame_is in
     let o = f.is_laid in
     let win = c.in_ok-window.window in
@@ -156,7 +156,7 @@ returns-clause-paints g c = λ x fits plain.
     let columns = c.in_ok-window.ensures.0 in
     let rows_are = c.in_ok-window.ensures.1 in
     let p = planned_on _ s.columns _ s.rows _ _ _ _ _ _ columns rows_are c.in_ok-plan_drawing.ensures.planned in
-    let m = rw columns at c.in_ok-metrics.ensures.measured in
+    let m = rw (columns, c.of-logged.ensures.lines) at c.in_ok-metrics.ensures.measured in
     let f = p.frame_is in
     let l = c.plan_drawing.new.laid in
     let plan = l.plan in
@@ -182,7 +182,7 @@ returns-clause-paints g c = λ x fits plain.
     let v' = g.T.TermLike.view (engine_term c.write.new.self) in
     let bytes = reach_bytes fresh.down fresh.rows ++ (paint_bytes old.below taken lines below ++ fill_bytes below s.columns lines) in
     let written = whole_bytes e.failed old.below below fresh taken win.columns c.fill.result text ls in
-    let writes : DrawWrites (led e.failed bytes) s v' c.write.result = rw (c.store.ensures.terminal, y.4, written, all, fill) at c.write.ensures.draws in
+    let writes : DrawWrites (led e.failed bytes) s v' c.write.result = rw (c.store.ensures.terminal, c.of-logged.ensures.lines, y.4, written, all, fill) at c.write.ensures.draws in
     paints_by s v' old _ _ c.write.result c.write.new.self e.failed x (logged s.columns s.rows bottom (text_lines text) frame) bytes c.write.ensures.remembers (fits_failed e x fits) writes
     (λ z is. log_paints s.columns s.rows z old c.logged-next.result rows l.blanks bottom text c.args.frame.now plan end fresh
     (rw columns at win.some) (logged_utf8 c.args.text.now c.utf8.text) plain m.0 f.narrow is.counts f.plan_is (next z is.counts) m.1 blanks

@@ -7,8 +7,9 @@ pub returns-clause-same : goal.returns-clause-same
 returns-clause-same c =
     let old = c.args.old.now in
     let new = c.args.new.now in
-    let most = c.saturating_sub-most.result in
+    let most = c.min-most.result in
     let n = c.shared_bytes.result in
     shared_less n c.floor_char_boundary.result old new c.floor_char_boundary.ensures.bound
-    (shared_front n most old new (omega (arith, c.saturating_sub-most.ensures))
-    (subst (λ x. AreShared n x (take most new)) c.as_bytes.ensures.value (subst (λ x. AreShared n c.as_bytes.result.now (take most x)) c.as_bytes-news.ensures.value c.shared_bytes.ensures)))
+    (shared_front n most old new (omega (arith, c.min-most.ensures)) (omega (arith, c.saturating_sub.ensures, c.min-most.ensures))
+    (subst (λ x. AreShared n (take most x) (take most new)) c.as_bytes-olds.ensures.value
+    (subst (λ x. AreShared n (take most c.as_bytes-olds.result.now) (take most x)) c.as_bytes-news.ensures.value c.shared_bytes.ensures)))

@@ -13,95 +13,74 @@ use Rattle.indicatif_term.specs.Inside.Layouts.{own_lines, IsLaid}
 use Rattle.indicatif_term.specs.declared.engine.layout.Plan.{Plan}
 use Rattle.indicatif_term.proofs.OwnedLemmas.{first_within}
 use Rattle.indicatif_term.proofs.ShownRowLemmas.{frame_step}
-use Rattle.indicatif_term.proofs.LayoutLemmas.{nothing_laid, nothing_passes, no_bars, still_summed, lines_step, narrow_step, frame_refused, some_line, passing_now, passing_same, passing_all, passing_height, planned, still_laid}
+use Rattle.indicatif_term.proofs.LayoutLemmas.{nothing_laid, nothing_passes, no_bars, still_summed, lines_step, narrow_step, frame_refused, some_line, passing_now, passing_all, passing_height, planned, still_laid}
+use Rattle.indicatif_term.proofs.FrontLemmas.{front_next}
 use Rattle.indicatif_term.proofs.LaidLemmas.{laid_none, laid_as, laid_still, own_laid, own_count}
 use Rattle.indicatif_term.proofs.engine.layout.lay_frame.Goals as goal
-use Rattle.indicatif_term.proofs.engine.layout.lay_frame.Goals.{then-at-asked, else-at-asked}
 
-pub loop-at-init : goal.loop-at-init
-loop-at-init c =
+pub members-init : goal.members-init
+members-init c =
     let w = c.args.window.columns in
     let h = c.args.window.rows in
     let frame = c.args.asked.now.frame.now in
     let n = c.requires.none in
     record {
       within = omega arith;
-      summed = (nothing_laid h c.args.laid.now.plan n.plan_is).0;
       blanks_are = refl;
-      narrow = refl;
-      passing = ap (λ (q : Plan). q.passing) n.plan_is ∙ nothing_passes w h c.args.asked.now.pass frame;
-      laid = laid_as w h c.args.beside.now.lines.now [] [] [] _ _ refl (sym (no_bars w))
-          (laid_none w h c.args.beside.now.lines.now _ c.requires.blank refl n.plan_is n.none_changed n.none_more);
+      front = record {
+        summed = (nothing_laid h c.args.laid.now.plan n.plan_is).0;
+        narrow = refl;
+        passing = ap (λ (q : Plan). q.passing) n.plan_is ∙ nothing_passes w h c.args.asked.now.pass frame;
+        laid = laid_as w h c.args.beside.now.lines.now [] [] [] _ _ refl (sym (no_bars w))
+            (laid_none w h c.args.beside.now.lines.now _ c.requires.blank refl n.plan_is n.none_changed n.none_more);
+      };
     }
 
 pub lay_member-requires-clause-summed : goal.lay_member-requires-clause-summed
-lay_member-requires-clause-summed c = c.loop-at.invariant.summed
+lay_member-requires-clause-summed c = c.members.invariant.front.summed
 
 pub returns-in_err-lay_member-clause-laid : goal.returns-in_err-lay_member-clause-laid
 returns-in_err-lay_member-clause-laid c =
     let x = err_from_is_err_and c.from_residual.result c.from_residual.ensures.1 in
-    rw (x.1 ∙ ap Err x.2) (frame_refused c.args.window.columns c.args.asked.now.frame.now c.loop-at.at c.index-frame-at.result (omega arith)
+    rw (x.1 ∙ ap Err x.2) (frame_refused c.args.window.columns c.args.asked.now.frame.now c.members.at c.index-frame-at.result (omega arith)
     (sym c.index-frame-at.is) c.in_err-lay_member.field-0.0 c.in_err-lay_member.ensures.laid)
 
 pub returns-in_err-lay_member-clause-memory : goal.returns-in_err-lay_member-clause-memory
 returns-in_err-lay_member-clause-memory c = λ e.
     let x = err_from_is_err_and c.from_residual.result c.from_residual.ensures.1 in
     let same : c.in_err-lay_member.field-0.0 ≡ Memory = cc (sym (x.1 ∙ ap Err x.2) ∙ e) in
-    some_line c.args.asked.now.frame.now c.loop-at.at c.index-frame-at.result (omega arith) (sym c.index-frame-at.is) (c.in_err-lay_member.ensures.memory (ap Err same))
+    some_line c.args.asked.now.frame.now c.members.at c.index-frame-at.result (omega arith) (sym c.index-frame-at.is) (c.in_err-lay_member.ensures.memory (ap Err same))
 
-pub loop-at-preserved : goal.loop-at-preserved
-loop-at-preserved c =
+pub pass_standing-at-requires-clause-front : goal.pass_standing-at-requires-clause-front
+pass_standing-at-requires-clause-front c =
     let w = c.args.window.columns in
     let h = c.args.window.rows in
+    let pass = c.args.asked.now.pass in
     let frame = c.args.asked.now.frame.now in
-    let i = c.loop-at.at in
-    let s = c.index-frame-at.result in
+    let i = c.members.at in
     let l = c.lay_member.new.laid in
-    let p = l.plan in
-    let on = c.args.beside.now.lines.now in
-    let old = c.loop-at.invariant in
-    let one = c.in_ok-lay_member.ensures.laid in
-    let narrow = narrow_step w frame i s (omega arith) (sym c.index-frame-at.is) old.narrow one.narrow in
-    let laid : IsLaid w h on (frame_lines (take (i + 1) frame)) (lines_of w (map bar_lines (take (i + 1) frame))) l =
-    laid_as w h on _ _ _ _ l (sym (frame_step frame i s (omega arith) (sym c.index-frame-at.is))) (lines_step w frame i s (omega arith) (sym c.index-frame-at.is)) (one.laid _ _ old.laid) in
-    let blanks = one.blanks_same ∙ old.blanks_are in
-    elim c.if-at-asked.branch [
-      | then-at-asked q ↦ rw q.laid-is (record {
-        within = omega arith;
-        summed = still_summed h p.lines p one.summed;
-        blanks_are = blanks;
-        narrow = narrow;
-        passing = passing_now w h c.args.asked.now.pass i p.lines frame p _ laid.laid (omega (arith, q.if-at-asked.true)) refl;
-        laid = laid_still w h p.lines p.passing_rows on _ _ l laid;
-      })
-      | else-at-asked q ↦ rw q.laid-is (record {
-        within = omega arith;
-        summed = one.summed;
-        blanks_are = blanks;
-        narrow = narrow;
-        passing = passing_same w h c.args.asked.now.pass i _ frame (omega (arith, q.if-at-asked.false)) (one.passing_same ∙ old.passing);
-        laid = laid;
-      })
-    ]
+    let s = c.index-frame-at.result in
+    front_next w h pass i c.passing_behind-laid.result c.args.beside.now.lines.now frame s c.members.laid l (omega arith) (sym c.index-frame-at.is) c.members.invariant.front
+    c.in_ok-lay_member.ensures.laid c.passing_behind-laid.ensures
 
 pub through_run-passing-requires-clause-all : goal.through_run-passing-requires-clause-all
-through_run-passing-requires-clause-all c = own_count c.args.window.columns c.args.window.rows c.args.beside.now.lines.now _ _ c.loop-at.laid c.loop-at.invariant.laid
+through_run-passing-requires-clause-all c = own_count c.args.window.columns c.args.window.rows c.args.beside.now.lines.now _ _ c.members.laid c.members.invariant.front.laid
 
 pub through_run-passing-requires-clause-within : goal.through_run-passing-requires-clause-within
 through_run-passing-requires-clause-within c =
     let w = c.args.window.columns in
     let h = c.args.window.rows in
     let frame = c.args.asked.now.frame.now in
-    let i = c.loop-at.at in
-    let old = c.loop-at.invariant in
+    let i = c.members.at in
+    let old = c.members.invariant.front in
     let all : take i frame ≡ frame = take_all i frame (omega arith) in
     let laid = rw all at old.laid.laid in
     omega (arith, passing_all w h c.args.asked.now.pass i _ frame (omega arith) old.passing, first_within w h c.args.asked.now.pass (map bar_lines frame), laid.lines_are)
 
 pub height_passing-laid-requires-clause-within : goal.height_passing-laid-requires-clause-within
 height_passing-laid-requires-clause-within c =
-    let l = c.loop-at.laid in
-    let k : l.blanks + l.plan.lines ≡ l.at + length l.more.items = own_count c.args.window.columns c.args.window.rows c.args.beside.now.lines.now _ _ l c.loop-at.invariant.laid in
+    let l = c.members.laid in
+    let k : l.blanks + l.plan.lines ≡ l.at + length l.more.items = own_count c.args.window.columns c.args.window.rows c.args.beside.now.lines.now _ _ l c.members.invariant.front.laid in
     omega (arith, k, c.through_run-passing.ensures.within)
 
 pub returns-clause-laid : goal.returns-clause-laid
@@ -111,9 +90,9 @@ returns-clause-laid c =
     let pass = c.args.asked.now.pass in
     let frame = c.args.asked.now.frame.now in
     let on = c.args.beside.now.lines.now in
-    let i = c.loop-at.at in
-    let old = c.loop-at.invariant in
-    let l = c.loop-at.laid in
+    let i = c.members.at in
+    let old = c.members.invariant.front in
+    let l = c.members.laid in
     let p = l.plan in
     let n = c.through_run-passing.result in
     let r = c.height_passing-laid.result in

@@ -2,7 +2,7 @@ use Rattle.std.proofs.Common.{◌≡◌, ◌-◌, ◌^◌, false, map, min}
 use Rattle.indicatif_term.specs.Lines.{some_wide, text_lines}
 use Rattle.indicatif_term.specs.Inside.Plans.{text_height}
 use Rattle.indicatif_term.specs.Inside.Fills.{line_end, last_or_none}
-use Rattle.indicatif_term.proofs.engine.layout.metrics_of_text.Given as goal
+use Rattle.indicatif_term.proofs.engine.logged.metrics_of_lines.Given as goal
 
 abbrev pub invariant-loop-line : goal.invariant-loop-line
 invariant-loop-line l = record {

@@ -3,17 +3,11 @@ use Rattle.std.specs.Str.Iter.{lines_steps}
 use Rattle.std.specs.Str.Lines.{lines}
 use Rattle.std.proofs.lemmas.Result.{err_from_is_err_and}
 use Rattle.std.proofs.lemmas.Iterator.Splits.{YieldsList-from_lines}
-use Rattle.indicatif_term.specs.Lines.{text_lines, logged_lines}
+use Rattle.indicatif_term.specs.Lines.{text_lines}
 use Rattle.indicatif_term.proofs.IteratorLemmas.{parted, next_came, all_came}
-use Rattle.indicatif_term.proofs.LoggedLineLemmas.{logged_some, logged_none}
 use Rattle.indicatif_term.proofs.MeasureLemmas.{text_refused, narrow_after, height_after, came_lines}
-use Rattle.indicatif_term.proofs.LineEndLemmas.{empty_measured, nothing_ends_at, came_end}
-use Rattle.indicatif_term.proofs.engine.layout.metrics_of_text.Goals as goal
-
-pub returns-then-is_empty-clause-measured : goal.returns-then-is_empty-clause-measured
-returns-then-is_empty-clause-measured c =
-    let e : logged_lines c.args.text.now ≡ [] ∷ [] = logged_none c.args.text.now (sym c.is_empty.ensures ∙ c.if-is_empty.true) in
-    rw e (empty_measured c.args.window.columns c.metrics_of.result c.args.window.some c.metrics_of.ensures.measured)
+use Rattle.indicatif_term.proofs.LineEndLemmas.{nothing_ends_at, came_end}
+use Rattle.indicatif_term.proofs.engine.logged.metrics_of_lines.Goals as goal
 
 pub loop-line-init : goal.loop-line-init
 loop-line-init c = record { narrow = refl; rows_are = refl; ends = sym (nothing_ends_at c.args.window.columns) }
@@ -26,8 +20,8 @@ returns-in_err-metrics-clause-measured c =
     let p = parted lines_steps now (lines text) _ c.loop-line.yielded c.loop-line.line-iterator (YieldsList-from_lines text (ap (λ i. i.rest.now) c.into_iter-line-iterator.ensures.into_iter_gives
     ∙ c.lines-line-items.ensures.rest)).runs c.loop-line.yielded_by in
     let n = next_came lines_steps now (lines text) c.loop-line.yielded c.in-Some.line c.loop-line.line-iterator c.next.new.self p c.in-Some.ensures.steps in
-    text_refused c.args.window.columns (logged_lines text) c.loop-line.yielded c.in-Some.line n.0 c.in_err-metrics.field-0.0 c.from_residual.result (x.1 ∙ ap Err x.2)
-    (logged_some text (sym c.is_empty.ensures ∙ c.if-is_empty.false) ∙ n.1) c.in_err-metrics.ensures.measured
+    text_refused c.args.window.columns (lines text) c.loop-line.yielded c.in-Some.line n.0 c.in_err-metrics.field-0.0 c.from_residual.result (x.1 ∙ ap Err x.2)
+    n.1 c.in_err-metrics.ensures.measured
 
 pub loop-line-preserved : goal.loop-line-preserved
 loop-line-preserved c =
@@ -46,6 +40,5 @@ returns-clause-measured c =
     let now = λ (line : Bor (List ℕ)). line.now in
     let p = parted lines_steps now (lines text) _ c.loop-line.yielded c.loop-line.line-iterator (YieldsList-from_lines text (ap (λ i. i.rest.now) c.into_iter-line-iterator.ensures.into_iter_gives
     ∙ c.lines-line-items.ensures.rest)).runs c.loop-line.yielded_by in
-    let e : logged_lines text ≡ map now c.loop-line.yielded = logged_some text (sym c.is_empty.ensures ∙ c.if-is_empty.false)
-    ∙ all_came lines_steps now (lines text) c.loop-line.yielded c.loop-line.line-iterator c.next.new.self p c.in-None.ensures.steps in
+    let e : lines text ≡ map now c.loop-line.yielded = all_came lines_steps now (lines text) c.loop-line.yielded c.loop-line.line-iterator c.next.new.self p c.in-None.ensures.steps in
     (rw e c.loop-line.invariant.narrow, rw e c.loop-line.invariant.rows_are, rw e c.loop-line.invariant.ends)
