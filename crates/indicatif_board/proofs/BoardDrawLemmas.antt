@@ -156,8 +156,11 @@ module _ {K T : Type 0} (tracks : Tracking K) (view : T → TermView) (mark : �
       failed_to frame' is e sees puts =
           went_to (HoldsState frame' members made bottom) (Err e) sees puts (
             (subst (λ f. HoldsState f members made bottom (drawing there).ready) (sym is) ready, left),
-            (subst (λ f. HoldsState f members made bottom (drawing there).broken) (sym is)
-                (broken_holds tracks view mark takes ask now writing s (on_target there) lays engine frame members made bottom laid), left),
+            (
+              subst (λ f. HoldsState f members made bottom (drawing there).broken) (sym is)
+                  (broken_holds tracks view mark takes ask now writing s (on_target there) lays engine frame members made bottom laid),
+              left,
+            ),
           )
 
       -- it wrote, and the bars at the head that are gone left

@@ -177,9 +177,6 @@ module _ (w h : ℕ) (l l' : Lists) (kept gone : List (List Cell)) (line : List 
   back_looks = sym (drop-map (map look) (length base) s.shown) ∙ ap (drop (length base)) (s.looks ∙ ap looks_of (sym g.before)) ∙ drop-map (map look) (length base) (base ++ gone)
       ∙ ap looks_of (drop_at base gone (length base) refl)
 
-  before_height : length base + length gone ≡ lists_height l
-  before_height = sym (length-append base gone) ∙ ap length g.before ∙ all-height w l
-
   seen_length : (a b : List (List Cell)) → looks_of a ≡ looks_of b → length a ≡ length b
   seen_length a b e = sym (length-map a (map look)) ∙ ap length e ∙ length-map b (map look)
 

@@ -1,16 +1,16 @@
 -- Lines that are remembered, and new ones beside them.
 use Rattle.std.proofs.Props.{props}
 use Rattle.std.proofs.Math.Logic.{∥∥₁_elim}
-use Rattle.std.proofs.Common.{◌≡◌, ℕ, zero, suc, ◌+◌, ◌-◌, ◌<◌, ◌≤◌, ◌^◌, min, Bool, true, false, List, [], ◌∷◌, ◌++◌, length, take, drop, get_or, refl, sym, ◌∙◌, ap, subst, arith, append_assoc, append-nil, length-append, chars, if◌then◌else◌, Option, Some, None, inl, inr}
+use Rattle.std.proofs.Common.{◌≡◌, ℕ, zero, suc, ◌+◌, ◌-◌, ◌<◌, ◌≤◌, Bool, true, false, List, [], ◌∷◌, ◌++◌, length, take, drop, get_or, refl, sym, ◌∙◌, ap, subst, arith, append_assoc, append-nil, length-append, chars, if◌then◌else◌, Option, Some, None, inl, inr}
 use Rattle.std.specs.Prelude.{string_bytes, IfSome, ◌==◌}
 use Rattle.std.proofs.lemmas.Grind.{flat_map-append}
 use Rattle.std.proofs.lemmas.Bool.{cases_Bool, eqb-true}
-use Rattle.std.proofs.lemmas.List.{take_more, map-append, take_at, drop_at, drop-drop, length-map, length-take-le, length-drop, take-append-drop, take_all, nil_from_length, drop-map}
+use Rattle.std.proofs.lemmas.List.{take_more, map-append, take_at, drop_at, length-drop, take-append-drop, nil_from_length, drop-map}
 use Rattle.indicatif_text.specs.Columns.{Cell, rows_of}
-use Rattle.indicatif_term.specs.Inside.Changing.{PlacedLine, placed_height, placed_lines, free_behind}
+use Rattle.indicatif_term.specs.Inside.Changing.{placed_height, placed_lines, free_behind}
 use Rattle.indicatif_term.specs.Inside.Fills.{last_of}
 use Rattle.indicatif_term.proofs.LastLineLemmas.{last_push}
-use Rattle.indicatif_term.specs.Standing.{placed_of, placed, texts, standing_rows, IsLine, AreLines}
+use Rattle.indicatif_term.specs.Standing.{placed_of, placed, texts, standing_rows, AreLines}
 use Rattle.indicatif_term.specs.Remembered.{AreRemembered, AreStanding, AreOwned, kept_lines, live_lines}
 use Rattle.indicatif_term.specs.Inside.Remembered.{StandAbove, IsNext, IsNothing}
 use Rattle.std.proofs.Math.Seq.{drop-append-add}
@@ -37,11 +37,6 @@ pub drop_more : (ls : List StandingLine) (i : ℕ) (x : StandingLine) → i < le
 drop_more [] i x h e = absurd (omega arith)
 drop_more (y ∷ ls) zero x h e = ap (λ z. z ∷ ls) e
 drop_more (y ∷ ls) (suc i) x h e = drop_more ls i x (omega arith) e ∙ ap (λ n. x ∷ drop n (y ∷ ls)) (let n : suc (i + 1) ≡ suc i + 1 = omega arith in n)
-
-pub line_at : (w : ℕ) (ls : List StandingLine) (i : ℕ) (x : StandingLine) → AreLines w ls → i < length ls → get_or ls i x ≡ x → IsLine w x
-line_at w [] i x all h e = absurd (omega arith)
-line_at w (y ∷ ls) zero x all h e = subst (IsLine w) e all.0
-line_at w (y ∷ ls) (suc i) x all h e = line_at w ls i x all.1 (omega arith) e
 
 -- the rows of lines and of others below them
 pub rows-append : (w : ℕ) (before ls : List StandingLine) → standing_rows w (before ++ ls) ≡ standing_rows w before ++ standing_rows w ls

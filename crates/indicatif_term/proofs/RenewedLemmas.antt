@@ -1,17 +1,15 @@
 -- New lines in the place of those that stand.
-use Rattle.std.proofs.Common.{inl, inr, ◌≡◌, ◌≢◌, ◌⊎◌, ℕ, zero, suc, ◌+◌, ◌-◌, ◌<◌, ◌≤◌, max, Bool, true, false, List, [], ◌∷◌, ◌++◌, length, take, drop, map, set, refl, sym, ◌∙◌, ap, subst, arith, append-nil, length-append, chars, get_or, Result, Ok, Err, is_ok, is_err}
-use Rattle.std.specs.Prelude.{IsTrue, IsFalse, string_bytes, nat_lt, ◌==◌, ◌&&◌, sum_by, slice_set}
+use Rattle.std.proofs.Common.{◌≡◌, ◌≢◌, ℕ, zero, suc, ◌+◌, ◌-◌, ◌<◌, ◌≤◌, true, false, List, [], ◌∷◌, ◌++◌, length, take, drop, map, set, refl, sym, ◌∙◌, ap, subst, arith, chars, get_or}
+use Rattle.std.specs.Prelude.{IsTrue, string_bytes, slice_set}
 use Rattle.std.specs.List.{AllByRecursion}
-use Rattle.std.proofs.lemmas.Bool.{cond_both, lt-ltb}
-use Rattle.std.proofs.lemmas.Bool.Decides.{nat_tests}
-use Rattle.std.proofs.lemmas.List.{take-append-drop, take_at, drop_at, nil_from_length, take_more, take_all, take_more_set, length-map, length-set, get_or-set_other, get_or-map, set_comm, take-map, drop-map, length-take-le, get_or-take}
+use Rattle.std.proofs.lemmas.List.{take_at, drop_at, take_more, take_more_set, length-map, length-set, get_or-set_other, get_or-map, set_comm, take-map, drop-map, length-take-le, get_or-take}
 use Rattle.indicatif_text.specs.Columns.{Cell, rows_of, has_wide, last_columns}
 use Rattle.indicatif_term.specs.Shows.{look, looks_of}
-use Rattle.indicatif_term.specs.Standing.{placed_of, placed, texts, standing_rows, IsLine, AreLines, AreReady}
+use Rattle.indicatif_term.specs.Standing.{placed, texts, standing_rows, IsLine, AreLines, AreReady}
 use Rattle.indicatif_term.specs.Inside.Inks.{IsRead}
 use Rattle.indicatif_term.specs.Inside.Parting.{IsTurned, IsReady, change_of, waits_of}
 use Rattle.indicatif_term.specs.declared.engine.comparing.Step.TheVariants.{Leave}
-use Rattle.indicatif_term.specs.Inside.Changing.{placed_height, Becomes, Ends, AreSitting}
+use Rattle.indicatif_term.specs.Inside.Changing.{Becomes, Ends, AreSitting}
 use Rattle.indicatif_term.specs.Inside.Renewed.{IsNew, heights, FitsIn, AreFitting, AreFittingFrom, renewed, AreInPlace, IsOver, AreOver}
 use Rattle.indicatif_term.specs.Inside.Layouts.{AreWhole}
 use Rattle.indicatif_term.specs.declared.engine.remembered.StandingLine.{StandingLine}
@@ -171,12 +169,6 @@ place_right w [] (l ∷ ls) p = absurd p
 place_right w (o ∷ on) [] p = absurd p
 place_right w (o ∷ on) (l ∷ ls) p = (p.0.line, place_right w on ls p.1)
 
-pub place_length : (w : ℕ) (on ls : List StandingLine) → AreInPlace w on ls → length ls ≡ length on
-place_length w [] [] p = refl
-place_length w [] (l ∷ ls) p = absurd p
-place_length w (o ∷ on) [] p = absurd p
-place_length w (o ∷ on) (l ∷ ls) p = ap (λ n. suc n) (place_length w on ls p.1)
-
 place_rows : (w : ℕ) (on ls : List StandingLine) (i : ℕ) (x : StandingLine) → AreInPlace w on ls → i < length on → get_or ls i x ≡ x → x.rows ≡ get_or (heights on) i 0
 place_rows w [] ls i x p h e = absurd (omega arith)
 place_rows w (o ∷ on) [] i x p h e = absurd p
@@ -226,14 +218,6 @@ over_ready w [] [] p = tt
 over_ready w [] (l ∷ ls) p = absurd p
 over_ready w (o ∷ on) [] p = absurd p
 over_ready w (o ∷ on) (l ∷ ls) p = (p.0.ready, over_ready w on ls p.1)
-
-place_height : (w : ℕ) (on ls : List StandingLine) → AreInPlace w on ls → placed_height (placed ls) ≡ placed_height (placed on)
-place_height w [] [] p = refl
-place_height w [] (l ∷ ls) p = absurd p
-place_height w (o ∷ on) [] p = absurd p
-place_height w (o ∷ on) (l ∷ ls) p =
-    let rest : placed_height (placed ls) ≡ placed_height (placed on) = place_height w on ls p.1 in
-    let one : l.rows ≡ o.rows = p.0.rows_are in omega arith
 
 -- they sit on the rows of those, whatever stands below
 pub place_sits : (w : ℕ) (on rest ls : List StandingLine) → AreLines w on → AreInPlace w on ls → AreOver w on ls → AreSitting w (looks_of (standing_rows w (on ++ rest))) (placed ls)
