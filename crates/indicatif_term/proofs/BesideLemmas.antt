@@ -1,21 +1,19 @@
 -- Lines of which something holds for each, and blank ones.
 use Rattle.indicatif_term.specs.Counts.{line_count, line_counts}
 use Rattle.indicatif_term.specs.Inside.Owned.{blank_count}
-use Rattle.std.proofs.Common.{◌≡◌, ℕ, zero, suc, ◌+◌, ◌-◌, ◌<◌, ◌≤◌, ◌^◌, min, Bool, true, false, List, [], ◌∷◌, ◌++◌, length, take, drop, map, replicate, get_or, refl, sym, ◌∙◌, ap, subst, arith, length-append, chars, Some, None}
-use Rattle.std.specs.Prelude.{IsTrue, IsFalse, string_bytes, slice_set}
+use Rattle.std.proofs.Common.{◌≡◌, ℕ, zero, suc, ◌+◌, ◌-◌, ◌<◌, false, List, [], ◌∷◌, ◌++◌, length, take, drop, map, replicate, get_or, refl, sym, ◌∙◌, ap, subst, arith, length-append, chars}
+use Rattle.std.specs.Prelude.{IsFalse, string_bytes, slice_set}
 use Rattle.std.specs.List.{AllByRecursion}
 use Rattle.std.proofs.lemmas.Bool.{or_parts}
-use Rattle.std.proofs.lemmas.List.{take_more, drop-set, take_more_set, map-append, take-append-le, take_all, drop-map, drop-drop, drop_at, take_at, take-map}
+use Rattle.std.proofs.lemmas.List.{take_more, map-append, drop_at, take_at}
 use Rattle.std.proofs.lemmas.Str.{chars-nil}
 use Rattle.std.proofs.Math.Seq.{map-set_same}
-use Rattle.indicatif_text.specs.Columns.{Cell, has_wide, rows_of, last_columns}
-use Rattle.indicatif_term.specs.Shows.{look, looks_of}
-use Rattle.indicatif_term.specs.Inside.Changing.{placed_height, Becomes, Ends, Sits, AreSitting}
+use Rattle.indicatif_text.specs.Columns.{has_wide, rows_of, last_columns}
 use Rattle.indicatif_term.specs.Inside.Inks.{IsRead}
 use Rattle.indicatif_term.proofs.InkLemmas.{plain_read}
 use Rattle.indicatif_term.specs.declared.engine.comparing.Step.{Step}
 use Rattle.indicatif_term.specs.Inside.Parting.{IsReady}
-use Rattle.indicatif_term.specs.Standing.{placed_of, placed, texts, standing_rows, IsLine, AreLines, AreReady}
+use Rattle.indicatif_term.specs.Standing.{texts, IsLine, AreLines, AreReady}
 use Rattle.indicatif_term.specs.Inside.Layouts.{AreWhole}
 use Rattle.indicatif_term.specs.declared.engine.comparing.Step.TheVariants.{Whole}
 use Rattle.indicatif_term.specs.Lines.{line_text}
@@ -23,7 +21,6 @@ use Rattle.indicatif_term.specs.declared.target.lines.LineType.{LineType}
 use Rattle.indicatif_term.specs.declared.engine.remembered.StandingLine.{StandingLine}
 use Rattle.indicatif_term.proofs.MeasureLemmas.{empty_narrow}
 use Rattle.indicatif_term.proofs.LineEndLemmas.{one_row, nothing_ends_at}
-use Rattle.indicatif_term.proofs.EditWalkLemmas.{height-append, sitting_both}
 
 -- ---- each of some lines
 

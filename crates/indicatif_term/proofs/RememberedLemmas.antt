@@ -1,13 +1,13 @@
 -- Lines that are remembered, and new ones beside them.
 use Rattle.std.proofs.Props.{props}
 use Rattle.std.proofs.Math.Logic.{∥∥₁_elim}
-use Rattle.std.proofs.Common.{◌≡◌, ℕ, zero, suc, ◌+◌, ◌-◌, ◌<◌, ◌≤◌, ◌^◌, min, Bool, true, false, List, [], ◌∷◌, ◌++◌, length, take, drop, get_or, refl, sym, ◌∙◌, ap, subst, arith, append_assoc, append-nil, length-append, chars, if◌then◌else◌, Option, Some, None, inl, inr}
+use Rattle.std.proofs.Common.{◌≡◌, ℕ, zero, suc, ◌+◌, ◌-◌, ◌<◌, ◌≤◌, Bool, true, false, List, [], ◌∷◌, ◌++◌, length, take, drop, get_or, refl, sym, ◌∙◌, ap, subst, arith, append_assoc, append-nil, length-append, chars, if◌then◌else◌, Option, Some, None, inl, inr}
 use Rattle.std.specs.Prelude.{string_bytes, IfSome, ◌==◌}
 use Rattle.std.proofs.lemmas.Grind.{flat_map-append}
 use Rattle.std.proofs.lemmas.Bool.{cases_Bool, eqb-true}
-use Rattle.std.proofs.lemmas.List.{take_more, map-append, take_at, drop_at, drop-drop, length-map, length-take-le, length-drop, take-append-drop, take_all, nil_from_length, drop-map}
+use Rattle.std.proofs.lemmas.List.{take_more, map-append, take_at, drop_at, length-drop, take-append-drop, nil_from_length, drop-map}
 use Rattle.indicatif_text.specs.Columns.{Cell, rows_of}
-use Rattle.indicatif_term.specs.Inside.Changing.{PlacedLine, placed_height, placed_lines, free_behind}
+use Rattle.indicatif_term.specs.Inside.Changing.{placed_height, placed_lines, free_behind}
 use Rattle.indicatif_term.specs.Inside.Fills.{last_of}
 use Rattle.indicatif_term.proofs.LastLineLemmas.{last_push}
 use Rattle.indicatif_term.specs.Standing.{placed_of, placed, texts, standing_rows, IsLine, AreLines}

@@ -1,13 +1,11 @@
 -- New lines in the place of those that stand.
-use Rattle.std.proofs.Common.{inl, inr, ◌≡◌, ◌≢◌, ◌⊎◌, ℕ, zero, suc, ◌+◌, ◌-◌, ◌<◌, ◌≤◌, max, Bool, true, false, List, [], ◌∷◌, ◌++◌, length, take, drop, map, set, refl, sym, ◌∙◌, ap, subst, arith, append-nil, length-append, chars, get_or, Result, Ok, Err, is_ok, is_err}
-use Rattle.std.specs.Prelude.{IsTrue, IsFalse, string_bytes, nat_lt, ◌==◌, ◌&&◌, sum_by, slice_set}
+use Rattle.std.proofs.Common.{◌≡◌, ◌≢◌, ℕ, zero, suc, ◌+◌, ◌<◌, ◌≤◌, true, false, List, [], ◌∷◌, ◌++◌, length, take, drop, map, set, refl, sym, ◌∙◌, ap, subst, arith, chars, get_or}
+use Rattle.std.specs.Prelude.{IsTrue, string_bytes, slice_set}
 use Rattle.std.specs.List.{AllByRecursion}
-use Rattle.std.proofs.lemmas.Bool.{cond_both, lt-ltb}
-use Rattle.std.proofs.lemmas.Bool.Decides.{nat_tests}
-use Rattle.std.proofs.lemmas.List.{take-append-drop, take_at, drop_at, nil_from_length, take_more, take_all, take_more_set, length-map, length-set, get_or-set_other, get_or-map, set_comm, take-map, drop-map, length-take-le, get_or-take}
+use Rattle.std.proofs.lemmas.List.{take_at, drop_at, take_more, take_more_set, length-map, length-set, get_or-set_other, get_or-map, set_comm, take-map, drop-map, length-take-le, get_or-take}
 use Rattle.indicatif_text.specs.Columns.{Cell, rows_of, has_wide, last_columns}
 use Rattle.indicatif_term.specs.Shows.{look, looks_of}
-use Rattle.indicatif_term.specs.Standing.{placed_of, placed, texts, standing_rows, IsLine, AreLines, AreReady}
+use Rattle.indicatif_term.specs.Standing.{placed, texts, standing_rows, IsLine, AreLines, AreReady}
 use Rattle.indicatif_term.specs.Inside.Inks.{IsRead}
 use Rattle.indicatif_term.specs.Inside.Parting.{IsTurned, IsReady, change_of, waits_of}
 use Rattle.indicatif_term.specs.declared.engine.comparing.Step.TheVariants.{Leave}

@@ -1,7 +1,6 @@
 -- A draw that leaves lines that stay, by what an engine remembers.
 use Rattle.std.proofs.Common.{◌≡◌, ℕ, zero, suc, ◌+◌, ◌-◌, ◌<◌, ◌≤◌, ◌^◌, min, Bool, true, false, List, [], ◌∷◌, ◌++◌, length, take, map, replicate, refl, sym, ◌∙◌, ap, subst, arith, length-append, append_assoc, append-nil, chars, if◌then◌else◌, Result, Ok, Err, Option, Some}
-use Rattle.std.specs.Prelude.{IsTrue, IsFalse, IfSome, IsErrAnd, ◌==◌, flat_map, fold}
-use Rattle.std.proofs.lemmas.Bool.{eq-eqb}
+use Rattle.std.specs.Prelude.{IsTrue, IsFalse, IfSome, IsErrAnd, flat_map, fold}
 use Rattle.std.proofs.lemmas.List.{take_at, take-map, length-map, nil_from_length}
 use Rattle.indicatif_text.specs.Columns.{rows_of}
 use Rattle.indicatif_term.specs.Terminal.{GREATEST}
@@ -17,7 +16,7 @@ use Rattle.indicatif_term.proofs.AmongLemmas.{change_bytes}
 use Rattle.indicatif_term.specs.Inside.Places.{IsWithin}
 use Rattle.indicatif_term.specs.declared.engine.beside.Room.{Room}
 use Rattle.indicatif_term.specs.Standing.{placed_of, placed, texts, standing_rows, AreLines}
-use Rattle.indicatif_term.specs.Remembered.{AreRemembered, AreStanding, AreOwned, live_lines, Suits}
+use Rattle.indicatif_term.specs.Remembered.{AreOwned, live_lines, Suits}
 use Rattle.indicatif_term.specs.declared.engine.remembered.StandingLine.{StandingLine}
 use Rattle.indicatif_term.specs.declared.engine.remembered.Remembered.{Remembered}
 use Rattle.indicatif_term.specs.declared.engine.counts.Counts.{Counts}

@@ -1,22 +1,20 @@
 -- The bytes of a draw by its setting: whole lines below one another, lines among others, or lines over others.
-use Rattle.std.proofs.Common.{◌≡◌, ℕ, suc, ◌+◌, ◌≤◌, Bool, true, false, List, [], ◌∷◌, ◌++◌, length, take, drop, replicate, refl, sym, ◌∙◌, ap, arith, append_assoc, append-nil, length-append, if◌then◌else◌}
+use Rattle.std.proofs.Common.{◌≡◌, ℕ, suc, ◌+◌, Bool, true, false, List, [], ◌∷◌, ◌++◌, length, take, drop, replicate, sym, ◌∙◌, ap, arith, append_assoc, append-nil, length-append, if◌then◌else◌}
 use Rattle.std.specs.Prelude.{◌&&◌, ◌||◌, not, nat_lt, ◌==◌}
-use Rattle.std.proofs.lemmas.List.{take_all, take_at, drop_at, take-map, drop-map, length-drop, length-map}
+use Rattle.std.proofs.lemmas.List.{take_at, drop_at, take-map, drop-map}
 use Rattle.indicatif_term.specs.Calls.{anew_bytes}
-use Rattle.indicatif_term.specs.Standing.{placed_of, placed, texts, AreReady}
+use Rattle.indicatif_term.specs.Standing.{placed_of, placed, texts}
 use Rattle.indicatif_term.specs.Inside.MoveBytes.{back_bytes, reach_bytes, lines_bytes}
 use Rattle.indicatif_term.proofs.PaintingLemmas.{paint_bytes}
-use Rattle.indicatif_term.specs.Inside.Changing.{PlacedLine, placed_height, placed_lines, frame_bytes, all_stay, ending, ended, among_bytes, free_behind, moved_bytes}
+use Rattle.indicatif_term.specs.Inside.Changing.{PlacedLine, placed_lines, among_bytes, free_behind, moved_bytes}
 use Rattle.indicatif_term.specs.Inside.Fills.{last_of}
 use Rattle.indicatif_term.specs.Inside.Writings.{writing_bytes}
 use Rattle.indicatif_term.specs.declared.engine.counts.Fresh.{Fresh}
 use Rattle.indicatif_term.specs.declared.engine.remembered.StandingLine.{StandingLine}
 use Rattle.indicatif_term.specs.declared.engine.writing.Manner.TheVariants.{Among, Over}
-use Rattle.indicatif_term.specs.declared.engine.writing.Writing.{Writing}
 use Rattle.indicatif_term.proofs.CallTurnLemmas.{lt_after}
-use Rattle.indicatif_term.proofs.RememberedLemmas.{lines_placed, none_behind}
-use Rattle.indicatif_term.proofs.BesideLemmas.{ready_take}
-use Rattle.indicatif_term.proofs.AmongLemmas.{rewrite_bytes, change_bytes, taken_parts}
+use Rattle.indicatif_term.proofs.RememberedLemmas.{lines_placed}
+use Rattle.indicatif_term.proofs.AmongLemmas.{change_bytes, taken_parts}
 
 -- lines that are written whole
 pub whole_bytes : (anew below ends : Bool) (f : Fresh) (taken w fill : ℕ) (text : List (List ℕ)) (ls : List StandingLine) →

@@ -1,5 +1,5 @@
 -- What a blank terminal whose wrap can be turned off shows after bytes.
-use Rattle.std.specs.Prelude.{ℕ, ◌-◌, Bool, true, List, ◌∷◌, ◌++◌, codes}
+use Rattle.std.specs.Prelude.{ℕ, ◌-◌, Bool, true, List, ◌∷◌, codes}
 use Rattle.indicatif_term.specs.Screen.{blank_screen, top}
 use Rattle.indicatif_term.specs.Modes.{ModeTerminal, mode_resting, mode_after}
 use Rattle.indicatif_term.specs.Pictures.{picture_text}

@@ -1,9 +1,6 @@
 -- The spaces that fill the last row of a draw.
-use Rattle.std.specs.Prelude.{◌≡◌, ℕ, ◌-◌, ◌≤◌, length, take, map, flat_map, Bool, true, false, List, [], ◌∷◌, chars, Option, Some, None}
+use Rattle.std.specs.Prelude.{ℕ, ◌-◌, Bool, true, false, List, [], ◌∷◌, chars, Option, Some, None}
 use Rattle.indicatif_text.specs.Columns.{last_columns}
-use Rattle.indicatif_term.specs.Lines.{line_text}
-use Rattle.indicatif_term.specs.declared.target.lines.Segment.{Segment}
-use Rattle.indicatif_term.specs.declared.engine.layout.Plan.{Plan}
 
 -- the last element of a list
 abbrev pub last_of : {A : Type 0} → List A → Option A

@@ -1,5 +1,5 @@
 -- Lines of one bar below one another.
-use Rattle.std.specs.Prelude.{◌==◌, ℕ, zero, suc, ◌+◌, List, [], ◌∷◌, false, None, if◌then◌else◌}
+use Rattle.std.specs.Prelude.{◌==◌, ℕ, zero, suc, ◌+◌, List, [], ◌∷◌, false, if◌then◌else◌}
 use Rattle.indicatif_term.specs.Counts.{RowCount}
 use Rattle.indicatif_term.specs.declared.engine.layout.Plan.{Plan}
 

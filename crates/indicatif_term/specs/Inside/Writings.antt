@@ -1,5 +1,5 @@
 -- The bytes of a draw.
-use Rattle.std.specs.Prelude.{◌≡◌, ◌⊎◌, ℕ, ◌≤◌, Bool, true, false, ◌&&◌, ◌||◌, not, nat_lt, ◌==◌, List, [], ◌++◌, length, take, drop, replicate, option_map, if◌then◌else◌}
+use Rattle.std.specs.Prelude.{◌≡◌, ◌⊎◌, ℕ, ◌≤◌, Bool, true, ◌&&◌, ◌||◌, not, nat_lt, ◌==◌, List, [], ◌++◌, length, take, drop, replicate, option_map, if◌then◌else◌}
 use Rattle.indicatif_term.specs.Calls.{anew_bytes}
 use Rattle.indicatif_term.specs.Standing.{placed, texts, AreReady}
 use Rattle.indicatif_term.specs.Inside.MoveBytes.{next_row, reach_bytes, back_bytes, lines_bytes}

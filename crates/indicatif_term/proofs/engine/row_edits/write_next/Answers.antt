@@ -1,8 +1,8 @@
 use Rattle.std.proofs.Common.{◌+◌, ◌++◌, [], ◌∙◌, sym, arith}
 use Rattle.std.specs.Prelude.{encode_utf8}
 use Rattle.indicatif_term.specs.Calls.{RIGHT, move_bytes}
-use Rattle.indicatif_term.proofs.CallTurnLemmas.{reaches_none, reaches_then, breaks_then, breaks_early, sends_then}
-use Rattle.indicatif_term.proofs.RowWritingLemmas.{next_stays, next_writes, next_fails, next_room, next_ends, broken_in}
+use Rattle.indicatif_term.proofs.CallTurnLemmas.{reaches_none, breaks_then, breaks_early, sends_then}
+use Rattle.indicatif_term.proofs.RowWritingLemmas.{next_stays, next_fails, next_room, next_ends, broken_in}
 use Rattle.indicatif_term.proofs.engine.row_edits.write_next.Goals as goal
 
 pub returns-then-stays : goal.returns-then-stays
