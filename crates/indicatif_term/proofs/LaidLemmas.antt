@@ -35,7 +35,7 @@ use Rattle.indicatif_term.specs.declared.engine.remembered.StandingLine.{Standin
 use Rattle.indicatif_term.proofs.OwnedLemmas.{count_more, rows_by, height_counted, counts_height, blank_height, ones_of, passing_within}
 use Rattle.indicatif_term.proofs.RememberedLemmas.{lines_taken, live_right}
 use Rattle.indicatif_term.proofs.BesideLemmas.{line_texts_step, all_append, replicate_push}
-use Rattle.indicatif_term.proofs.LayoutLemmas.{nothing_laid, one_more, still_laid, passing_same, string_at, line_bars, member_bars}
+use Rattle.indicatif_term.proofs.LayoutLemmas.{nothing_laid, one_more, still_laid, string_at, line_bars, member_bars}
 use Rattle.indicatif_term.proofs.EditWalkLemmas.{sitting_both}
 use Rattle.indicatif_term.proofs.TerminalStepLemmas.{rows_some}
 use Rattle.indicatif_term.proofs.RenewedLemmas.{none_fit, fits_taken, renewed_taken, place_right, over_ready, place_sits, whole_sits, whole_ready}

@@ -1,9 +1,9 @@
 -- Where the last of some lines ends, and the spaces behind it.
-use Rattle.std.proofs.Common.{◌≡◌, ℕ, ◌+◌, ◌<◌, true, false, List, [], ◌∷◌, ◌++◌, length, map, take, replicate, get_or, refl, sym, ◌∙◌, ap, arith, append-nil, length-append, Option, Some, None, Bool, Bor, Result, Ok, Err, chars, subst}
+use Rattle.std.proofs.Common.{◌≡◌, ℕ, ◌<◌, true, false, List, [], ◌∷◌, ◌++◌, length, map, replicate, refl, sym, ◌∙◌, ap, arith, append-nil, Option, Some, None, Bool, Bor, chars}
 use Rattle.std.proofs.lemmas.Str.{chars-nil}
 use Rattle.indicatif_text.specs.Columns.{last_columns, visible, rows_of}
-use Rattle.std.specs.Prelude.{option_map, unwrap_or, fold}
-use Rattle.std.proofs.lemmas.List.{take_more, take_all, take-map, map-append, take-append-le, length-take-le, nil_from_length}
+use Rattle.std.specs.Prelude.{option_map, unwrap_or}
+use Rattle.std.proofs.lemmas.List.{map-append}
 use Rattle.indicatif_term.specs.Inside.Fills.{last_of, line_end, fill_columns, line_or_none, last_or_none}
 use Rattle.indicatif_term.specs.Inside.Changing.{PlacedLine}
 use Rattle.indicatif_term.specs.Standing.{placed, texts, AreLines}

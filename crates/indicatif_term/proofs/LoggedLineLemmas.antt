@@ -1,5 +1,5 @@
 -- A text that is logged has at least one line, and each of its lines is UTF-8.
-use Rattle.std.proofs.Common.{◌≡◌, ℕ, zero, suc, ◌+◌, ◌-◌, ◌<◌, ◌≤◌, true, false, List, [], ◌∷◌, length, take, drop, get_or, refl, sym, subst, arith, ⊎_elim}
+use Rattle.std.proofs.Common.{◌≡◌, ℕ, zero, suc, ◌+◌, ◌-◌, ◌<◌, ◌≤◌, true, List, [], ◌∷◌, length, take, drop, get_or, refl, sym, subst, arith, ⊎_elim}
 use Rattle.std.specs.Prelude.{◌==◌, slice_index}
 use Rattle.std.specs.Str.{IsUtf8}
 use Rattle.std.specs.Str.Lines.{lines, lines_of_parts, strip_carriage_return}

@@ -1,5 +1,5 @@
 -- New lines in the place of those that stand.
-use Rattle.std.proofs.Common.{◌≡◌, ◌≢◌, ℕ, zero, suc, ◌+◌, ◌-◌, ◌<◌, ◌≤◌, true, false, List, [], ◌∷◌, ◌++◌, length, take, drop, map, set, refl, sym, ◌∙◌, ap, subst, arith, chars, get_or}
+use Rattle.std.proofs.Common.{◌≡◌, ◌≢◌, ℕ, zero, suc, ◌+◌, ◌<◌, ◌≤◌, true, false, List, [], ◌∷◌, ◌++◌, length, take, drop, map, set, refl, sym, ◌∙◌, ap, subst, arith, chars, get_or}
 use Rattle.std.specs.Prelude.{IsTrue, string_bytes, slice_set}
 use Rattle.std.specs.List.{AllByRecursion}
 use Rattle.std.proofs.lemmas.List.{take_at, drop_at, take_more, take_more_set, length-map, length-set, get_or-set_other, get_or-map, set_comm, take-map, drop-map, length-take-le, get_or-take}

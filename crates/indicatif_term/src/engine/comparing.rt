@@ -12,7 +12,7 @@ ghost use Rattle.indicatif_term.specs.Inside.Rests.{ArePlain};
 ghost use Rattle.indicatif_term.specs.Inside.Plans.{IsPlainRow, IsWithheld, MeasuredLine};
 ghost use Rattle.indicatif_term.specs.Inside.Layouts.{IsSized};
 
-use crate::engine::inks::{Alike, char_count, closes, split};
+use crate::engine::inks::{Alike, char_count, closes, has_escape, split};
 use crate::engine::remembered::StandingLine;
 use crate::target::window::Window;
 use indicatif_text::columns::{Metrics, Piece, Refusal, pieces, width, wrapped};
@@ -173,6 +173,9 @@ pub fn inked_count(text: &str) -> Option<usize>
 {
     if is_printable(text.as_bytes()) {
         return Some(text.len());
+    }
+    if !has_escape(text.as_bytes()) {
+        return narrow_count(text);
     }
     let mut depth = Depth {
         groups: 0,

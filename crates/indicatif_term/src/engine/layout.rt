@@ -313,10 +313,22 @@ fn is_same(a: &str, b: &str) -> bool
     if count != b.len() {
         return false;
     }
-    if count >= 16 && a.as_bytes()[count - 16..] != b.as_bytes()[count - 16..] {
+    if count >= 16 && !are_alike(&a.as_bytes()[count - 16..], &b.as_bytes()[count - 16..]) {
         return false;
     }
     a == b
+}
+
+/// Whether two slices are the same. It looks at each byte, so that many are compared at once.
+#[inline(always)]
+fn are_alike(a: &[u8], b: &[u8]) -> bool
+    requires { length a.now ≡ length b.now }
+{
+    let mut same = true;
+    for at in 0..a.len() {
+        same = same & (a[at] == b[at]);
+    }
+    same
 }
 
 /// Lays out one more line in the place of the one that stands there, if it has as many rows, else below.

@@ -12,8 +12,7 @@ use Rattle.indicatif_term.specs.Inside.Plans.{frame_lines}
 use Rattle.indicatif_term.specs.Inside.Layouts.{own_lines, IsLaid}
 use Rattle.indicatif_term.specs.declared.engine.layout.Plan.{Plan}
 use Rattle.indicatif_term.proofs.OwnedLemmas.{first_within}
-use Rattle.indicatif_term.proofs.ShownRowLemmas.{frame_step}
-use Rattle.indicatif_term.proofs.LayoutLemmas.{nothing_laid, nothing_passes, no_bars, still_summed, lines_step, narrow_step, frame_refused, some_line, passing_now, passing_all, passing_height, planned, still_laid}
+use Rattle.indicatif_term.proofs.LayoutLemmas.{nothing_laid, nothing_passes, no_bars, frame_refused, some_line, passing_all, passing_height, planned, still_laid}
 use Rattle.indicatif_term.proofs.FrontLemmas.{front_next}
 use Rattle.indicatif_term.proofs.LaidLemmas.{laid_none, laid_as, laid_still, own_laid, own_count}
 use Rattle.indicatif_term.proofs.engine.layout.lay_frame.Goals as goal

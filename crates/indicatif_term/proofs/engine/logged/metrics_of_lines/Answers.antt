@@ -1,4 +1,4 @@
-use Rattle.std.proofs.Common.{arith, ◌≡◌, refl, sym, ◌∙◌, ap, List, ℕ, map, chars, Err, Bor, [], ◌∷◌}
+use Rattle.std.proofs.Common.{arith, ◌≡◌, refl, sym, ◌∙◌, ap, List, ℕ, map, chars, Err, Bor}
 use Rattle.std.specs.Str.Iter.{lines_steps}
 use Rattle.std.specs.Str.Lines.{lines}
 use Rattle.std.proofs.lemmas.Result.{err_from_is_err_and}

@@ -1,4 +1,4 @@
-use Rattle.std.proofs.Common.{sym, ◌≡◌, false}
+use Rattle.std.proofs.Common.{sym}
 use Rattle.indicatif_term.proofs.LoggedLineLemmas.{logged_some}
 use Rattle.indicatif_term.proofs.PlainRowLemmas.{plain_line}
 use Rattle.indicatif_term.proofs.engine.logged.Logged.of.Goals as goal
