@@ -6,12 +6,12 @@ use Rattle.indicatif_bar.specs.Styles.{columns_left, wide_text}
 use Rattle.indicatif_bar.specs.Inside.Steps.{wide_found}
 use Rattle.indicatif_bar.proofs.style.ProgressStyle.push_wide.Goals as goal
 
-pub returns-in_ok-push_message-in-Message-clause-text : goal.returns-in_ok-push_message-in-Message-clause-text
+pub returns-in_ok-push_message-in-Message : goal.returns-in_ok-push_message-in-Message
 unfolding trim_end padded
-returns-in_ok-push_message-in-Message-clause-text g c columns text at last =
+returns-in_ok-push_message-in-Message g c columns text at last =
     let old = string_bytes c.args.out.now in
     let message = padded (shown_message c.args.state.now) (columns_left columns text) c.in-Message.placeholder.now.align true in
-    c.in_ok-push_message-in-Message.ensures.text
+    c.in_ok-push_message-in-Message.ensures
     ∙ ap (λ k. old ++ (if c.args.gap.is_last then trim_end (padded (shown_message c.args.state.now) k c.in-Message.placeholder.now.align true) else padded
     (shown_message c.args.state.now) k c.in-Message.placeholder.now.align true)) at
     ∙ ap (λ b. old ++ (if b then trim_end message else message)) last
