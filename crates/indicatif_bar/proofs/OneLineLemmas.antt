@@ -6,7 +6,7 @@ use Rattle.std.specs.List.{list_any, slice_get, slice_split, AllByRecursion}
 use Rattle.std.specs.Str.{IsUtf8, IsCharBoundary}
 use Rattle.std.proofs.lemmas.Bool.{or_parts, cond_both, eqb-true}
 use Rattle.std.proofs.lemmas.List.Elements.{All-from_recursion, recursion_from_All}
-use Rattle.std.proofs.lemmas.List.Splits.{slice_split_none}
+use Rattle.std.proofs.lemmas.List.Folds.{list_any_none}
 use Rattle.std.proofs.lemmas.Str.{IsCharBoundary-after_ascii}
 use Rattle.indicatif_text.specs.Template.{Layout}
 use Rattle.indicatif_bar.specs.Progress.{Progress}
@@ -64,9 +64,9 @@ with_bar style p columns line key layout = with_fillers_as (wide_text style p co
 
 -- it leaves one line one line
 pub bar_in_line : {K : Type 0} (style : BarStyle K) (p : Progress) (columns : ℕ) (line : List ℕ) (key : BarKey) (layout : Layout) → AreTaken style.clusters → list_any is_newline line ≡ false
-    → slice_split is_newline (with_bar style p columns line key layout) ≡ with_bar style p columns line key layout ∷ []
+    → list_any is_newline (with_bar style p columns line key layout) ≡ false
 bar_in_line style p columns line key layout taken one =
     let bar = wide_text style p columns line (WideBarOf key layout) in
     let takes = takes_bar style.clusters style.colours (unwrap_or layout.alternative []) p key (columns_left columns line) taken in
     let none : IsOneLine bar = recursion_from_All (λ b. (b == 0x0A) ≡ false) bar (takes_without 0x0A _ bar strange_newline takes) in
-    slice_split_none is_newline (with_fillers_as bar line) (All-from_recursion (λ b. (b == 0x0A) ≡ false) (with_fillers_as bar line) (filled bar line none (found_none line one)))
+    list_any_none is_newline (with_fillers_as bar line) (All-from_recursion (λ b. (b == 0x0A) ≡ false) (with_fillers_as bar line) (filled bar line none (found_none line one)))

@@ -44,7 +44,7 @@ impl<K: Tracks> BarState<K> {
         ensures memory { IfErr result (λ e. (e ≡ Refusal.Memory) × IsTrue (lines_take_memory self.now)) }
     {
         if self.state().is_hidden() {
-            return Ok(spare.lines());
+            return Ok(Vec::new(self.alloc()));
         }
         self.style().lines_in(spare, self.state(), now, width)
     }

@@ -16,7 +16,7 @@ use indicatif_text::columns::{Moment, Refusal};
 use std::alloc::Global;
 use std::fmt::{self, Debug, Formatter};
 use std::marker::Model;
-use std::mem::replace;
+use std::mem::swap;
 
 /// Whether a bar is in progress, or how it was finished.
 #[derive(Clone, Copy, Drop)]
@@ -386,8 +386,8 @@ impl ProgressState {
         ensures unchanged { OnErr result (self.new ≡ self.old) }
         ensures memory { IfErr result (λ e. (e ≡ Refusal.Memory) × IsTrue (is_some_text text.now)) }
     {
-        let next = self.room().refilled(text, self.tab)?;
-        self.spare = replace(&mut self.message, next);
+        self.spare.refill(text, self.tab)?;
+        swap(&mut self.message, &mut self.spare);
         Ok(())
     }
 
@@ -399,16 +399,9 @@ impl ProgressState {
         ensures unchanged { OnErr result (self.new ≡ self.old) }
         ensures memory { IfErr result (λ e. (e ≡ Refusal.Memory) × IsTrue (is_some_text text.now)) }
     {
-        let next = self.room().refilled(text, self.tab)?;
-        self.spare = replace(&mut self.prefix, next);
+        self.spare.refill(text, self.tab)?;
+        swap(&mut self.prefix, &mut self.spare);
         Ok(())
-    }
-
-    /// The memory for the next text of the progress.
-    fn room(&mut self) -> TabbedText
-        ensures { self.new ≡ self.old }
-    {
-        replace(&mut self.spare, TabbedText::new(self.alloc, self.tab))
     }
 
     /// The texts of the progress with another tab width, in memory of their own.

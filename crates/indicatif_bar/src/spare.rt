@@ -1,5 +1,5 @@
 //! Memory for lines that was taken before.
-ghost use Rattle.std.specs.Prelude.{◌≡◌, [], string_bytes};
+ghost use Rattle.std.specs.Prelude.{◌≡◌, [], Some, None, string_bytes, MatchOption};
 
 use indicatif_term::target::LineType;
 use std::alloc::Global;
@@ -51,9 +51,8 @@ impl SpareLines {
     pub(crate) fn lines(&mut self) -> Vec<LineType>
         ensures { result.items ≡ [] }
     {
-        let mut lines = replace(&mut self.lines, Vec::new(self.alloc));
-        lines.clear();
-        lines
+        empty(&mut self.lines, &mut self.texts);
+        replace(&mut self.lines, Vec::new(self.alloc))
     }
 
     /// An empty text for one line, in spare memory.
@@ -74,16 +73,43 @@ impl SpareLines {
         let _ = self.texts.push(text);
     }
 
-    /// Keeps the memory of unused lines, for the next ones. If there is none to store it in, it is freed.
-    pub fn store(&mut self, lines: Vec<LineType>) {
-        let mut lines = lines;
-        while let Some(line) = lines.pop() {
-            if let LineType::Text(text) | LineType::Bar(text) = line {
-                if self.texts.push(text).is_err() {
-                    return;
-                }
-            }
+    /// Sets a text aside where what follows has a width, which is laid out in a text of its own.
+    pub(crate) fn set_aside(&mut self, width: Option<u16>, out: &mut String) -> Option<Aside>
+        ensures { MatchOption result ((width ≡ None) × (string_bytes out.new ≡ string_bytes out.old))
+            (λ aside. (width ≡ Some aside.width) × (string_bytes aside.text ≡ string_bytes out.old) × (string_bytes out.new ≡ [])) }
+    {
+        match width {
+            Some(width) => Some(Aside {
+                text: replace(out, self.text()),
+                width,
+            }),
+            None => None,
         }
+    }
+
+    /// Keeps the memory of unused lines, for the next ones. If there is none to store it in, it is freed.
+    #[inline(always)]
+    pub fn store(&mut self, lines: Vec<LineType>) {
+        empty(&mut self.lines, &mut self.texts);
         self.lines = lines;
+    }
+}
+
+/// A text that waits until what follows it is laid out at this width.
+#[derive(Drop)]
+pub(crate) struct Aside {
+    pub(crate) text: String,
+    pub(crate) width: u16,
+}
+
+/// Moves the texts of lines to other texts, as far as there is room for them.
+#[inline(always)]
+fn empty(lines: &mut Vec<LineType>, texts: &mut Vec<String>)
+    ensures { lines.new.items ≡ [] }
+{
+    while let Some(line) = lines.pop() {
+        if let LineType::Text(text) | LineType::Bar(text) = line {
+            let _ = texts.push(text);
+        }
     }
 }

@@ -1,5 +1,5 @@
 //! A text with its tabs expanded beside it.
-ghost use Rattle.std.specs.Prelude.{◌≡◌, [], string_bytes, IfOk, OnErr, IsTrue};
+ghost use Rattle.std.specs.Prelude.{◌≡◌, [], string_bytes, IfOk, OnOk, OnErr, IsTrue};
 ghost use Rattle.indicatif_bar.specs.Tabs.{TabbedText, expanded, has_tab, is_some_text};
 ghost use Rattle.indicatif_bar.specs.Inside.TabbedTexts.{expanded_text};
 
@@ -43,26 +43,22 @@ impl TabbedText {
         }
     }
 
-    /// Another text with its tabs expanded, in the memory of this one. An empty one is never refused.
-    pub(crate) fn refilled(self, text: &str, tab: usize) -> Result<TabbedText, AllocError>
-        ensures text { IfOk result (λ t. t ≡ record { text = text.now; tab = tab }) }
+    /// Takes another text, with its tabs expanded. An empty one is never refused; if one is, the text is empty.
+    pub(crate) fn refill(&mut self, text: &str, tab: usize) -> Result<(), AllocError>
+        ensures text { OnOk result (self.new ≡ record { text = text.now; tab = tab }) }
         ensures needed { OnErr result (IsTrue (is_some_text text.now)) }
     {
-        let mut own = self.text;
-        let mut with_spaces = self.with_spaces;
-        own.clear();
-        own.push_str(text)?;
+        self.tab = tab;
+        self.has_tabs = false;
+        self.text.clear();
         let has_tabs = tabs::has_tab(text);
         if has_tabs {
-            with_spaces.clear();
-            tabs::push_expanded(text, tab, &mut with_spaces)?;
+            self.with_spaces.clear();
+            tabs::push_expanded(text, tab, &mut self.with_spaces)?;
         }
-        Ok(TabbedText {
-            text: own,
-            has_tabs,
-            with_spaces,
-            tab,
-        })
+        self.text.push_str(text)?;
+        self.has_tabs = has_tabs;
+        Ok(())
     }
 
     /// The text with its tabs expanded.

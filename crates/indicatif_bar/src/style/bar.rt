@@ -1,5 +1,5 @@
 //! A bar of clusters.
-ghost use Rattle.std.specs.Prelude.{◌≡◌, ◌<◌, ◌≤◌, ◌++◌, ◌*◌, ◌/◌, ◌%◌, string_bytes, length, OnOk, IfOk, IfErr, IfSome, [], unwrap_or};
+ghost use Rattle.std.specs.Prelude.{◌≡◌, ◌<◌, ◌≤◌, ◌++◌, ◌*◌, ◌/◌, ◌%◌, string_bytes, length, OnOk, IfOk, IfSome, [], unwrap_or};
 ghost use Rattle.indicatif_bar.specs.Keys.{bar_fraction};
 ghost use Rattle.indicatif_bar.specs.Layout.{bar_text};
 ghost use Rattle.indicatif_bar.specs.Inside.Bars.{shade_of, begun_text, cells_left};
@@ -14,7 +14,7 @@ use crate::style::padding::push_times;
 use crate::style::steps::{Placeholder, open_style};
 use crate::style::texts::Texts;
 use crate::tracker::Tracks;
-use indicatif_text::columns::Refusal;
+use std::alloc::AllocError;
 
 /// How many of the cells are filled, and the remainder for the next one.
 fn filled(done: Fraction, cells: u64) -> (u64, u64)
@@ -52,14 +52,13 @@ fn push_begun(
     done: Fraction,
     cells: u64,
     out: &mut String,
-) -> Result<u64, Refusal>
+) -> Result<u64, AllocError>
     requires clusters { 2 ≤ length (texts_in clusters.now) }
     requires some { 0 < done.den }
     requires whole { done.num ≤ done.den }
     ensures left { IfOk result (λ n. n ≡ cells_left done cells (length (texts_in clusters.now))) }
     ensures text { OnOk result (string_bytes out.new
         ≡ string_bytes out.old ++ begun_text (texts_in clusters.now) done cells) }
-    ensures memory { IfErr result (λ e. e ≡ Refusal.Memory) }
 {
     let (whole, _) = filled(done, cells);
     push_times(clusters.at(0), whole as usize, out)?;
@@ -81,10 +80,9 @@ impl<K: Tracks> ProgressStyle<K> {
         state: &ProgressState,
         width: u64,
         out: &mut String,
-    ) -> Result<(), Refusal>
-        ensures text { OnOk result (string_bytes out.new ≡ string_bytes out.old
+    ) -> Result<(), AllocError>
+        ensures { OnOk result (string_bytes out.new ≡ string_bytes out.old
             ++ bar_text self.now.clusters self.now.colours (unwrap_or (placeholder_layout placeholder.now).alternative []) (bar_fraction state.now bar) width) }
-        ensures memory { IfErr result (λ e. e ≡ Refusal.Memory) }
     {
         let cells = width / self.cell_columns as u64;
         let left = push_begun(&self.clusters, bar.fraction(state), cells, out)?;

@@ -7,14 +7,14 @@ ghost use Rattle.std.specs.Str.{trim_end};
 ghost use Rattle.indicatif_term.specs.Lines.{line_text};
 ghost use Rattle.indicatif_bar.specs.Tabs.{expanded};
 ghost use Rattle.indicatif_bar.specs.Layout.{padded};
-ghost use Rattle.indicatif_bar.specs.Styles.{key_text, wide_text, with_fillers_as, lines_with, lines, columns_left, ends_in_filler, is_filler, is_empty_style};
+ghost use Rattle.indicatif_bar.specs.Styles.{key_text, wide_text, filled, with_fillers_as, lines_with, lines, columns_left, ends_in_filler, is_filler, is_empty_style};
 ghost use Rattle.indicatif_bar.specs.Inside.Steps.{PutsSource, placeholder_layout, source_text, effect_text, wide_found};
 
 use crate::progress::ProgressState;
 use crate::scan::cut_at;
 use crate::spare::SpareLines;
 use crate::style::ProgressStyle;
-use crate::style::filling::{Gap, has_filler, push_line, push_lines};
+use crate::style::filling::{Gap, ShownText, has_filler};
 use crate::style::keys::Key;
 use crate::style::padding::{AtWidth, push_padded};
 use crate::style::steps::{
@@ -25,6 +25,7 @@ use crate::tracker::Tracks;
 use indicatif_term::target::LineType;
 use indicatif_text::columns::{Moment, Refusal};
 use indicatif_text::template::{Alignment, Template};
+use std::alloc::AllocError;
 use std::mem::replace;
 
 impl<K: Tracks> ProgressStyle<K> {
@@ -36,10 +37,9 @@ impl<K: Tracks> ProgressStyle<K> {
         state: &ProgressState,
         now: Moment,
         out: &mut String,
-    ) -> Result<(), Refusal>
-        ensures text { OnOk result (string_bytes out.new ≡ string_bytes out.old
+    ) -> Result<(), AllocError>
+        ensures { OnOk result (string_bytes out.new ≡ string_bytes out.old
             ++ key_text K.means self.now state.now now (placeholder_layout placeholder.now) key) }
-        ensures memory { IfErr result (λ e. e ≡ Refusal.Memory) }
     {
         match key {
             Key::Bar(bar) => {
@@ -48,7 +48,10 @@ impl<K: Tracks> ProgressStyle<K> {
             }
             Key::WideBar(_) | Key::WideText(_) => out.push_str("\0")?,
             Key::Text(key) => out.push_str(self.shown_text(key, state))?,
-            Key::Number(key) => key.push(state, now, placeholder.width, out)?,
+            Key::Number(key) => match key.push(state, now, placeholder.width, out) {
+                Ok(()) => {}
+                Err(_) => return Err(AllocError),
+            },
         }
         Ok(())
     }
@@ -61,11 +64,10 @@ impl<K: Tracks> ProgressStyle<K> {
         now: Moment,
         spare: &mut SpareLines,
         out: &mut String,
-    ) -> Result<(), Refusal>
-        ensures text { OnOk result (string_bytes out.new ≡ string_bytes out.old
+    ) -> Result<(), AllocError>
+        ensures { OnOk result (string_bytes out.new ≡ string_bytes out.old
             ++ option_map_or (λ entry. expanded self.now.tab (K.means.text entry.1 state.now now))
             (slice_get self.now.keys place) []) }
-        ensures memory { IfErr result (λ e. e ≡ Refusal.Memory) }
     {
         match self.keys.get(place) {
             Some(entry) => self.push_text_of(&entry.1, state, now, spare, out),
@@ -81,13 +83,14 @@ impl<K: Tracks> ProgressStyle<K> {
         now: Moment,
         spare: &mut SpareLines,
         out: &mut String,
-    ) -> Result<(), Refusal>
-        ensures text { OnOk result (string_bytes out.new ≡ string_bytes out.old
+    ) -> Result<(), AllocError>
+        ensures { OnOk result (string_bytes out.new ≡ string_bytes out.old
             ++ expanded self.now.tab (K.means.text tracker.now state.now now)) }
-        ensures memory { IfErr result (λ e. e ≡ Refusal.Memory) }
     {
         let mut text = spare.text();
-        tracker.track_text(state, now, &mut text)?;
+        let Ok(()) = tracker.track_text(state, now, &mut text) else {
+            return Err(AllocError);
+        };
         push_expanded(text.as_str(), self.tab, out)?;
         spare.store_text(text);
         Ok(())
@@ -101,10 +104,9 @@ impl<K: Tracks> ProgressStyle<K> {
         now: Moment,
         spare: &mut SpareLines,
         out: &mut String,
-    ) -> Result<(), Refusal>
-        ensures text { OnOk result (string_bytes out.new ≡ string_bytes out.old
+    ) -> Result<(), AllocError>
+        ensures { OnOk result (string_bytes out.new ≡ string_bytes out.old
             ++ source_text K.means self.now state.now now (placeholder_layout placeholder.now) placeholder.now.source) }
-        ensures memory { IfErr result (λ e. e ≡ Refusal.Memory) }
     {
         match placeholder.source {
             Source::Tracker(place) => self.push_tracked(place, state, now, spare, out),
@@ -121,20 +123,19 @@ impl<K: Tracks> ProgressStyle<K> {
         now: Moment,
         spare: &mut SpareLines,
         out: &mut String,
-    ) -> Result<(), Refusal>
-        ensures text { let text = source_text K.means self.now state.now now (placeholder_layout placeholder.now) placeholder.now.source in
+    ) -> Result<(), AllocError>
+        ensures { let text = source_text K.means self.now state.now now (placeholder_layout placeholder.now) placeholder.now.source in
             OnOk result (string_bytes out.new ≡ string_bytes out.old
             ++ option_map_or (λ width. padded text width placeholder.now.align placeholder.now.truncate) placeholder.now.width text) }
-        ensures memory { IfErr result (λ e. e ≡ Refusal.Memory) }
     {
-        let Some(width) = placeholder.width else {
-            self.push_told(placeholder, state, now, spare, out)?;
+        let before = spare.set_aside(placeholder.width, out);
+        self.push_told(placeholder, state, now, spare, out)?;
+        let Some(before) = before else {
             return Ok(());
         };
-        let mut text = spare.text();
-        self.push_told(placeholder, state, now, spare, &mut text)?;
+        let text = replace(out, before.text);
         let place = AtWidth {
-            width: usize::from(width),
+            width: usize::from(before.width),
             align: placeholder.align,
             truncate: placeholder.truncate,
         };
@@ -151,10 +152,9 @@ impl<K: Tracks> ProgressStyle<K> {
         now: Moment,
         spare: &mut SpareLines,
         out: &mut String,
-    ) -> Result<(), Refusal>
-        ensures text { OnOk result (string_bytes out.new ≡ string_bytes out.old
+    ) -> Result<(), AllocError>
+        ensures { OnOk result (string_bytes out.new ≡ string_bytes out.old
             ++ effect_text K.means self.now state.now now (PutsSource placeholder.now.source (placeholder_layout placeholder.now))) }
-        ensures memory { IfErr result (λ e. e ≡ Refusal.Memory) }
     {
         let some = open_style(&placeholder.style, self.colours, out)?;
         self.push_sized(placeholder, state, now, spare, out)?;
@@ -173,11 +173,10 @@ impl<K: Tracks> ProgressStyle<K> {
         state: &ProgressState,
         spare: &mut SpareLines,
         out: &mut String,
-    ) -> Result<(), Refusal>
-        ensures text { (columns : ℕ) (text : List ℕ) → gap.columns ≡ columns_left columns text → gap.is_last ≡ ends_in_filler text →
+    ) -> Result<(), AllocError>
+        ensures { (columns : ℕ) (text : List ℕ) → gap.columns ≡ columns_left columns text → gap.is_last ≡ ends_in_filler text →
             OnOk result (string_bytes out.new ≡ string_bytes out.old
             ++ wide_text self.now state.now columns text (wide_found wide.entry)) }
-        ensures memory { IfErr result (λ e. e ≡ Refusal.Memory) }
     {
         match wide {
             WideKey::Bar(bar, placeholder) => self.push_bar(
@@ -207,11 +206,10 @@ impl<K: Tracks> ProgressStyle<K> {
         state: &ProgressState,
         spare: &mut SpareLines,
         out: &mut String,
-    ) -> Result<(), Refusal>
-        ensures text { (columns : ℕ) → gap.columns ≡ columns_left columns text.now → gap.is_last ≡ ends_in_filler text.now →
+    ) -> Result<(), AllocError>
+        ensures { (columns : ℕ) → gap.columns ≡ columns_left columns text.now → gap.is_last ≡ ends_in_filler text.now →
             OnOk result (string_bytes out.new ≡ string_bytes out.old
             ++ with_fillers_as (wide_text self.now state.now columns text.now (wide_found wide.entry)) text.now) }
-        ensures memory { IfErr result (λ e. e ≡ Refusal.Memory) }
     {
         let mut rest = text;
         'fillers: while let Some((part, behind)) = cut_at(0, rest) {
@@ -224,6 +222,7 @@ impl<K: Tracks> ProgressStyle<K> {
     }
 
     /// Appends the lines of a text, by the latest wide key.
+    #[inline(always)]
     fn push_lines(
         &self,
         line: Line<'_>,
@@ -231,51 +230,62 @@ impl<K: Tracks> ProgressStyle<K> {
         width: u16,
         spare: &mut SpareLines,
         lines: &mut Vec<LineType>,
-    ) -> Result<(), Refusal>
+    ) -> Result<(), AllocError>
         ensures lines { OnOk result (map line_text lines.new.items ≡ map line_text lines.old.items
             ++ lines_with self.now state.now width (option_map wide_found line.entry.wide) (string_bytes line.entry.text)) }
         ensures kind { IsTrue (list_all is_bar_line lines.old.items) → IsTrue (list_all is_bar_line lines.new.items) }
-        ensures memory { IfErr result (λ e. e ≡ Refusal.Memory) }
+    {
+        let shown = self.fill(line, state, width, spare)?;
+        shown.push_lines(spare, lines)
+    }
+
+    /// The text of a line with its fillers replaced, by the latest wide key.
+    #[inline(always)]
+    fn fill(
+        &self,
+        line: Line<'_>,
+        state: &ProgressState,
+        width: u16,
+        spare: &mut SpareLines,
+    ) -> Result<ShownText, AllocError>
+        ensures { IfOk result (λ shown. string_bytes shown.text
+            ≡ filled self.now state.now width (option_map wide_found line.entry.wide) (string_bytes line.entry.text)) }
     {
         let Line { text, wide } = line;
         let Some(wide) = wide else {
-            push_lines(text, spare, lines)?;
-            return Ok(());
+            return Ok(ShownText::of(text));
         };
         if !has_filler(text.as_str()) {
-            push_lines(text, spare, lines)?;
-            return Ok(());
+            return Ok(ShownText::of(text));
         }
-        self.push_all_filled(text.as_str(), wide, state, width, spare, lines)?;
+        let shown = self.fill_wide(text.as_str(), wide, state, width, spare)?;
         spare.store_text(text);
-        Ok(())
+        Ok(shown)
     }
 
-    /// Appends the lines of a text with its fillers replaced. Bars in their place leave one line one line.
-    fn push_all_filled(
+    /// A text with its fillers replaced. Bars in their place leave one line one line.
+    fn fill_wide(
         &self,
         text: &str,
         wide: WideKey<'_>,
         state: &ProgressState,
         width: u16,
         spare: &mut SpareLines,
-        lines: &mut Vec<LineType>,
-    ) -> Result<(), Refusal>
+    ) -> Result<ShownText, AllocError>
         requires has_filler { IsTrue (list_any is_filler text.now) }
-        ensures lines { OnOk result (map line_text lines.new.items ≡ map line_text lines.old.items
-            ++ lines_with self.now state.now width (Some (wide_found wide.entry)) text.now) }
-        ensures kind { IsTrue (list_all is_bar_line lines.old.items) → IsTrue (list_all is_bar_line lines.new.items) }
-        ensures memory { IfErr result (λ e. e ≡ Refusal.Memory) }
+        ensures { IfOk result (λ shown. string_bytes shown.text ≡ filled self.now state.now width (Some (wide_found wide.entry)) text.now) }
     {
         let gap = Gap::of(text, width);
         let mut filled = spare.text();
         self.push_filled(text, wide, gap, state, spare, &mut filled)?;
         let _read = self.tab;
         match wide {
-            WideKey::Bar(_, _) if !gap.has_break => push_line(filled, lines)?,
-            WideKey::Bar(_, _) | WideKey::Text(_, _) => push_lines(filled, spare, lines)?,
+            WideKey::Bar(_, _) => Ok(ShownText {
+                text: filled,
+                has_break: gap.has_break,
+            }),
+            WideKey::Text(_, _) => Ok(ShownText::of(filled)),
         }
-        Ok(())
     }
 
     /// The style's lines, laid out in memory of `spare`. If the style shows nothing, there are none.
@@ -291,11 +301,13 @@ impl<K: Tracks> ProgressStyle<K> {
         ensures kind { IfOk result (λ v. IsTrue (list_all is_bar_line v.items)) }
         ensures memory { IfErr result (λ e. (e ≡ Refusal.Memory) × IsFalse (is_empty_style self.now state.now)) }
     {
-        let laid = self.laid_out(spare, state, now, width);
-        if laid.is_err() && self.is_empty(state) {
-            return Ok(spare.lines());
-        }
-        laid
+        let Ok(lines) = self.laid_out(spare, state, now, width) else {
+            if self.is_empty(state) {
+                return Ok(Vec::new(self.alloc));
+            }
+            return Err(Refusal::Memory);
+        };
+        Ok(lines)
     }
 
     /// The style's lines, laid out step by step.
@@ -305,11 +317,10 @@ impl<K: Tracks> ProgressStyle<K> {
         state: &ProgressState,
         now: Moment,
         width: u16,
-    ) -> Result<Vec<LineType>, Refusal>
+    ) -> Result<Vec<LineType>, AllocError>
         ensures lines { IfOk result (λ v. map line_text v.items
             ≡ lines K.means self.now state.now now width) }
         ensures kind { IfOk result (λ v. IsTrue (list_all is_bar_line v.items)) }
-        ensures memory { IfErr result (λ e. e ≡ Refusal.Memory) }
     {
         let mut lines = spare.lines();
         let mut line = Line {
@@ -376,11 +387,10 @@ fn push_in_gap(
     gap: Gap,
     spare: &mut SpareLines,
     out: &mut String,
-) -> Result<(), Refusal>
-    ensures text { let shown = padded text.now gap.columns align true in
+) -> Result<(), AllocError>
+    ensures { let shown = padded text.now gap.columns align true in
         OnOk result (string_bytes out.new ≡ string_bytes out.old
         ++ (if gap.is_last then trim_end shown else shown)) }
-    ensures memory { IfErr result (λ e. e ≡ Refusal.Memory) }
 {
     let place = AtWidth {
         width: gap.columns,

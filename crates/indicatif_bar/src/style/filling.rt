@@ -1,5 +1,5 @@
 //! Lines of a text, and what replaces a wide key's fillers.
-ghost use Rattle.std.specs.Prelude.{◌≡◌, ◌++◌, ◌∷◌, [], false, find, map, string_bytes, OnOk, IfErr, IsTrue};
+ghost use Rattle.std.specs.Prelude.{◌≡◌, ◌++◌, ◌∷◌, [], false, find, map, string_bytes, OnOk, IsTrue};
 ghost use Rattle.std.specs.Option.{option_map_or};
 ghost use Rattle.std.specs.List.{list_all, list_any, slice_get, slice_split};
 ghost use Rattle.indicatif_bar.specs.Bars.{is_bar_line};
@@ -10,7 +10,8 @@ ghost use Rattle.indicatif_bar.specs.Styles.{is_filler, is_newline, ends_in_fill
 use crate::scan::{cut_at, has_byte};
 use crate::spare::SpareLines;
 use indicatif_term::target::LineType;
-use indicatif_text::columns::{Refusal, columns};
+use indicatif_text::columns::columns;
+use std::alloc::AllocError;
 
 /// Whether a text has a filler.
 pub(crate) fn has_filler(text: &str) -> bool
@@ -101,32 +102,54 @@ fn begins_with_filler(text: &str) -> bool
     }
 }
 
-/// Appends the lines of a text, in memory of `spare`. A text of one line is itself that line.
-pub(crate) fn push_lines(
-    text: String,
-    spare: &mut SpareLines,
-    lines: &mut Vec<LineType>,
-) -> Result<(), Refusal>
-    ensures lines { OnOk result (map line_text lines.new.items
-        ≡ map line_text lines.old.items ++ slice_split is_newline (string_bytes text)) }
-    ensures kind { IsTrue (list_all is_bar_line lines.old.items) → IsTrue (list_all is_bar_line lines.new.items) }
-    ensures memory { IfErr result (λ e. e ≡ Refusal.Memory) }
-{
-    if has_break(text.as_str()) {
+/// A text as it is shown, and whether it has a line break. Without one it is itself one line.
+#[derive(Drop)]
+pub(crate) struct ShownText {
+    pub(crate) text: String,
+    pub(crate) has_break: bool,
+    pub(crate) ghost one_line: { has_break ≡ false → list_any is_newline (string_bytes text) ≡ false },
+}
+
+impl ShownText {
+    /// This text, searched for a line break.
+    #[inline(always)]
+    pub(crate) fn of(text: String) -> ShownText
+        ensures { string_bytes result.text ≡ string_bytes text }
+    {
+        let has_break = has_break(text.as_str());
+        ShownText { text, has_break }
+    }
+
+    /// Appends the lines of the text, in memory of `spare`.
+    #[inline(always)]
+    pub(crate) fn push_lines(
+        self,
+        spare: &mut SpareLines,
+        lines: &mut Vec<LineType>,
+    ) -> Result<(), AllocError>
+        ensures lines { OnOk result (map line_text lines.new.items
+            ≡ map line_text lines.old.items ++ slice_split is_newline (string_bytes self.text)) }
+        ensures kind { IsTrue (list_all is_bar_line lines.old.items) → IsTrue (list_all is_bar_line lines.new.items) }
+    {
+        let ShownText { text, has_break } = self;
+        if !has_break {
+            return push_line(text, lines);
+        }
         push_pieces(text.as_str(), spare, lines)?;
         spare.store_text(text);
-        return Ok(());
+        Ok(())
     }
-    push_line(text, lines)?;
-    Ok(())
 }
 
 /// Appends the lines of a text, each copied.
-fn push_pieces(text: &str, spare: &mut SpareLines, lines: &mut Vec<LineType>) -> Result<(), Refusal>
+fn push_pieces(
+    text: &str,
+    spare: &mut SpareLines,
+    lines: &mut Vec<LineType>,
+) -> Result<(), AllocError>
     ensures lines { OnOk result (map line_text lines.new.items
         ≡ map line_text lines.old.items ++ slice_split is_newline text.now) }
     ensures kind { IsTrue (list_all is_bar_line lines.old.items) → IsTrue (list_all is_bar_line lines.new.items) }
-    ensures memory { IfErr result (λ e. e ≡ Refusal.Memory) }
 {
     let mut rest = text;
     while let Some((piece, behind)) = cut_at(b'\n', rest) {
@@ -138,10 +161,13 @@ fn push_pieces(text: &str, spare: &mut SpareLines, lines: &mut Vec<LineType>) ->
 }
 
 /// Appends a line, copied into memory of `spare`.
-fn push_copied(text: &str, spare: &mut SpareLines, lines: &mut Vec<LineType>) -> Result<(), Refusal>
+fn push_copied(
+    text: &str,
+    spare: &mut SpareLines,
+    lines: &mut Vec<LineType>,
+) -> Result<(), AllocError>
     ensures lines { OnOk result (map line_text lines.new.items ≡ map line_text lines.old.items ++ text.now ∷ []) }
     ensures kind { IsTrue (list_all is_bar_line lines.old.items) → IsTrue (list_all is_bar_line lines.new.items) }
-    ensures memory { IfErr result (λ e. e ≡ Refusal.Memory) }
 {
     let mut line = spare.text();
     line.push_str(text)?;
@@ -150,10 +176,10 @@ fn push_copied(text: &str, spare: &mut SpareLines, lines: &mut Vec<LineType>) ->
 }
 
 /// Appends a line to the lines of a text.
-pub(crate) fn push_line(text: String, lines: &mut Vec<LineType>) -> Result<(), Refusal>
+#[inline(always)]
+pub(crate) fn push_line(text: String, lines: &mut Vec<LineType>) -> Result<(), AllocError>
     ensures lines { OnOk result (map line_text lines.new.items ≡ map line_text lines.old.items ++ string_bytes text ∷ []) }
     ensures kind { IsTrue (list_all is_bar_line lines.old.items) → IsTrue (list_all is_bar_line lines.new.items) }
-    ensures memory { IfErr result (λ e. e ≡ Refusal.Memory) }
 {
     lines.push(LineType::Bar(text))?;
     Ok(())

@@ -1,9 +1,10 @@
 //! A text at a width.
-ghost use Rattle.std.specs.Prelude.{◌≡◌, ◌≤◌, ◌++◌, ◌-◌, List, ℕ, string_bytes, OnOk, IfErr, IfSome};
+ghost use Rattle.std.specs.Prelude.{◌≡◌, ◌≤◌, ◌++◌, ◌-◌, List, ℕ, string_bytes, OnOk, IfSome};
 ghost use Rattle.indicatif_bar.specs.Layout.{padded, spaces, times, truncated, surrounded};
 
 use indicatif_text::columns::{Refusal, columns, write_ansi_range};
 use indicatif_text::template::Alignment;
+use std::alloc::AllocError;
 
 /// How a text stands in a width, and whether a longer one is cut.
 #[derive(Clone, Copy, Drop)]
@@ -14,10 +15,9 @@ pub(crate) struct AtWidth {
 }
 
 /// Appends `text` at a width: a longer one as it is or truncated, a shorter one with blanks.
-pub(crate) fn push_padded(text: &str, place: AtWidth, out: &mut String) -> Result<(), Refusal>
-    ensures text { OnOk result (string_bytes out.new
+pub(crate) fn push_padded(text: &str, place: AtWidth, out: &mut String) -> Result<(), AllocError>
+    ensures { OnOk result (string_bytes out.new
         ≡ string_bytes out.old ++ padded text.now place.width place.align place.truncate) }
-    ensures memory { IfErr result (λ e. e ≡ Refusal.Memory) }
 {
     let columns = columns(text);
     if columns <= place.width {
@@ -25,7 +25,9 @@ pub(crate) fn push_padded(text: &str, place: AtWidth, out: &mut String) -> Resul
         return Ok(());
     }
     if place.truncate {
-        push_truncated(text, columns, place, out)?;
+        let Ok(()) = push_truncated(text, columns, place, out) else {
+            return Err(AllocError);
+        };
         return Ok(());
     }
     out.push_str(text)?;
@@ -42,7 +44,6 @@ fn push_truncated(
     requires { place.width ≤ columns }
     ensures text { OnOk result (string_bytes out.new
         ≡ string_bytes out.old ++ truncated text.now columns place.align place.width) }
-    ensures memory { IfErr result (λ e. e ≡ Refusal.Memory) }
 {
     let excess = columns - place.width;
     match place.align {
@@ -60,10 +61,9 @@ fn push_surrounded(
     align: Alignment,
     blanks: usize,
     out: &mut String,
-) -> Result<(), Refusal>
-    ensures text { OnOk result (string_bytes out.new
+) -> Result<(), AllocError>
+    ensures { OnOk result (string_bytes out.new
         ≡ string_bytes out.old ++ surrounded text.now align blanks) }
-    ensures memory { IfErr result (λ e. e ≡ Refusal.Memory) }
 {
     let before = blanks_before(align, blanks);
     push_times(" ", before, out)?;
@@ -87,9 +87,8 @@ fn blanks_before(align: Alignment, blanks: usize) -> usize
 
 /// Appends `text` `count` times, from a ready run or by repetition.
 #[inline(always)]
-pub(crate) fn push_times(text: &str, count: usize, out: &mut String) -> Result<(), Refusal>
-    ensures text { OnOk result (string_bytes out.new ≡ string_bytes out.old ++ times count text.now) }
-    ensures memory { IfErr result (λ e. e ≡ Refusal.Memory) }
+pub(crate) fn push_times(text: &str, count: usize, out: &mut String) -> Result<(), AllocError>
+    ensures { OnOk result (string_bytes out.new ≡ string_bytes out.old ++ times count text.now) }
 {
     match ready_run(text) {
         Some(run) => push_ready(text, run, count, out),
@@ -120,10 +119,9 @@ fn ready_run(text: &str) -> Option<&'static str>
 }
 
 /// Appends `text` `count` times, from its ready run.
-fn push_ready(text: &str, run: &str, count: usize, out: &mut String) -> Result<(), Refusal>
+fn push_ready(text: &str, run: &str, count: usize, out: &mut String) -> Result<(), AllocError>
     requires run { run.now ≡ times 64 text.now }
-    ensures text { OnOk result (string_bytes out.new ≡ string_bytes out.old ++ times count text.now) }
-    ensures memory { IfErr result (λ e. e ≡ Refusal.Memory) }
+    ensures { OnOk result (string_bytes out.new ≡ string_bytes out.old ++ times count text.now) }
 {
     let mut left = count;
     'runs: while READY < left {
@@ -135,9 +133,8 @@ fn push_ready(text: &str, run: &str, count: usize, out: &mut String) -> Result<(
 }
 
 /// Appends `text` `count` times, by appending again what was appended.
-fn push_repeated(text: &str, count: usize, out: &mut String) -> Result<(), Refusal>
-    ensures text { OnOk result (string_bytes out.new ≡ string_bytes out.old ++ times count text.now) }
-    ensures memory { IfErr result (λ e. e ≡ Refusal.Memory) }
+fn push_repeated(text: &str, count: usize, out: &mut String) -> Result<(), AllocError>
+    ensures { OnOk result (string_bytes out.new ≡ string_bytes out.old ++ times count text.now) }
 {
     if count == 0 {
         return Ok(());

@@ -10,7 +10,7 @@ use crate::style::keys::{BarKey, Key, TextKey, key_named};
 use crate::tabs::{has_tab, push_expanded};
 use indicatif_text::columns::{Refusal, Style};
 use indicatif_text::template::{Alignment, Part, Template};
-use std::alloc::Global;
+use std::alloc::{AllocError, Global};
 
 /// The columns of a bar without a width.
 pub(crate) const BAR_COLUMNS: u16 = 20;
@@ -79,16 +79,18 @@ pub(crate) fn open_style(
     style: &Option<Style>,
     colours: bool,
     out: &mut String,
-) -> Result<bool, Refusal>
+) -> Result<bool, AllocError>
     ensures bytes { OnOk result (string_bytes out.new ≡ string_bytes out.old ++ opening_of colours (unwrap_or (option_map numbers_of style.now) [])) }
     ensures some { IfOk result (λ some. some ≡ nat_lt 0 (length (opening_of colours (unwrap_or (option_map numbers_of style.now) [])))) }
-    ensures memory { IfErr result (λ e. e ≡ Refusal.Memory) }
 {
     if !colours {
         return Ok(false);
     }
     match style {
-        Some(style) => style.open(colours, out),
+        Some(style) => match style.open(colours, out) {
+            Ok(some) => Ok(some),
+            Err(_) => Err(AllocError),
+        },
         None => Ok(false),
     }
 }

@@ -70,23 +70,25 @@ impl<W: Write> Term<W> {
     }
 
     /// Writes these bytes; counts a failure, and keeps its kind.
+    #[inline(always)]
     fn send(&mut self, bytes: &[u8]) -> io::Result<()>
         ensures writes { Writes bytes.now (view_behind W.contents self.old) (view_behind W.contents self.new) result }
     {
-        let Err(e) = write_whole(&mut self.writer, bytes) else {
-            return Ok(());
-        };
-        Err(self.counted(e))
+        if let Err(e) = write_whole(&mut self.writer, bytes) {
+            return self.fail(e);
+        }
+        Ok(())
     }
 
-    /// Passes on an error, counts it, and keeps its kind.
-    fn counted(&mut self, e: io::Error) -> io::Error
-        ensures same { result ≡ e }
+    /// Fails with this error, counts it, and keeps its kind.
+    #[inline(never)]
+    fn fail(&mut self, e: io::Error) -> io::Result<()>
+        ensures same { result ≡ Err e }
         ensures counts { self.new ≡ counted_as (Err e) self.old }
     {
         self.faults = self.faults.wrapping_add(1);
         self.kind = e.kind();
-        e
+        Err(e)
     }
 }
 
@@ -151,7 +153,7 @@ impl<W: Write> TermLike for Term<W> {
     fn flush(&mut self) -> io::Result<()> {
         match self.writer.flush() {
             Ok(()) => Ok(()),
-            Err(e) => Err(self.counted(e)),
+            Err(e) => self.fail(e),
         }
     }
 }

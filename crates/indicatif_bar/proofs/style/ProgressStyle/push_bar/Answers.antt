@@ -10,8 +10,8 @@ use Rattle.indicatif_bar.specs.Inside.Steps.{placeholder_layout}
 use Rattle.indicatif_bar.specs.Inside.Texts.{texts_in}
 use Rattle.indicatif_bar.proofs.style.ProgressStyle.push_bar.Goals as goal
 
-pub returns-then-some-clause-text : goal.returns-then-some-clause-text
-returns-then-some-clause-text g c =
+pub returns-then-some : goal.returns-then-some
+returns-then-some g c =
     let texts = texts_in c.self.inside.clusters in
     let colours = c.self.inside.colours in
     let numbers = unwrap_or (placeholder_layout c.args.placeholder.now).alternative [] in
@@ -21,7 +21,7 @@ returns-then-some-clause-text g c =
     let last : c.at.result.now ≡ cluster texts (length texts - 1) = c.at.ensures ∙ ap (λ n. cluster texts (n - 1)) c.len.ensures in
     let rest = rest_text texts done cells in
     let old = string_bytes c.args.out.now in
-    let pushed : string_bytes c.push_times.new.out ≡ string_bytes c.open_style.new.out ++ rest = c.in_ok-push_times.ensures.text
+    let pushed : string_bytes c.push_times.new.out ≡ string_bytes c.open_style.new.out ++ rest = c.in_ok-push_times.ensures
     ∙ ap (λ t. string_bytes c.open_style.new.out ++ t) (rest_is texts done cells c.in_ok-left.left _ c.in_ok-left.ensures.left last) in
     let closed = grown_three _ _ _ _ (opening_of colours numbers) rest (sequence_of 0) c.in_ok-some.ensures.bytes pushed
     (c.in_ok-push_str.ensures.bytes ∙ ap (λ t. string_bytes c.push_times.new.out ++ t) last_sequence) in
@@ -32,8 +32,8 @@ returns-then-some-clause-text g c =
     ∙ ap (λ f. old ++ bar_text texts colours numbers f c.args.width) c.fraction.ensures.fraction
     ∙ ap (λ (s : BarStyle g.row.K.Denot). old ++ bar_text s.clusters s.colours numbers (bar_fraction c.args.state.now c.args.bar) c.args.width) c.self.view_is
 
-pub returns-clause-text : goal.returns-clause-text
-returns-clause-text g c =
+pub returns : goal.returns
+returns g c =
     let texts = texts_in c.self.inside.clusters in
     let colours = c.self.inside.colours in
     let numbers = unwrap_or (placeholder_layout c.args.placeholder.now).alternative [] in
@@ -43,7 +43,7 @@ returns-clause-text g c =
     let last : c.at.result.now ≡ cluster texts (length texts - 1) = c.at.ensures ∙ ap (λ n. cluster texts (n - 1)) c.len.ensures in
     let rest = rest_text texts done cells in
     let old = string_bytes c.args.out.now in
-    let pushed : string_bytes c.push_times.new.out ≡ string_bytes c.open_style.new.out ++ rest = c.in_ok-push_times.ensures.text
+    let pushed : string_bytes c.push_times.new.out ≡ string_bytes c.open_style.new.out ++ rest = c.in_ok-push_times.ensures
     ∙ ap (λ t. string_bytes c.open_style.new.out ++ t) (rest_is texts done cells c.in_ok-left.left _ c.in_ok-left.ensures.left last) in
     let style = styled_alone colours numbers rest (sym c.in_ok-some.ensures.some ∙ c.if-some.false) in
     grown _ _ _ (begun_text texts done cells) (opening_of colours numbers ++ rest) c.in_ok-left.ensures.text

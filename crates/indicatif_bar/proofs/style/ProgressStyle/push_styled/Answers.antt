@@ -8,8 +8,8 @@ use Rattle.indicatif_bar.specs.Inside.Steps.{source_text, placeholder_layout}
 use Rattle.indicatif_bar.proofs.LayoutLemmas.{styled_opened, grown_three}
 use Rattle.indicatif_bar.proofs.style.ProgressStyle.push_styled.Goals as goal
 
-pub returns-then-some-clause-text : goal.returns-then-some-clause-text
-returns-then-some-clause-text g c =
+pub returns-then-some : goal.returns-then-some
+returns-then-some g c =
     let placeholder = c.args.placeholder.now in
     let old = string_bytes c.args.out.now in
     let numbers = unwrap_or (placeholder_layout placeholder).style [] in
@@ -18,7 +18,7 @@ returns-then-some-clause-text g c =
     (source_text g.K.Tracks.means c.args.self.now c.args.state.now c.args.now (placeholder_layout placeholder) placeholder.source) width placeholder.align
     placeholder.truncate) placeholder.width
     (source_text g.K.Tracks.means c.args.self.now c.args.state.now c.args.now (placeholder_layout placeholder) placeholder.source) in
-    grown_three _ _ _ _ (opening_of colours numbers) text (sequence_of 0) c.in_ok-some.ensures.bytes c.in_ok-push_sized.ensures.text
+    grown_three _ _ _ _ (opening_of colours numbers) text (sequence_of 0) c.in_ok-some.ensures.bytes c.in_ok-push_sized.ensures
     (c.in_ok-push_str.ensures.bytes ∙ ap (λ t. string_bytes c.push_sized.new.out ++ t) last_sequence)
     ∙ ap (λ t. old ++ t) (sym (styled_opened colours numbers text (sym c.in_ok-some.ensures.some ∙ c.if-some.true)))
     ∙ ap (λ style. old ++ styled style.colours (unwrap_or (placeholder_layout placeholder).style []) text) c.self.view_is

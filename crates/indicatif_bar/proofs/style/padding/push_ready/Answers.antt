@@ -21,8 +21,8 @@ pub range-requires-clause-end_boundary : goal.range-requires-clause-end_boundary
 range-requires-clause-end_boundary c =
     front_ends c.args.text.now c.args.run.now 64 c.runs.left (omega (arith, c.runs-test.false)) c.requires.run c.utf8.text
 
-pub returns-clause-text : goal.returns-clause-text
-returns-clause-text c =
+pub returns : goal.returns
+returns c =
     let all : c.args.count - c.runs.left + c.runs.left ≡ c.args.count = omega (arith, c.runs.invariant.within) in
     let last = front_is c.args.text.now c.args.run.now 64 c.runs.left (omega (arith, c.runs-test.false)) c.requires.run in
     c.in_ok-push_str-2.ensures.bytes

@@ -68,7 +68,7 @@ times-preserved c = record {
   within = omega (arith, c.min-more.ensures, c.times.invariant.within);
 }
 
-pub returns-clause-text : goal.returns-clause-text
-returns-clause-text c =
+pub returns : goal.returns
+returns c =
     let all : c.times.done ≡ c.args.count = omega (arith, c.times-test.false, c.times.invariant.within) in
     c.times.invariant.texts ∙ ap (λ n. string_bytes c.args.out.now ++ times n c.args.text.now) all
