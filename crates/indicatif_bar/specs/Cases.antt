@@ -1,7 +1,7 @@
 -- Worked cases of a lone bar: the answers of calls at the moment 0, and the rows that stand afterwards. The terminal never fails unless a case says so.
 use Rattle.indicatif_text.specs.Template.{KeyText, plain_layout}
 use Rattle.indicatif_bar.specs.Styles.{BarStyle}
-use Rattle.std.specs.Prelude.{◌≡◌, ℕ, true, false, List, [], ◌∷◌, ◌++◌, length, map, replicate, take, Option, Some, None, flat_map, codes, Result, Ok, Err}
+use Rattle.std.specs.Prelude.{◌≡◌, ℕ, true, false, List, [], ◌∷◌, ◌++◌, map, replicate, take, Option, Some, None, flat_map, codes, Result, Ok, Err}
 use Rattle.std.specs.declared.io.ErrorKind.{ErrorKind}
 use Rattle.indicatif_text.specs.declared.refusal.Refusal.{Refusal}
 use Rattle.indicatif_text.specs.declared.refusal.Refusal.TheVariants.{NoColumns, TooWide, ElapsedBeyondClock, Terminal as Failure}

@@ -1,4 +1,4 @@
-use Rattle.std.proofs.Common.{◌≡◌, ◌^◌, ◌<◌, ◌≤◌, ◌∙◌, ap, arith}
+use Rattle.std.proofs.Common.{arith}
 use Rattle.std.proofs.Math.Nat.{one-le-pow}
 use Rattle.indicatif_bar.proofs.KeyTextLemmas.{unit_fits}
 use Rattle.indicatif_bar.proofs.style.keys.power_of_ten.Goals as goal

@@ -1,4 +1,4 @@
-use Rattle.std.proofs.Common.{◌≡◌, ◌+◌, ◌*◌, ◌/◌, ◌%◌, ◌^◌, ◌<◌, ◌≤◌, ◌++◌, ◌∷◌, [], min, drop, append_assoc, sym, ◌∙◌, ap, subst, string_bytes, OnOk, decimal, arith}
+use Rattle.std.proofs.Common.{◌≡◌, ◌+◌, ◌/◌, ◌%◌, ◌^◌, ◌<◌, ◌≤◌, ◌++◌, ◌∷◌, [], min, drop, append_assoc, sym, ◌∙◌, ap, subst, string_bytes, OnOk, decimal, arith}
 use Rattle.std.proofs.lemmas.Nat.{mod_below}
 use Rattle.indicatif_bar.specs.Keys.{percent_text}
 use Rattle.indicatif_bar.proofs.KeyTextLemmas.{percent_whole, percent_decimals}
