@@ -46,6 +46,7 @@ pub struct InkedText<'a> {
 
 /// The next cell of what is left of a text, which goes past it, and past the sequences in front of it, which are open then: a space without
 /// colours where the text ends.
+#[inline(always)]
 pub fn next_cell(reading: &mut InkedText<'_>) -> char
     ensures first { (n : ℕ) → padded (suc n) (cells reading.old) ≡ in_ink (ink_of reading.new.ink) result ∷ padded n (cells reading.new) }
     ensures rest { length (cells reading.new) ≡ length (cells reading.old) - 1 }

@@ -161,6 +161,7 @@ fn skip(rest: &mut Rest<'_>)
 }
 
 /// Goes right over columns of the row that stay; none is no call.
+#[inline(always)]
 pub fn go_right<T: TermLike>(term: &mut T, columns: usize) -> Sent
     ensures { Sends (move_bytes RIGHT columns) (T.view term.old) (T.view term.new) result }
 {

@@ -237,6 +237,7 @@ pub fn go_up<T: TermLike>(term: &mut T, rows: usize) -> Sent
 }
 
 /// Goes down `rows` rows by a call of the terminal; none is no call.
+#[inline(always)]
 pub fn go_down<T: TermLike>(term: &mut T, rows: usize) -> Sent
     ensures { Sends (move_bytes DOWN rows) (T.view term.old) (T.view term.new) result }
 {

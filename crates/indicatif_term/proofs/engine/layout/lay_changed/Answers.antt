@@ -31,8 +31,9 @@ returns c =
       turned = c.in_ok-turn.ensures.turned;
     } in
     let pushed = c.in_ok-push.ensures.items in
+    let m = record l { changed = c.push.new.self; leaves_open = l.leaves_open || c.is_left_open.result } in
     record {
-      laid = kept_on w c.args.window.rows c.args.own.bar n.turn.rows on own x l (record l { changed = c.push.new.self; leaves_open = l.leaves_open || c.is_left_open.result }) c.go_on.new.laid c.requires.summed b sized.rows_are same sized.narrow
+      laid = kept_on w c.args.window.rows c.args.own.bar n.turn.rows on own x l m c.go_on.new.laid c.requires.summed b sized.rows_are same sized.narrow
           refl refl refl refl c.go_on.ensures (λ fit. (
             subst (AreFitting w on (l.at + 1)) (sym pushed) (new_fits w on l.at x own l.changed.items b.within b.line_is fit n is),
             ap (λ ns. take (l.at + 1) (renewed (texts on) ns)) pushed ∙ new_texts w on l.at x own l.changed.items b.within b.line_is fit n is,

@@ -34,5 +34,6 @@ returns g c =
     let text = c.in-Lines.text.now in
     let p = parted lines_steps now (lines text) _ c.loop-line.yielded c.loop-line.line-iterator (YieldsList-from_lines text (ap (λ i. i.rest.now) c.into_iter-line-iterator.ensures.into_iter_gives
     ∙ c.lines-line-items.ensures.rest)).runs c.loop-line.yielded_by in
-    let all : logged_text c.args.logged ≡ map now c.loop-line.yielded = ap logged_text c.in-Lines.is ∙ all_came lines_steps now (lines text) c.loop-line.yielded c.loop-line.line-iterator c.next.new.self p c.in-None.ensures.steps in
+    let all : logged_text c.args.logged ≡ map now c.loop-line.yielded = ap logged_text c.in-Lines.is
+    ∙ all_came lines_steps now (lines text) c.loop-line.yielded c.loop-line.line-iterator c.next.new.self p c.in-None.ensures.steps in
     rw all c.loop-line.invariant
