@@ -167,6 +167,7 @@ fn own_count(line: &StandingLine, parts: Alike<'_>) -> Option<usize>
 }
 
 /// How many visible characters a text has, if each takes one column, in colours that are read right.
+#[inline(always)]
 pub fn inked_count(text: &str) -> Option<usize>
     ensures count { IfSome result (λ n. n ≡ min (length (visible (chars text.now))) (2 ^ 64 - 1)) }
     ensures read { IfSome result (λ n. IsRead (chars text.now)) }

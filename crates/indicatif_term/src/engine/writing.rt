@@ -167,6 +167,7 @@ fn put<T: TermLike>(term: &mut T, ended: &mut bool, line: &str) -> Sent
 }
 
 /// Writes a text by a call of the terminal.
+#[inline(always)]
 pub fn put_str<T: TermLike>(term: &mut T, text: &str) -> Sent
     ensures { Sends text.now (T.view term.old) (T.view term.new) result }
 {
