@@ -5,6 +5,7 @@ ghost use Rattle.indicatif_term.specs.Lines.{line_text};
 ghost use Rattle.indicatif_bar.specs.Bars.{lines_of_bar, lines_take_memory, is_bar_line};
 
 use crate::spare::SpareLines;
+use crate::stage::relay;
 use crate::state::BarState;
 use crate::tracker::Tracks;
 use indicatif_term::target::LineType;
@@ -43,10 +44,9 @@ impl<K: Tracks> BarState<K> {
         ensures kind { IfOk result (λ v. IsTrue (list_all is_bar_line v.items)) }
         ensures memory { IfErr result (λ e. (e ≡ Refusal.Memory) × IsTrue (lines_take_memory self.now)) }
     {
-        if self.state().is_hidden() {
-            return Ok(Vec::new(self.alloc()));
-        }
-        self.style().lines_in(spare, self.state(), now, width)
+        let mut lines = Vec::new(self.alloc());
+        relay(self, &mut lines, spare, width, now)?;
+        Ok(lines)
     }
 
     /// The allocator of the bar's texts.

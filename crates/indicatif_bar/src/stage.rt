@@ -1,12 +1,18 @@
 //! What bars draw on, a lone one and those of a board. It is public for boards, whose crate is another: programs use `LoneBar` and `Board`,
 //! which each have a private stage.
-ghost use Rattle.std.specs.Prelude.{◌≡◌, ◌⊎◌, None, Err, Option, option_map, IsTrue, ◌↔◌, IfOk, IfErr, IfSome, OnErr, false};
+ghost use Rattle.std.specs.Prelude.{◌≡◌, ◌⊎◌, None, Err, Option, option_map, map, IsTrue, ◌↔◌, IfOk, IfErr, IfSome, OnErr, false};
+ghost use Rattle.std.specs.List.{list_all};
+ghost use Rattle.indicatif_term.specs.Lines.{line_text};
+ghost use Rattle.indicatif_bar.specs.Bars.{lines_of_bar, lines_take_memory, is_bar_line};
 ghost use Rattle.indicatif_term.specs.Limiters.{Limiter};
 ghost use Rattle.indicatif_term.specs.Lists.{Lists, opening_lists};
 ghost use Rattle.indicatif_term.specs.Target.{term_of, limiter_of};
 
-use indicatif_term::target::{Engine, ProgressDrawTarget, RateLimiter, Resize, TermLike};
-use indicatif_text::columns::Refusal;
+use crate::spare::SpareLines;
+use crate::state::BarState;
+use crate::tracker::Tracks;
+use indicatif_term::target::{Engine, LineType, ProgressDrawTarget, RateLimiter, Resize, TermLike};
+use indicatif_text::columns::{Moment, Refusal};
 use std::alloc::Global;
 use std::mem::replace;
 
@@ -19,6 +25,30 @@ pub enum Writing<'a> {
     TextAndFrame(&'a str),
     /// Nothing, in place of the old rows.
     NoFrame,
+}
+
+/// Lays a bar's lines out in the place of those that are stored, whose memory becomes the next spare one.
+///
+/// Refused: as `BarState::lines_in`; then the stored lines are unchanged.
+pub fn relay<K: Tracks>(
+    bar: &BarState<K>,
+    stored: &mut Vec<LineType>,
+    spare: &mut SpareLines,
+    width: u16,
+    now: Moment,
+) -> Result<(), Refusal>
+    ensures lines { IfOk result (λ _. map line_text stored.new.items ≡ lines_of_bar K.means bar.now now width) }
+    ensures kind { IfOk result (λ _. IsTrue (list_all is_bar_line stored.new.items)) }
+    ensures memory { IfErr result (λ e. (e ≡ Refusal.Memory) × IsTrue (lines_take_memory bar.now)) }
+    ensures unchanged { OnErr result (stored.new ≡ stored.old) }
+{
+    if bar.state().is_hidden() {
+        spare.store(replace(stored, Vec::new(bar.alloc())));
+        return Ok(());
+    }
+    let lines = bar.style().lines_in(spare, bar.state(), now, width)?;
+    spare.store(replace(stored, lines));
+    Ok(())
 }
 
 /// A target to draw on: its terminal, with what stands there, and the limiter of unforced draws.

@@ -1,9 +1,7 @@
 //! The bars of a board with the lines that they show, and how these are laid out.
 ghost use Rattle.std.specs.Prelude.{◌≡◌, ◌<◌, ◌≤◌, ◌^◌, MatchResult, ℕ, Option, Some, None, Ok, false, IsTrue, map, IfSome, IfOk, IfErr, OnErr};
 ghost use Rattle.std.specs.VecDeque.{deque_len};
-ghost use Rattle.indicatif_term.specs.Lines.{line_text};
 ghost use Rattle.indicatif_term.specs.Limiters.{Limiter};
-ghost use Rattle.indicatif_bar.specs.Bars.{lines_of_bar, lines_take_memory};
 ghost use Rattle.indicatif_bar.specs.Commands.{BarRecord};
 ghost use Rattle.indicatif_bar.specs.Machines.{Target};
 ghost use Rattle.indicatif_board.specs.Boards.{BoardState, Location, opening_board, index_of, taken_in, ownerless_on};
@@ -13,13 +11,13 @@ ghost use Rattle.indicatif_board.specs.Inside.ShownBars.{HasPlace, named_laid_ou
 
 use crate::members::{Seated, queue_at, take_at};
 use crate::slots::MultiState;
+use indicatif_bar::stage::relay;
 use indicatif_bar::state::{BarState, SpareLines};
 use indicatif_bar::style::Tracks;
-use indicatif_term::target::{LineType, MultiProgressAlignment, Segment};
+use indicatif_term::target::{MultiProgressAlignment, Segment};
 use indicatif_text::columns::{Moment, Refusal};
 use std::alloc::Global;
 use std::collections::VecDeque;
-use std::mem::replace;
 
 /// Bars in their order, and their last laid-out lines.
 pub struct ShownBars<K> {
@@ -181,21 +179,4 @@ impl<K: Tracks> ShownBars<K> {
             None => Ok(()),
         }
     }
-}
-
-/// Replaces a bar's stored lines, whose memory becomes the next spare one.
-fn relay<K: Tracks>(
-    bar: &BarState<K>,
-    stored: &mut Vec<LineType>,
-    spare: &mut SpareLines,
-    width: u16,
-    now: Moment,
-) -> Result<(), Refusal>
-    ensures lines { IfOk result (λ _. map line_text stored.new.items ≡ lines_of_bar K.means bar.now now width) }
-    ensures memory { IfErr result (λ e. (e ≡ Refusal.Memory) × IsTrue (lines_take_memory bar.now)) }
-    ensures unchanged { OnErr result (stored.new ≡ stored.old) }
-{
-    let lines = bar.lines_in(spare, now, width)?;
-    spare.store(replace(stored, lines));
-    Ok(())
 }

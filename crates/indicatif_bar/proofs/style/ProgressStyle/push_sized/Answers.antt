@@ -16,7 +16,8 @@ returns-in_default g c =
     let text = source_text g.K.Tracks.means c.args.self.now c.args.state.now c.args.now (placeholder_layout placeholder) placeholder.source in
     let (none, same) : (placeholder.width ≡ None) × (string_bytes c.set_aside-before.new.out ≡ old) = subst (λ o. MatchOption o
     ((placeholder.width ≡ None) × (string_bytes c.set_aside-before.new.out ≡ old))
-    (λ a. (placeholder.width ≡ Some a.width) × (string_bytes a.text ≡ old) × (string_bytes c.set_aside-before.new.out ≡ []))) (none_of c.set_aside-before.result c.in_default.not-Some) c.set_aside-before.ensures in
+    (λ a. (placeholder.width ≡ Some a.width) × (string_bytes a.text ≡ old) × (string_bytes c.set_aside-before.new.out ≡ [])))
+    (none_of c.set_aside-before.result c.in_default.not-Some) c.set_aside-before.ensures in
     c.in_ok-push_told.ensures ∙ ap (λ t. t ++ text) same
     ∙ ap (λ w. old ++ option_map_or (λ width. padded text width placeholder.align placeholder.truncate) w text) (sym none)
 
