@@ -21,7 +21,7 @@
 //!
 //! - `layout`: a frame beside the lines that stand, in one pass (`Laid`): which of these stay, which new ones come in their place, which are
 //!   written below; and how many rows all take (`Plan`).
-//! - `logged`: the text that is logged above them (`Logged`).
+//! - `logged`: a text that is logged above a frame (`Logged`), and its rows.
 //! - `beside`: the lines that stand there (`Beside`), blank ones above a frame, and the room that is left for it (`Room`);
 //!   new lines (`NewLine`) in the place of those that stand.
 //! - `comparing`: what becomes of one line where another text comes in its place (`Turn`, `Step`): from the byte on where both part, how many

@@ -1,5 +1,5 @@
 //! A text that is logged above the lines.
-ghost use Rattle.std.specs.Prelude.{IsTrue, Err, ◌≡◌, ◌≢◌};
+ghost use Rattle.std.specs.Prelude.{Err, ◌≡◌, ◌≢◌};
 ghost use Rattle.std.specs.Str.Lines.{lines};
 ghost use Rattle.indicatif_term.specs.Lines.{logged_lines};
 ghost use Rattle.indicatif_term.specs.Inside.Plans.{HasPlainRow, MeasuredText, logged_text};
