@@ -74,21 +74,20 @@ impl<W: Write> Term<W> {
     fn send(&mut self, bytes: &[u8]) -> io::Result<()>
         ensures writes { Writes bytes.now (view_behind W.contents self.old) (view_behind W.contents self.new) result }
     {
-        if let Err(e) = write_whole(&mut self.writer, bytes) {
-            return self.fail(e);
+        match write_whole(&mut self.writer, bytes) {
+            Ok(()) => Ok(()),
+            Err(e) => Err(self.counted(e)),
         }
-        Ok(())
     }
 
-    /// Fails with this error, counts it, and keeps its kind.
-    #[inline(never)]
-    fn fail(&mut self, e: io::Error) -> io::Result<()>
-        ensures same { result ≡ Err e }
+    /// Passes on an error, counts it, and keeps its kind.
+    fn counted(&mut self, e: io::Error) -> io::Error
+        ensures same { result ≡ e }
         ensures counts { self.new ≡ counted_as (Err e) self.old }
     {
         self.faults = self.faults.wrapping_add(1);
         self.kind = e.kind();
-        Err(e)
+        e
     }
 }
 
@@ -153,7 +152,7 @@ impl<W: Write> TermLike for Term<W> {
     fn flush(&mut self) -> io::Result<()> {
         match self.writer.flush() {
             Ok(()) => Ok(()),
-            Err(e) => self.fail(e),
+            Err(e) => Err(self.counted(e)),
         }
     }
 }

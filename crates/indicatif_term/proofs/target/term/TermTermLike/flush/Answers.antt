@@ -1,4 +1,4 @@
-use Rattle.std.proofs.Common.{[], Ok, Err, refl}
+use Rattle.std.proofs.Common.{[], Ok, Err, refl, ap}
 use Rattle.std.specs.declared.io.Error.{Error}
 use Rattle.indicatif_term.specs.Term.{WriterTerm}
 use Rattle.indicatif_term.proofs.WriterLemmas.{sent, kept_all}
@@ -14,5 +14,5 @@ pub returns-in-Err : goal.returns-in-Err
 returns-in-Err g c =
     let t = c.self.inside in
     let before : WriterTerm g.row.W.Denot = record { writer = t.writer; columns = t.columns; rows = t.rows; faults = t.faults; kind = t.kind } in
-    sent g.W.Write.contents before c.flush.new.self [] c.args.self.now c.fail.new.self
-    (Err c.in-Err.e) c.fail.result c.self.view_is c.fail.ensures.counts (kept_all _ _ (Err c.in-Err.e) c.flush.ensures.bytes) c.fail.ensures.same
+    sent g.W.Write.contents before c.flush.new.self [] c.args.self.now c.counted.new.self
+    (Err c.in-Err.e) (Err c.counted.result) c.self.view_is c.counted.ensures.counts (kept_all _ _ (Err c.in-Err.e) c.flush.ensures.bytes) (ap Err c.counted.ensures.same)
