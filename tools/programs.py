@@ -323,7 +323,7 @@ class Pane:
         return [row.rstrip(" ") for row in self.tmux.run("capture-pane", "-p", *words, "-t", "shown").stdout.split("\n")]
 
     def wait(self, since, moment):
-        """Until so many seconds behind the moment, or until the prompt is back."""
+        """Until a number of seconds behind the moment, or until the prompt is back."""
         if moment != "end":
             time.sleep(max(0, since + float(moment) - time.monotonic()))
             return

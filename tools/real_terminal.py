@@ -7,13 +7,13 @@ usage: tools/real_terminal.py [FILE ..]
        tools/real_terminal.py model SEED COUNT > FILE   (then the program `rows` with that file's name)
        tools/real_terminal.py widths
   FILE   files of crates/rows/data, by their names; those of FILES below if none is named
-  lists  so many random lists of calls: what the engine writes, what one writes whose cursor only moves, and what one writes that
+  lists  a number of random lists of calls: what the engine writes, what one writes whose cursor only moves, and what one writes that
          writes whole frames (`fuzz whole_frames`) is played to three panes. All rows, with those that scrolled away and with
          colours, and the cursor have to be the same
   model  a model of `bars run`, written from the rules alone: lists of rows, no bytes and no cursor. It makes random scripts with sizes between
          the commands, and prints them as rows that crates/rows plays, with the pictures that it has at the end. A line that it refuses is
          left out
-  sizes  so many random scripts of the model, with sizes at which tmux has no rows to join: what a board writes is played to a
+  sizes  a number of random scripts of the model, with sizes at which tmux has no rows to join: what a board writes is played to a
          pane that gets these sizes between the calls. All rows have to be the model's
   widths what the boards of any_width.txt write is played to panes of each of their widths. Rows above have to stand, and each row of a
          board has to be clipped before the pane's last column
@@ -367,7 +367,7 @@ def glyphs(text):
 
 
 def cut(columns, found):
-    """Glyphs in rows of at most so many columns; one row where there is none."""
+    """Glyphs in rows of at most this number of columns; one row where there is none."""
     rows, taken = [[]], 0
     for glyph in found:
         if taken + glyph[1] > columns:
@@ -426,7 +426,7 @@ class Board:
         return dropped.index(False) if False in dropped else len(dropped)
 
     def show(self, taken, text):
-        """The lines that fit, from the front, in the place of so many rows and below so many of a text."""
+        """The lines that fit, from the front, in the place of a number of rows and below a number of those of a text."""
         room, shown = self.height, []
         for bar, line in [(bar, line) for bar in self.order for line in bar.lines]:
             rows = cut(self.columns, glyphs(line))
@@ -613,7 +613,7 @@ def scripts_of_widths():
 
 
 def clipped(row, room):
-    """The longest front of a row that has room in so many columns. A wide character may end on the next one: tmux keeps it where only its
+    """The longest front of a row that has room in a number of columns. A wide character may end on the next one: tmux keeps it where only its
     second cell is emptied, as DECISIONS says."""
     out, wide = "", 0
     for char in row:

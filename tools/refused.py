@@ -9,7 +9,7 @@ usage: tools/refused.py [threads | memory [SCRIPT ..] | gate NUMBER]   (all of b
   A small library in C stands between the program and the C library's `malloc`. It is made by `cc`, or else by the kit's clang.
 - Threads: `examples pieces` has a thousand pieces for as many threads as there are processors, and then a hundred that wait for one another,
   each in a thread of its own. It runs with room for all of these threads, for those of the thousand alone, and for none. (The stack of a
-  thread is made as large as a gigabyte, and the room of the program as small as so many stacks.) Where one is refused, the answer has to be
+  thread is made as large as a gigabyte, and the room of the program as small as a number of stacks.) Where one is refused, the answer has to be
   `Memory`, with the bar where it was, and no piece may wait for ever.
 
 With `gate` (by .ci/run) the number, a sum of the sources, chooses the script that comes first, and after three minutes no further run is begun. The programs are those
@@ -125,7 +125,7 @@ class Memory:
 
 
 def memory(scripts, seconds):
-    """Refuses memory to these scripts in turn, and begins no run behind so many seconds; what is otherwise."""
+    """Refuses memory to these scripts in turn, and begins no run behind a number of seconds; what is otherwise."""
     with tempfile.TemporaryDirectory() as folder:
         made = library(folder)
         if made is None:
@@ -151,14 +151,14 @@ STACK, MANY, WAITING, ITEMS = 1 << 30, 1000, 100, 3
 
 
 def limited(threads):
-    """Sets the limits of a program that has room for so many threads beside the first one, or for any number."""
+    """Sets the limits of a program that has room for a number of threads beside the first one, or for any number."""
     if threads is not None:
         resource.setrlimit(resource.RLIMIT_STACK, (STACK, resource.getrlimit(resource.RLIMIT_STACK)[1]))
         resource.setrlimit(resource.RLIMIT_AS, ((threads + 1) * STACK, (threads + 1) * STACK))
 
 
 def said(threads):
-    """What the program says with room for so many threads."""
+    """What the program says with room for a number of threads."""
     words = [built("examples"), "pieces"]
     try:
         run = subprocess.run(words, capture_output=True, text=True, timeout=PATIENCE, preexec_fn=lambda: limited(threads))
