@@ -1,4 +1,4 @@
-use Rattle.std.proofs.Common.{◌≡◌, ◌++◌, [], ◌∷◌, sym, subst, map, string_bytes, false}
+use Rattle.std.proofs.Common.{◌≡◌, ◌++◌, sym, subst, map, string_bytes, false}
 use Rattle.std.specs.Prelude.{OnOk}
 use Rattle.std.specs.List.{list_any}
 use Rattle.indicatif_term.specs.Lines.{line_text}
