@@ -1,5 +1,5 @@
 -- What the texts of a line are made of: a repeated text, blanks, the parts of a bar.
-use Rattle.std.proofs.Common.{◌≡◌, ℕ, zero, suc, ◌-◌, ◌*◌, ◌/◌, ◌%◌, Bool, ◌++◌, ◌+◌, drop, List, [], ◌∷◌, append-nil, append_assoc, refl, sym, ◌∙◌, ap, true, false, if◌then◌else◌, length, length-append, take, arith, map, subst, ◌≤◌}
+use Rattle.std.proofs.Common.{◌≡◌, ℕ, zero, suc, ◌-◌, ◌*◌, ◌/◌, ◌%◌, Bool, ◌++◌, ◌+◌, drop, List, [], ◌∷◌, append_assoc, refl, sym, ◌∙◌, ap, true, false, if◌then◌else◌, length, length-append, take, arith, map, subst, ◌≤◌}
 use Rattle.std.specs.List.{concat, slice_range}
 use Rattle.std.specs.Str.{IsUtf8, IsCharBoundary}
 use Rattle.std.specs.String.Boundary.{IsSplitPoint}
@@ -24,12 +24,6 @@ unfolding digits
 last_sequence = refl
 
 -- ---- a repeated text
-
-pub times_more : (n : ℕ) (text : List ℕ) → times (n + 1) text ≡ times n text ++ text
-times_more zero text = append-nil text
-times_more (suc n) text =
-    let next : suc n + 1 ≡ suc (n + 1) = omega arith in
-    ap (λ k. times k text) next ∙ ap (λ t. text ++ t) (times_more n text) ∙ sym (append_assoc text (times n text) text)
 
 pub times_sum : (a b : ℕ) (text : List ℕ) → times (a + b) text ≡ times a text ++ times b text
 times_sum zero b text = let none : zero + b ≡ b = omega arith in ap (λ k. times k text) none

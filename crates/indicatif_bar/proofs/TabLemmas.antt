@@ -1,11 +1,9 @@
 -- Texts with their tabs expanded, part by part; none has a tab, and one without tabs stays.
-use Rattle.std.proofs.Common.{◌≡◌, ℕ, zero, suc, ◌<◌, Bool, true, false, ◌||◌, List, [], ◌∷◌, ◌++◌, length, replicate, refl, sym, ◌∙◌, ap, arith, append_assoc, append-nil, eqb, if◌then◌else◌, inl, inr}
-use Rattle.std.specs.Prelude.{flat_map, nat_lt, ◌==◌}
+use Rattle.std.proofs.Common.{◌≡◌, ℕ, zero, suc, ◌<◌, Bool, true, false, ◌||◌, List, [], ◌∷◌, ◌++◌, length, replicate, refl, sym, ◌∙◌, ap, arith, append_assoc, eqb, if◌then◌else◌, inl, inr}
+use Rattle.std.specs.Prelude.{flat_map, ◌==◌}
 use Rattle.std.specs.List.{slice_split, onto_first}
 use Rattle.std.proofs.lemmas.List.Splits.{length-slice_split}
-use Rattle.std.proofs.lemmas.List.Concat.{flat_map-append}
 use Rattle.std.proofs.lemmas.Bool.{cases_Bool}
-use Rattle.std.proofs.lemmas.Bool.Decides.{nat_tests}
 use Rattle.std.specs.Result.{OnErr}
 use Rattle.std.proofs.Common.{Result, Ok, Err}
 use Rattle.indicatif_bar.specs.Tabs.{expanded, is_some_text, has_tab, TabsAreGone, OthersStay}
@@ -33,15 +31,6 @@ joined-split w (b ∷ text) = elim (cases_Bool (eqb b 0x09)) [
   | inl tab ↦ rw tab (joined_some w (slice_split (λ b. eqb b 0x09) text) (some_parts text) ∙ ap (λ x. replicate w 0x20 ++ x) (joined-split w text))
   | inr other ↦ rw other (joined-onto w b (slice_split (λ b. eqb b 0x09) text) (some_parts text) ∙ ap (λ x. b ∷ x) (joined-split w text))
 ]
-
--- one more part
-pub joined-push : (w : ℕ) (parts : List (List ℕ)) (part : List ℕ) (started : Bool) → started ≡ nat_lt 0 (length parts) →
-    joined w (parts ++ part ∷ []) ≡ joined w parts ++ ((if started then replicate w 0x20 else []) ++ part)
-joined-push w [] part started e = rw e (append-nil part)
-joined-push w (first ∷ parts) part started e =
-    let t : started ≡ true = e ∙ grind (arith, nat_tests) in
-    rw t (ap (λ x. first ++ x) (flat_map-append (λ p. replicate w 0x20 ++ p) parts (part ∷ []) ∙ ap (λ x. flat_map (λ p. replicate w 0x20 ++ p) parts ++ x) (append-nil (replicate w 0x20 ++ part)))
-    ∙ sym (append_assoc first (flat_map (λ p. replicate w 0x20 ++ p) parts) (replicate w 0x20 ++ part)))
 
 -- ---- no tab is left, and other texts stay
 
