@@ -179,8 +179,8 @@ def chosen():
     return name, edits[:MOST], f"turn {turn} of {len(found)}"
 
 
-def function_of(before):
-    """The function that a text ends in: with its type, as a check names it, then alone. None where it ends in no function."""
+def function_of(before, module):
+    """The function that a module's text ends in: with its type or its module, as a check names it, then alone. None where it ends in no function."""
     name = re.findall(r"^\s*(?:pub(?:\(crate\))? )?(?:unsafe )?fn (\w+)", before, re.M)[-1:]
     block = re.findall(r"^(?:impl\b[^{]*|(?:pub )?trait \w+|\}$)", before, re.M)[-1:]
     head = re.sub(r"->", "", block[0]) if block else ""
@@ -188,8 +188,8 @@ def function_of(before):
         head = re.sub(r"<[^<>]*>", "", head)
     found = re.match(r"(?:impl(?:\W+((?:\w+::)*\w+) for)?|(?:pub )?trait)\W+(?:\w+::)*(\w+)", " ".join(head.split()))
     # (a trait's call of a type stands under both names: `TermTermLike::flush`)
-    owner = found and found[2] + (found[1] or "").rpartition("::")[2]
-    return ([f"{owner}::{name[0]}"] if name and owner else []) + name
+    owner = found[2] + (found[1] or "").rpartition("::")[2] if found else module
+    return [f"{owner}::{it}" for it in name] + name
 
 
 def applied(edit, crate):
@@ -199,7 +199,7 @@ def applied(edit, crate):
     for file, old, new in pairs(edit):
         path = crate / file
         text = texts.get(path) or path.read_text(encoding="utf-8")
-        place = place or function_of(text.partition(old)[0])
+        place = place or function_of(text.partition(old)[0], crate.name if path.stem == "lib" else path.stem)
         texts[path] = text.replace(old, new, 1)
     return texts, place
 
