@@ -250,17 +250,18 @@ def tried(edit, crate):
 
 
 def tried_in_turn(name, edits, start):
-    """The faults and the count of some edits of a crate, tried one after another on a copy of its own, as long as there is time."""
-    faults, count = 0, 0
+    """The count of faults of some edits of a crate, tried one after another on a copy of its own, as long as there is time; and those tried."""
+    faults, done = 0, []
     with tempfile.TemporaryDirectory() as room:
         crate = copied(name, pathlib.Path(room))
         for edit in edits:
             if time.monotonic() - start > BOUND:
                 break
             is_fault, said = tried(edit, crate)
-            faults, count = faults + is_fault, count + 1
+            faults += is_fault
+            done.append(edit)
             print(f"{name}/{edit.stem}: {'FAULT: ' if is_fault else ''}{said}", flush=True)
-    return faults, count
+    return faults, done
 
 
 def gate(begun):
@@ -271,8 +272,11 @@ def gate(begun):
     start, jobs = time.monotonic(), int(os.environ.get("RT_JOBS", 2))
     with concurrent.futures.ThreadPoolExecutor(jobs) as pool:
         parts = list(pool.map(lambda at: tried_in_turn(name, edits[at::jobs], start), range(jobs)))
-    faults, count = (sum(column) for column in zip(*parts))
-    print(f"{turn}: {count} wrong bodies of {name} in {time.monotonic() - start:.0f} seconds, {faults} faults")
+    faults, done = sum(part[0] for part in parts), [edit for part in parts for edit in part[1]]
+    print(f"{turn}: {len(done)} wrong bodies of {name} in {time.monotonic() - start:.0f} seconds, {faults} faults")
+    left = [edit.stem for edit in edits[:GROUP] if edit not in done]
+    if left:
+        print(f"no time for {', '.join(left)}: let the turn stand where it is")
     return 1 if faults else 0
 
 

@@ -300,7 +300,7 @@ def looked(steps):
 
 
 def sized_scripts(seed, count):
-    """So many random scripts with a size: how each begins, its parts, and the picture at its end."""
+    """A number of random scripts with a size: how each begins, its parts, and the picture at its end."""
     program, chance, scripts = built("rows"), random.Random(int(seed)), []
     while len(scripts) < int(count):
         first, lines, board = script(chance, is_even=True)

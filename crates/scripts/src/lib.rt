@@ -4,7 +4,8 @@
 //! skipped.
 //!
 //! - `play`: files of rows: which steps a row makes, and which rows agree; each that differs is printed, with its file and its line.
-//! - `row`: the step of a line and its expected result; words, moments, numbers and escapes of a step.
+//! - `row`: the step of a line and its expected result; words, moments and numbers of a step.
+//! - `spelling`: texts with escapes, as a row spells them.
 //! - `got`: the result of a step, or why it has none.
 //! - `commands`: commands of a bar.
 //! - `lone`: calls of a lone bar, and readings of a bar.

@@ -153,7 +153,7 @@ pub fn found<R: Runs>(rt: R, played: Option<Kind>, playing: Playing) -> Result<W
     }
 }
 
-/// Plays a script, and judges it. What the test itself needs is asked for again if it was refused.
+/// Plays a script, and judges it. Memory that the test itself needs is taken again where it was refused.
 fn found_in_script<R: Runs>(rt: R, kind: Kind, playing: Playing) -> Result<Where, Fault> {
     let case = Case::unbroken(playing.size);
     let new = || Play::new(rt.alloc(), kind, case, playing.room);

@@ -16,7 +16,7 @@ fn colour_number(number: u8, parameter: &str) -> u8 {
 }
 
 /// The character that shows this one with colours: one of private use for an ASCII one, a wide one for a wide one.
-fn coloured(number: u8, c: char) -> char {
+fn in_colours(number: u8, c: char) -> char {
     let other = match c {
         ' '..='~' if number > 0 => char::from_u32(0xE000 + 96 * u32::from(number) + c as u32),
         '国' => char::from_u32('国' as u32 + u32::from(number)),
@@ -66,7 +66,7 @@ impl Coloured {
 
     fn take(&mut self, c: char) -> Result<(), Refusal> {
         if self.sequence.is_empty() && c != '\u{1b}' {
-            return Ok(self.fed.push(coloured(self.open, c))?);
+            return Ok(self.fed.push(in_colours(self.open, c))?);
         }
         self.sequence.push(c)?;
         if c.is_ascii_alphabetic() {
