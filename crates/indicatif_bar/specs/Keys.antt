@@ -9,7 +9,7 @@ use Rattle.indicatif_bar.specs.declared.style.keys.CountForm.TheVariants.{Plain,
 use Rattle.indicatif_bar.specs.declared.style.keys.TimeForm.{TimeForm}
 use Rattle.indicatif_bar.specs.declared.style.keys.TimeForm.TheVariants.{Clock, Short}
 use Rattle.indicatif_bar.specs.declared.style.keys.BarKey.{BarKey}
-use Rattle.indicatif_bar.specs.declared.style.keys.BarKey.TheVariants.{Done}
+use Rattle.indicatif_bar.specs.declared.style.keys.BarKey.TheVariants.{PartDone}
 use Rattle.indicatif_bar.specs.declared.style.keys.TextKey.{TextKey}
 use Rattle.indicatif_bar.specs.declared.style.keys.TextKey.TheVariants.{Spinner, Prefix, Message}
 use Rattle.indicatif_bar.specs.declared.style.keys.NumberKey.{NumberKey}
@@ -27,7 +27,7 @@ named name (entry ∷ entries) = if bytes_eq name entry.0 then Some entry.1 else
 -- the keys and their names
 abbrev pub key_names : List (List ℕ × Key)
 key_names =
-    (codes "bar", key.Bar Done) ∷ (codes "wide_bar", key.WideBar Done) ∷ (codes "wide_msg", key.WideText Message)
+    (codes "bar", key.Bar PartDone) ∷ (codes "wide_bar", key.WideBar PartDone) ∷ (codes "wide_msg", key.WideText Message)
     ∷ (codes "spinner", key.Text Spinner) ∷ (codes "prefix", key.Text Prefix) ∷ (codes "msg", key.Text Message)
     ∷ (codes "pos", key.Number (Position Plain)) ∷ (codes "human_pos", key.Number (Position Human)) ∷ (codes "bytes", key.Number (Position Binary))
     ∷ (codes "binary_bytes", key.Number (Position Binary)) ∷ (codes "decimal_bytes", key.Number (Position Decimal))
@@ -48,7 +48,7 @@ key_named name = named name key_names
 
 -- the fraction that a bar shows
 abbrev pub bar_fraction : Progress → BarKey → Fraction
-bar_fraction p Done = fraction p
+bar_fraction p PartDone = fraction p
 
 -- ---- texts
 

@@ -40,7 +40,7 @@ pub enum TimeForm {
 #[derive(Clone, Copy, Drop)]
 pub enum BarKey {
     /// The part of the length that is done.
-    Done,
+    PartDone,
 }
 
 /// A key that shows a text of the bar or of its spinner.
@@ -95,8 +95,8 @@ pub(crate) fn key_named(name: &str) -> Option<Key>
     ensures { result ≡ key_named name.now }
 {
     let key = match name {
-        "bar" => Key::Bar(BarKey::Done),
-        "wide_bar" => Key::WideBar(BarKey::Done),
+        "bar" => Key::Bar(BarKey::PartDone),
+        "wide_bar" => Key::WideBar(BarKey::PartDone),
         "wide_msg" => Key::WideText(TextKey::Message),
         "spinner" => Key::Text(TextKey::Spinner),
         "prefix" => Key::Text(TextKey::Prefix),
@@ -137,7 +137,7 @@ impl BarKey {
         ensures whole { result.num ≤ result.den }
     {
         match self {
-            BarKey::Done => state.fraction(),
+            BarKey::PartDone => state.fraction(),
         }
     }
 }
